@@ -1,0 +1,90 @@
+-- A region of the lent words: the `size` words from `base` on. Laws of a store inside it and of one outside it. Assumes nothing.
+use mathlib.Core.Path.{_≡_, refl, ap, sym, _∙_}
+use mathlib.Core.Bool.{Bool, true, false, _||_, cond}
+use mathlib.Core.List.{List, [], _∷_, _++_}
+use mathlib.Core.Logic.{⊎-elim, _⊎_, inl, inr}
+use Prim.Native.Nat.{ℕ, _+_, _-_, _≤_, _<_}
+use native.Mathlib.Omega.{arith}
+use native.Mathlib.Numerals.{add-one}
+use lib.Dec.{leb, ltb}
+use borrow.Author.Tests.{leb-true, ltb-true, ltb-false}
+use lib.ListN.{length, take, drop, set, getD, length-take, length-drop, length-set, List·getD-eq-default}
+use lib.Seq.{take-set-le, take-set-lt, take-suc-set, drop-set-lt, drop-set-add, getD-take, getD-drop, set-out}
+
+-- how many words the region that starts at `base` has: the one table of sizes
+abbrev pub sizeOf : ℕ → ℕ
+sizeOf base =
+    cond (ltb base 1572864) 65536 (cond (ltb base 2097152) 131072 (cond (ltb base 2621440) 524288 (cond (ltb base 4718592) 1048576 786432)))
+
+unfoldable pub region : ℕ → List ℕ → List ℕ
+region base words = take (sizeOf base) (drop base words)
+
+-- the regions at `b` and `b′` share no word
+abbrev pub apart : ℕ → ℕ → Bool
+apart b b′ = leb (b + sizeOf b) b′ || leb (b′ + sizeOf b′) b
+
+-- a store inside
+pub inside : (b : ℕ) (w : List ℕ) (i v : ℕ) → i < sizeOf b → region b (set w (b + i) v) ≡ set (region b w) i v
+unfolding region
+inside b w i v h = rw (drop-set-add, take-set-lt)
+
+either : (x y : Bool) → (x || y) ≡ true → (x ≡ true) ⊎ (y ≡ true)
+either true y e = inl refl
+either false y e = inr e
+
+-- THE FRAME: a store into another region
+pub frame : (b : ℕ) (w : List ℕ) (b′ i v : ℕ) → apart b b′ ≡ true → i < sizeOf b′ → region b (set w (b′ + i) v) ≡ region b w
+unfolding region
+frame b w b′ i v e h =
+    ⊎-elim (λ k. let k′ : sizeOf b ≤ b′ + i - b = omega (arith, leb-true (b + sizeOf b) b′ k) in
+    let s : b + (b′ + i - b) ≡ b′ + i = omega (arith, leb-true (b + sizeOf b) b′ k) in
+    rw (← s, drop-set-add, take-set-le))
+    (λ k. let k′ : b′ + i < b = omega (arith, leb-true (b′ + sizeOf b′) b k) in rw drop-set-lt)
+    (either _ _ e)
+
+pub read : (b : ℕ) (w : List ℕ) (i : ℕ) → i < sizeOf b → getD w (b + i) 0 ≡ getD (region b w) i 0
+unfolding region
+read b w i h = rw (getD-take, getD-drop)
+
+pub length-region : (b : ℕ) (w : List ℕ) → b + sizeOf b ≤ length w → length (region b w) ≡ sizeOf b
+unfolding region
+length-region b w h = simp (length-take, length-drop) (omega arith)
+
+-- one more word after the first n of a region
+pub push : (b : ℕ) (w : List ℕ) (n v : ℕ) → n < sizeOf b → b + sizeOf b ≤ length w → take (n + 1) (set (region b w) n v) ≡ take n (region b w) ++ (v ∷ [])
+push b w n v h k =
+    let l : n < length (region b w) = omega (arith, length-region b w k) in
+    rw (add-one, take-suc-set)
+
+-- ---- total accessors: a store out of the region does nothing, as `set` does
+
+unfoldable pub stored : ℕ → List ℕ → ℕ → ℕ → List ℕ
+stored b w i v = cond (ltb i (sizeOf b)) (set w (b + i) v) w
+
+by-test : (i n : ℕ) (P : Bool → Type 0) → (i < n → P true) → (n ≤ i → P false) → P (ltb i n)
+by-test i n P p q = go (ltb i n) refl
+  where
+    go : (t : Bool) → ltb i n ≡ t → P t
+    go true e = p (ltb-true i n e)
+    go false e = q (ltb-false i n e)
+
+pub stored-in : (b : ℕ) (w : List ℕ) (i v : ℕ) → region b (stored b w i v) ≡ set (region b w) i v
+unfolding stored region
+stored-in b w i v = by-test i (sizeOf b) (λ (t : Bool). region b (cond t (set w (b + i) v) w) ≡ set (region b w) i v)
+    (λ h. inside b w i v h)
+    (λ h. let k : length (region b w) ≤ i = simp length-take (omega arith) in rw set-out)
+
+pub stored-out : (b : ℕ) (w : List ℕ) (b′ i v : ℕ) → apart b b′ ≡ true → region b (stored b′ w i v) ≡ region b w
+unfolding stored
+stored-out b w b′ i v e = by-test i (sizeOf b′) (λ (t : Bool). region b (cond t (set w (b′ + i) v) w) ≡ region b w)
+    (λ h. frame b w b′ i v e h) (λ h. refl)
+
+pub length-stored : (b : ℕ) (w : List ℕ) (i v : ℕ) → length (stored b w i v) ≡ length w
+unfolding stored
+length-stored b w i v = by-test i (sizeOf b) (λ (t : Bool). length (cond t (set w (b + i) v) w) ≡ length w) (λ h. length-set w (b + i) v) (λ h. refl)
+
+pub read-out : (b : ℕ) (w : List ℕ) (i : ℕ) → sizeOf b ≤ i → 0 ≡ getD (region b w) i 0
+unfolding region
+read-out b w i h = let k : length (region b w) ≤ i = simp length-take (omega arith) in rw List·getD-eq-default
+
+pub ruleset stores = (stored-in, stored-out)

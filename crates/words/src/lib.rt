@@ -1,0 +1,104 @@
+// The lent words: the layout of their regions, and total accessors. Everything else reaches lent words through this crate.
+ghost use mathlib.Core.Path.{_≡_};
+ghost use Prim.Native.Nat.{ℕ, _+_, _<_, _≤_};
+ghost use lib.ListN.{length, getD};
+ghost use Rattle.words.specs.Region.{region, sizeOf, stored};
+
+// How many words a check is lent at least: 128 units of 65,536.
+pub const LENT: usize = 8388608;
+
+// ---- regions of 65,536 words, one for each node, variable or trail place
+
+pub const SMALL: usize = 65536;
+
+// The proof graph: the two literals of each node; both 0 for node 0 and for a variable.
+pub const GRAPH_LHS: usize = 0;
+
+pub const GRAPH_RHS: usize = 65536;
+// The next node with the same larger literal, plus one; 0 at the end of a chain.
+pub const AND_NEXT: usize = 131072;
+// The transition graphs of gold and gate, laid out as the proof graph.
+pub const GOLD_LHS: usize = 196608;
+
+pub const GOLD_RHS: usize = 262144;
+
+pub const GATE_LHS: usize = 327680;
+
+pub const GATE_RHS: usize = 393216;
+// The literal in the proof graph of each node of an imported graph.
+pub const IMPORTED: usize = 458752;
+// The literals of inputs, outputs and mismatches of each cycle.
+pub const FRAMES: usize = 524288;
+// The literal of each net.
+pub const NETS: usize = 589824;
+// The search, by variable: value, level, reason, phase and whether it is seen.
+pub const VALUES: usize = 655360;
+
+pub const LEVELS: usize = 720896;
+
+pub const REASONS: usize = 786432;
+
+pub const PHASES: usize = 851968;
+
+pub const SEEN: usize = 917504;
+// The trail, the places in it where each decision level begins, and the literals of a clause being learned.
+pub const TRAIL: usize = 983040;
+
+pub const LIMITS: usize = 1048576;
+
+pub const LEARNED: usize = 1114112;
+
+// ---- regions of 131,072 words, one for each literal
+
+pub const DOUBLE: usize = 131072;
+
+// The newest node with this larger literal, plus one; 0 where there is none.
+pub const AND_HEADS: usize = 1572864;
+// The watch queue of each literal: its first and last cell, and how many it has.
+pub const WATCH_HEADS: usize = 1703936;
+
+pub const WATCH_TAILS: usize = 1835008;
+
+pub const WATCH_COUNTS: usize = 1966080;
+
+// ---- regions of the clauses
+
+// Where the literals of a clause begin; those of the next clause begin where they end.
+pub const CLAUSE_STARTS: usize = 2097152;
+
+pub const STARTS: usize = 524288;
+// The two watched places of a clause, and the next cell of the queue that a slot is in; a cell is twice the clause plus the slot.
+pub const WATCHED: usize = 2621440;
+
+pub const LINKS: usize = 3670016;
+
+pub const CELLS: usize = 1048576;
+// The literals of all clauses, one clause after another.
+pub const LITERALS: usize = 4718592;
+
+pub const POOL: usize = 786432;
+
+// A word as an index.
+pub fn wide(x: u32) -> usize
+    ensures { λ r. ⌜ r ≡ x ⌝ }
+{
+    x as usize
+}
+
+// A word of the region at `base`, of `size` words; 0 past its end.
+pub fn fetch(words: &[u32], base: usize, size: usize, i: usize) -> u32
+    requires { ⌜ (8388608 ≤ length (now words)) × (base + size ≤ 8388608) × (size ≡ sizeOf base) ⌝ }
+    ensures { λ r. ⌜ r ≡ getD (region base (now (words .entry))) i 0 ⌝ }
+{
+    if i < size { words[base + i] } else { 0 }
+}
+
+// A store into the region at `base`, of `size` words; nothing past its end. The words stay long enough for the next call.
+pub fn stash(words: &mut [u32], base: usize, size: usize, i: usize, value: u32)
+    requires { ⌜ (8388608 ≤ length (now words)) × (base + size ≤ 8388608) × (size ≡ sizeOf base) ⌝ }
+    ensures { λ _. ⌜ (now (words .exit) ≡ stored base (now (words .entry)) i value) × (8388608 ≤ length (now (words .exit))) ⌝ }
+{
+    if i < size {
+        words[base + i] = value;
+    }
+}
