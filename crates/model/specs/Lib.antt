@@ -19,3 +19,4 @@ pub mod Encode
 pub mod Cases
 pub mod ReadCases
 pub mod SatCases
+pub mod SatStates

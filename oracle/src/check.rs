@@ -1,0 +1,86 @@
+//! The call check: the Rust's prove_sequential_equivalence under the limit of learned literals.
+use crate::bridge::system;
+use crate::equivalence::{prove_sequential_equivalence, Counterexample, EquivalenceResult, EquivalenceStatus};
+use crate::meter::{self, Report, Wish};
+use crate::pair::{check_refusal, read_pair, Lent};
+use crate::record::{Design, Refusal};
+
+/// What a check answers; the trace is the bytes written, for status 1 only; `learned` the largest total of its queries.
+#[derive(Clone, Debug, Default, Eq, PartialEq)]
+pub struct CheckAnswer {
+    pub refusal: Option<Refusal>,
+    pub status: u8,
+    pub depth: usize,
+    pub mismatch: usize,
+    pub query: usize,
+    pub trace: Vec<u8>,
+    pub learned: usize,
+}
+
+/// The statuses' numbers.
+pub const EQUIVALENT: u8 = 0;
+pub const NOT_EQUIVALENT: u8 = 1;
+pub const INCONCLUSIVE: u8 = 2;
+pub const GAVE_UP: u8 = 3;
+
+/// A counterexample's bytes: a byte per input and cycle, then the marks of the outputs.
+fn trace(gold: &Design, found: &Counterexample) -> Vec<u8> {
+    let mut bytes: Vec<u8> = Vec::new();
+    for (cycle, frame) in found.frames().iter().enumerate() {
+        assert_eq!(frame.cycle(), cycle);
+        bytes.extend(frame.inputs().values().map(|bit| u8::from(*bit)));
+    }
+    let differing = found.differing_outputs();
+    bytes.extend(gold.output_names().iter().map(|name| u8::from(differing.iter().any(|other| other.as_bytes() == name))));
+    bytes
+}
+
+/// The answer of a result that no query gave up.
+fn answered(gold: &Design, result: &EquivalenceResult) -> CheckAnswer {
+    let depth = result.depth();
+    let plain = |status| CheckAnswer { status, depth, ..CheckAnswer::default() };
+    match result.status() {
+        EquivalenceStatus::Equivalent => plain(EQUIVALENT),
+        EquivalenceStatus::Inconclusive => plain(INCONCLUSIVE),
+        EquivalenceStatus::NotEquivalent => {
+            let found = result.counterexample().expect("a trace comes with NotEquivalent");
+            let mismatch = found.first_mismatch();
+            assert_eq!(found.frames().len(), mismatch + 1);
+            CheckAnswer { mismatch, trace: trace(gold, found), ..plain(NOT_EQUIVALENT) }
+        }
+    }
+}
+
+/// Two accepted designs checked to a depth, and what the search reported.
+pub fn prove(gold: &Design, gate: &Design, depth: usize, wish: Wish) -> (CheckAnswer, Report) {
+    meter::reset(wish);
+    let result = meter::unless_gave_up(|| prove_sequential_equivalence(&system(gold), &system(gate), depth));
+    let report = meter::report();
+    let learned = report.queries.iter().map(|query| query.learned).max().unwrap_or(0);
+    assert!(report.queries.iter().all(|query| query.nodes <= 65_536), "the bound of refusal 23");
+    let answer = match result {
+        Some(result) => answered(gold, &result.expect("the pair passed its refusals")),
+        None => {
+            let query = report.queries.last().expect("a query gave up");
+            CheckAnswer { status: GAVE_UP, depth: query.depth, query: query.number, ..CheckAnswer::default() }
+        }
+    };
+    (CheckAnswer { learned, ..answer }, report)
+}
+
+/// Check with its report: gold's record, gate's record, the maximum depth, the lengths of the buffers lent.
+pub fn check_reporting(gold: &[u8], gate: &[u8], depth: u64, lent: Lent, wish: Wish) -> (CheckAnswer, Report) {
+    let accepted = read_pair(gold, gate).and_then(|(gold, gate)| {
+        check_refusal(&gold, &gate, depth, lent)?;
+        Ok((gold, gate))
+    });
+    match accepted {
+        Ok((gold, gate)) => prove(&gold, &gate, usize::try_from(depth).expect("a depth fits"), wish),
+        Err(refusal) => (CheckAnswer { refusal: Some(refusal), ..CheckAnswer::default() }, Report::default()),
+    }
+}
+
+/// Check.
+pub fn check(gold: &[u8], gate: &[u8], depth: u64, lent: Lent) -> CheckAnswer {
+    check_reporting(gold, gate, depth, lent, Wish::default()).0
+}

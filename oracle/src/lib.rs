@@ -1,0 +1,21 @@
+//! The oracle: records read by document 01's rules, checked by the Rust with a counter of learned literals.
+
+include!(concat!(env!("OUT_DIR"), "/struo.rs"));
+
+pub mod asserts;
+pub mod bridge;
+pub mod check;
+pub mod exhaustive;
+pub mod families;
+pub mod meter;
+pub mod pair;
+pub mod random;
+pub mod reads;
+pub mod record;
+pub mod refusals;
+pub mod rewrite;
+pub mod rng;
+pub mod run;
+pub mod shapes;
+pub mod solving;
+pub mod vectors;

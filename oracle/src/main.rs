@@ -1,0 +1,140 @@
+//! The command line of the oracle.
+use std::io::Read;
+use std::process::ExitCode;
+
+use oracle::families::{generate, FAMILIES};
+use oracle::meter::Wish;
+use oracle::pair::Lent;
+use oracle::{asserts, check, solving, vectors};
+
+const USAGE: &str = "oracle answer FILE | verify FILE | generate FAMILY COUNT SEED | assert COUNT SEED | queries FILE | queries FAMILY COUNT SEED | trace FILE TURNS | totals FILE
+FILE may be - for the standard input.";
+
+/// The lines of a file, or of the standard input.
+fn lines(file: &str) -> Vec<String> {
+    let mut text = String::new();
+    if file == "-" {
+        std::io::stdin().read_to_string(&mut text).expect("the standard input is text");
+    } else {
+        text = std::fs::read_to_string(file).unwrap_or_else(|error| panic!("{file}: {error}"));
+    }
+    text.lines().map(str::to_owned).collect()
+}
+
+/// A number of the command line.
+fn number(word: &str) -> usize {
+    word.parse().unwrap_or_else(|_| panic!("no number: {word}"))
+}
+
+/// Prints every line with its answer.
+fn answer(file: &str) -> ExitCode {
+    for line in lines(file) {
+        println!("{}", vectors::answered(&line));
+    }
+    ExitCode::SUCCESS
+}
+
+/// Compares every line's answer.
+fn verify(file: &str) -> ExitCode {
+    let (mut count, mut differ) = (0, 0);
+    for (place, line) in lines(file).iter().enumerate() {
+        let Some((left, right)) = vectors::split(line) else { continue };
+        count += 1;
+        let answer = vectors::answer(left);
+        if right != Some(answer.as_str()) {
+            differ += 1;
+            println!("line {}: {} instead of {answer}: {left}", place + 1, right.unwrap_or("no answer"));
+        }
+    }
+    println!("{count} lines, {differ} differ");
+    ExitCode::from(u8::from(differ > 0))
+}
+
+/// Asserts the laws over random pairs.
+fn assert(count: usize, seed: u64) -> ExitCode {
+    let summary = asserts::run(count, seed);
+    for failure in &summary.failures {
+        println!("FAILED {failure}");
+    }
+    let [equivalent, different, inconclusive, gave_up] = summary.statuses;
+    println!("{} pairs: {equivalent} Equivalent, {different} NotEquivalent, {inconclusive} Inconclusive, {gave_up} GaveUp", summary.pairs);
+    println!("{} traces replayed, {} designs against themselves, {} swaps", summary.replays, summary.selves, summary.swaps);
+    println!("{} tiny pairs searched exhaustively; questions 1 to 4, no and yes: {:?}", summary.tiny, summary.questions);
+    println!("deepest {}, most learned {}, {} failures", summary.deepest, summary.most_learned, summary.failures.len());
+    ExitCode::from(u8::from(!summary.failures.is_empty()))
+}
+
+/// The report of a check line's search.
+fn report(left: &str, wish: Wish) -> Option<oracle::meter::Report> {
+    let words: Vec<&str> = left.split(' ').collect();
+    let ["check", gold, gate, depth, trace, work, scores] = words[..] else { return None };
+    let parse = |word: &str| word.parse::<u64>().unwrap_or_else(|_| panic!("no number: {word}"));
+    let lent = Lent { trace: parse(trace), words: parse(work), scores: parse(scores) };
+    Some(check::check_reporting(&vectors::unhex(gold), &vectors::unhex(gate), parse(depth), lent, wish).1)
+}
+
+/// Prints the SAT problems of check lines as solve lines.
+fn queries(lines: &[String]) -> ExitCode {
+    for line in lines {
+        let Some((left, _)) = vectors::split(line) else { continue };
+        if left.starts_with("solve") {
+            println!("{}", vectors::answered(left));
+            continue;
+        }
+        let wish = Wish { problems: true, ..Wish::default() };
+        for problem in report(left, wish).unwrap_or_default().problems {
+            println!("{}", vectors::answered(&format!("solve {} {}", wish.limit, solving::problem_words(&problem))));
+        }
+    }
+    ExitCode::SUCCESS
+}
+
+/// Prints each query of check lines: what the meter counted.
+fn totals(lines: &[String]) -> ExitCode {
+    for line in lines {
+        let Some((left, _)) = vectors::split(line) else { continue };
+        let wish = Wish { clauses: true, ..Wish::default() };
+        for query in report(left, wish).unwrap_or_default().queries {
+            let oracle::meter::Query { depth, number, learned, conflicts, rescales, next, ending, nodes, unwatched, repeated } = query;
+            println!("depth {depth} query {number} learned {learned} conflicts {conflicts} rescales {rescales} next {next} nodes {nodes} unwatched {unwatched} repeated {repeated} {ending:?}");
+        }
+    }
+    ExitCode::SUCCESS
+}
+
+/// Prints the states of the search before each of the first turns of solve lines.
+fn trace(lines: &[String], turns: usize) -> ExitCode {
+    for line in lines {
+        let Some((left, _)) = vectors::split(line) else { continue };
+        let words: Vec<&str> = left.split(' ').collect();
+        let ["solve", _, nodes, assumptions] = words[..] else { continue };
+        println!("{left}");
+        for (turn, state) in solving::states(nodes, assumptions, turns).iter().enumerate() {
+            println!("turn {turn} {state:?}");
+        }
+    }
+    ExitCode::SUCCESS
+}
+
+/// The command that the words name.
+fn main() -> ExitCode {
+    let words: Vec<String> = std::env::args().skip(1).collect();
+    let words: Vec<&str> = words.iter().map(String::as_str).collect();
+    match words[..] {
+        ["answer", file] => answer(file),
+        ["verify", file] => verify(file),
+        ["assert", count, seed] => assert(number(count), number(seed) as u64),
+        ["generate", family, count, seed] => {
+            generate(family, number(count), number(seed) as u64).iter().for_each(|line| println!("{line}"));
+            ExitCode::SUCCESS
+        }
+        ["queries", family, count, seed] => queries(&generate(family, number(count), number(seed) as u64)),
+        ["queries", file] => queries(&lines(file)),
+        ["totals", file] => totals(&lines(file)),
+        ["trace", file, turns] => trace(&lines(file), number(turns)),
+        _ => {
+            eprintln!("{USAGE}\nfamilies: {}", FAMILIES.join(", "));
+            ExitCode::from(2)
+        }
+    }
+}

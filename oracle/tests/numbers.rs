@@ -1,0 +1,124 @@
+//! Numbers that the patched Rust must give again.
+use oracle::check::{check_reporting, prove, CheckAnswer, EQUIVALENT, GAVE_UP, INCONCLUSIVE, NOT_EQUIVALENT};
+use oracle::families::{generate, give_up_pair, product_pair, Pair};
+use oracle::meter::{Report, Wish, LEARNED_LIMIT};
+use oracle::pair::{cost, Lent, SCORES, WORDS};
+use oracle::record::{encode, read};
+use oracle::shapes;
+use oracle::vectors::{answer, answered, hex, split};
+
+fn proved(pair: &Pair) -> (CheckAnswer, Report) {
+    prove(&pair.gold, &pair.gate, pair.depth, Wish::default())
+}
+
+fn pair(gold: oracle::record::Design, gate: oracle::record::Design, depth: usize) -> Pair {
+    Pair { gold, gate, depth }
+}
+
+/// Two registers in a row at D = 1 and 2.
+#[test]
+fn row() {
+    let (answer, _) = proved(&pair(shapes::row(&["p", "q"]), shapes::holding(), 1));
+    assert_eq!((answer.status, answer.depth), (INCONCLUSIVE, 1));
+    let (answer, _) = proved(&pair(shapes::row(&["p", "q"]), shapes::holding(), 2));
+    assert_eq!((answer.status, answer.depth, answer.mismatch), (NOT_EQUIVALENT, 2, 2));
+    assert_eq!(hex(&answer.trace), "00010000000000000001");
+}
+
+/// The toggle: one conflict, one learned literal.
+#[test]
+fn toggle() {
+    let toggle = |name| shapes::toggle(name, shapes::sync(1, false));
+    let (answer, report) = proved(&pair(toggle("q"), toggle("p"), 1));
+    assert_eq!((answer.status, answer.depth, answer.learned), (EQUIVALENT, 1, 1));
+    assert_eq!(report.queries.iter().map(|query| query.conflicts).sum::<usize>(), 1);
+}
+
+/// Document 01's wire.
+#[test]
+fn wire() {
+    let bytes = encode(&shapes::wire());
+    assert_eq!(hex(&bytes), "01000000130167000200016111017900000000");
+    assert_eq!(read(&bytes), Ok(shapes::wire()));
+}
+
+/// The product bits, rows added one after another by ripple carry up to the bit: thousands of conflicts with one rescale, and give-ups by the limit.
+#[test]
+fn products() {
+    let (answer, report) = proved(&product_pair(6, 6, 7, false));
+    assert_eq!((answer.status, answer.depth, answer.learned), (EQUIVALENT, 1, 207_581));
+    let counts: Vec<(usize, usize, usize)> = report.queries.iter().map(|query| (query.number, query.conflicts, query.rescales)).collect();
+    assert_eq!(counts, [(1, 6_769, 1), (2, 0, 0), (3, 3_262, 0)]);
+    for (bit, learned, next) in [(6, 262_134, 49), (7, 262_125, 51)] {
+        let (answer, report) = proved(&product_pair(7, bit, bit + 1, false));
+        assert_eq!((answer.status, answer.depth, answer.query, answer.learned), (GAVE_UP, 1, 1, learned));
+        let last = report.queries.last().expect("a query");
+        assert_eq!(last.next, next);
+        assert!(learned <= LEARNED_LIMIT && learned + next > LEARNED_LIMIT);
+    }
+}
+
+/// Many learned clauses have the asserting literal at neither watched place, and some repeat an earlier one.
+#[test]
+fn learned_clauses() {
+    let pair = product_pair(6, 6, 7, false);
+    let (_, report) = prove(&pair.gold, &pair.gate, 1, Wish { clauses: true, ..Wish::default() });
+    let counts: Vec<(usize, usize)> = report.queries.iter().map(|query| (query.unwatched, query.repeated)).collect();
+    assert_eq!(counts, [(5_593, 295), (0, 0), (2_751, 153)]);
+}
+
+/// A give-up in each of the four queries.
+#[test]
+fn give_ups() {
+    for query in 1..=4 {
+        let (answer, _) = proved(&give_up_pair(query));
+        assert_eq!((answer.status, answer.depth, answer.query), (GAVE_UP, 1, query));
+    }
+}
+
+/// The limit: as many literals as a query learns pass, one fewer does not.
+#[test]
+fn limit() {
+    let pair = product_pair(4, 4, 8, true);
+    let (free, report) = proved(&pair);
+    let most = report.queries.iter().map(|query| query.learned).max().expect("a query");
+    let under = |limit| prove(&pair.gold, &pair.gate, 1, Wish { limit, ..Wish::default() }).0;
+    assert_eq!(under(most), free);
+    assert_eq!(under(most - 1).status, GAVE_UP);
+    assert_eq!(under(0).status, GAVE_UP);
+}
+
+/// Refusal 23's sums in document 01.
+#[test]
+fn sums() {
+    let lines = generate("limits", 10, 1);
+    let sum = |line: &str| {
+        let words: Vec<&str> = line.split(' ').collect();
+        let design = |word| read(&oracle::vectors::unhex(word)).expect("accepted");
+        cost(&design(words[1]), &design(words[2]), words[3].parse().expect("a depth"))
+    };
+    assert_eq!((sum(&lines[1]), sum(&lines[2])), (65_535, 66_186));
+}
+
+/// Nothing is learned where a design is checked against itself, whatever the limit.
+#[test]
+fn self_check() {
+    let bytes = encode(&product_pair(7, 7, 14, true).gold);
+    let lent = Lent { trace: 1_000, words: WORDS, scores: SCORES };
+    let (answer, _) = check_reporting(&bytes, &bytes, 64, lent, Wish { limit: 0, ..Wish::default() });
+    assert_eq!(answer.refusal.map(|refusal| refusal.number), Some(23));
+    let (answer, _) = check_reporting(&bytes, &bytes, 8, lent, Wish { limit: 0, ..Wish::default() });
+    assert_eq!((answer.refusal, answer.status, answer.depth, answer.learned), (None, EQUIVALENT, 1, 0));
+}
+
+/// A line's answer is found again in the line; a family gives the same lines again.
+#[test]
+fn lines() {
+    for line in generate("small", 40, 3) {
+        let whole = answered(&line);
+        let (left, right) = split(&whole).expect("a call");
+        assert_eq!(left, line);
+        assert_eq!(right, Some(answer(left).as_str()));
+    }
+    assert_eq!(generate("pairs", 20, 9), generate("pairs", 20, 9));
+}
