@@ -1,42 +1,43 @@
--- What is promised of the check, in one place and with no assumption. `checkUnder limit` is the definition of the check under a limit of learned literals, as a refusal or a status and a depth; `checked` is it at document 01's limit 262,144; `check` is the call, with every number and every lent byte.
+-- What is promised of the check and of replay, on one page and with nothing assumed. Every word here is of `model`, or of `Terms`, which adds a few definitions over `model` alone. `checkUnder limit` is the definition of the check under a limit of learned literals, as a refusal or a status and a depth; `checked` is it at document 01's limit 262,144; `check` is the call, with every number and every lent byte. Assumes nothing.
 use Prim.Native.Nat.{ℕ, _≤_, _<_}
-use native.Mathlib.Omega.{arith}
-use mathlib.Core.Path.{_≡_, ap, _∙_}
-use mathlib.Core.Logic.{_≢_, _⊎_, inl, inr, _↔_}
-use mathlib.Core.Bool.{true}
+use mathlib.Core.Path.{_≡_}
+use mathlib.Core.Logic.{_≢_, _⊎_, _↔_}
+use mathlib.Core.Bool.{Bool, true, false}
 use mathlib.Core.List.{List, List·Memᴰ}
 use mathlib.Core.Option.{none, some}
-use lib.ListN.{length, replicate}
+use lib.ListN.{length, getD, drop, replicate}
 use lib.Ieee.{Float}
-use borrow.Author.Tests.{eqb-false}
-use Rattle.model.specs.Answers.{Refusal, accepted, Status, Equivalent, NotEquivalent, Inconclusive, GaveUp, statusNumber}
-use Rattle.model.specs.Netlist.{Design}
-use Rattle.model.specs.Run.{initialBits}
-use Rattle.model.specs.Pair.{Lent, both, readPair, checkRefusal}
-use Rattle.model.specs.Replay.{replay}
+use Rattle.model.specs.Answers.{Refusal, accepted, Status, Equivalent, NotEquivalent, GaveUp, statusNumber, acceptedAnswer}
+use Rattle.model.specs.Names.{Name, memberName, namesOf}
+use Rattle.model.specs.Netlist.{Design, inputs, outputs}
+use Rattle.model.specs.Run.{StoredBits, initialBits}
+use Rattle.model.specs.Pair.{Lent, both, readPair, inputsDiffer, outputsDiffer, checkRefusal, replayFault}
+use Rattle.model.specs.Replay.{replays, replay, stepsReplay}
 use Rattle.model.specs.Induction.{Query1, Says, SameOutputs, answered, Refuses, Sound, Checked, Chain, SwapLaw, ChainLaw, SelfLaw}
-use Rattle.model.specs.Equivalence as Search
 use Rattle.model.specs.Literal.{Literal}
-use Rattle.model.specs.Aig.{Aig}
-use Rattle.model.specs.Sat.{scoreZero, gaveUp, solve}
-use Rattle.model.specs.Check.{checkDesigns, lentOf, learnedLimit, check, checkUnder, checked}
-use Rattle.laws.specs.InductionLaws.{functional, difference-found}
-use Rattle.laws.specs.ChainLaws.{readPair-both, one-design, Link, link-of}
-use Rattle.laws.specs.PairLaws.{Facts, facts-of}
-use Rattle.laws.specs.CheckLaws.{check-accepts, check-refuses, check-refused, check-cleared}
-use Rattle.laws.specs.CheckSelfLaw.{check-self}
-use Rattle.laws.specs.CheckSound.{check-sound, check-swap, check-chain, check-replays, free-of}
-use Rattle.laws.specs.CheckEnds.{check-answers}
-use Rattle.laws.specs.SearchRight.{right}
-use Rattle.laws.specs.TotalLaws.{answer-total}
-use Rattle.laws.specs.LearnedLimitLaws.{Settled}
-use Rattle.laws.specs.GiveUpLaws.{give-up-needed}
-use Rattle.laws.specs.CheckLimit.{check-larger}
-use Rattle.laws.specs.RefusalNumbers.{Real, check-real}
-use Rattle.laws.specs.CallLaws.{Called, TraceLeft, called, call-checked, trace-left, trace-kept}
-use Rattle.laws.specs.CallChain.{number-zero, call-joins, call-never, call-swap, call-swap-refused, call-self}
+use Rattle.model.specs.Aig.{Aig, evaluate, aigNodeValues}
+use Rattle.model.specs.Sat.{Solver, scoreZero, model, noModel, gaveUp, outOfFuel, encode, solve}
+use Rattle.model.specs.Transition.{fromNetlist}
+use Rattle.model.specs.Equivalence.{Problem, Query, ask}
+use Rattle.model.specs.Equivalence as Search
+use Rattle.model.specs.Check.{problemOf, checkDesigns, lentOf, learnedLimit, check, checkUnder, checked}
+use Rattle.laws.specs.Search.Limits.{give-up-needed}
+use Rattle.laws.specs.Terms.{Real, Called, TraceLeft, Yes, Settled, answerTotal, literalCount, Reached, GivesUp, QueryOf, Asks, StopsAt}
+use Rattle.laws.specs.Check.Call.{check-refuses, check-refused, check-cleared}
+use Rattle.laws.specs.Check.Self.{check-self}
+use Rattle.laws.specs.Check.Sound.{check-sound, check-swap, check-chain, check-replays}
+use Rattle.laws.specs.Check.Ending.{check-answers}
+use Rattle.laws.specs.Check.LargerLimit.{check-larger}
+use Rattle.laws.specs.Check.Refusals.{check-real}
+use Rattle.laws.specs.Replay.{steps-replay}
+use Rattle.laws.specs.Check.Verdict.{check-answers-said, check-finds, check-equivalent, check-self-depth}
+use Rattle.laws.specs.Check.Replaying.{replay-rule, inputs-compared, outputs-compared}
+use Rattle.laws.specs.Check.Queries.{query-ends, query-refutes, query-evaluates, query-gives-up, query-total, no-model-no, model-yes, query-fits}
+use Rattle.laws.specs.Check.GiveUp.{designs-give-up, call-gives-up}
+use Rattle.laws.specs.Check.Numbers.{called, call-checked, trace-left, trace-kept}
+use Rattle.laws.specs.Check.Demand3.{number-zero, call-joins, call-never, call-swap, call-swap-refused, call-self}
 
--- ---- demand 1: a numbered refusal or a verdict, for records of any content and length
+-- ==== P1, demand 1: a pair of records of any content and length comes back with a numbered refusal or a verdict
 
 -- refused exactly where one of document 01's refusals applies, with the first that does
 pub refused-exactly : (limit : ℕ) → Refuses (checkUnder limit)
@@ -74,66 +75,47 @@ pub acceptance-clears-memory : (gold gate : List ℕ) (D : ℕ) (trace words : L
     × (check gold gate D trace words scores .scores ≡ replicate (length scores) scoreZero)
 acceptance-clears-memory = check-cleared
 
--- ---- demand 2: the verdict is what k-induction over the plain run of the two designs says
+-- after status 1 the trace buffer begins with bytes that replay answers with yes at the mismatch answered, and all its other bytes stay
+pub call-leaves-trace : (a b : List ℕ) (D : ℕ) (trace words : List ℕ) (scores : List Float) → checkRefusal a b D (lentOf trace words scores) ≡ none
+    → check a b D trace words scores .answer .status ≡ 1 → TraceLeft a b D trace words scores
+call-leaves-trace = trace-left
+
+-- after any other status every byte of the trace buffer stays
+pub call-keeps-trace : (a b : List ℕ) (D : ℕ) (trace words : List ℕ) (scores : List Float) → checkRefusal a b D (lentOf trace words scores) ≡ none
+    → check a b D trace words scores .answer .status ≢ 1 → check a b D trace words scores .trace ≡ trace
+call-keeps-trace = trace-kept
+
+-- refusals 18 and 19 compare the sets of names, whatever their order in the records
+pub inputs-as-sets : (a b : List ℕ) (gold gate : Design) → readPair a b ≡ both gold gate
+    → (inputsDiffer gold gate ≡ false) ↔ ((x : Name) → memberName x (namesOf (inputs gold)) ≡ memberName x (namesOf (inputs gate)))
+inputs-as-sets = inputs-compared
+
+-- the output names too
+pub outputs-as-sets : (a b : List ℕ) (gold gate : Design) → readPair a b ≡ both gold gate
+    → (outputsDiffer gold gate ≡ false) ↔ ((x : Name) → memberName x (namesOf (outputs gold)) ≡ memberName x (namesOf (outputs gate)))
+outputs-as-sets = outputs-compared
+
+-- ==== P2, demand 2: the verdict is what k-induction over the plain run of the two designs says
 
 -- every status other than GaveUp, with its depth, is what k-induction says from the initial states
 pub status-is-said : (limit : ℕ) → Sound (checkUnder limit)
-status-is-said limit = check-sound limit (right limit)
+status-is-said limit = check-sound limit
 
 -- and what k-induction says is answered, unless the check gives up
 pub said-is-answered : (limit : ℕ) (a b : List ℕ) (D : ℕ) (lent : Lent) (gold gate : Design) → checkRefusal a b D lent ≡ none → readPair a b ≡ both gold gate
     → (status : Status) (d : ℕ) → Says gold gate (initialBits gold) (initialBits gate) D status d
     → (checkUnder limit a b D lent ≡ answered status d) ⊎ ((e : ℕ) × (checkUnder limit a b D lent ≡ answered GaveUp e))
-said-is-answered limit a b D lent gold gate free r status d says = let x = check-answers limit a b D lent free in go (x .0) (x .1) (x .2)
-  where
-    same : (p : Status) (e : ℕ) → checkUnder limit a b D lent ≡ answered p e → p ≢ GaveUp → checkUnder limit a b D lent ≡ answered status d
-    same p e h n =
-        let f = functional (status-is-said limit a b D lent p e h n gold gate r) says in
-        let u : p ≡ status = f .0 in
-        let v : e ≡ d = f .1 in
-        rw (← u, ← v) h
-
-    go : (p : Status) (e : ℕ) → checkUnder limit a b D lent ≡ answered p e → (checkUnder limit a b D lent ≡ answered status d) ⊎ ((e : ℕ) × (checkUnder limit a b D lent ≡ answered GaveUp e))
-    go Equivalent e h = inl (same Equivalent e h (λ q. let z : _≡_ {A = ℕ} 0 1 = cc in omega arith))
-    go NotEquivalent e h = inl (same NotEquivalent e h (λ q. let z : _≡_ {A = ℕ} 0 1 = cc in omega arith))
-    go Inconclusive e h = inl (same Inconclusive e h (λ q. let z : _≡_ {A = ℕ} 0 1 = cc in omega arith))
-    go GaveUp e h = inr (e, h)
+said-is-answered = check-answers-said
 
 -- where the check does not give up, it says NotEquivalent exactly when some input sequence makes outputs differ in a cycle from 0 to D
 pub different-exactly : (limit : ℕ) (a b : List ℕ) (D : ℕ) (lent : Lent) (status : Status) (d : ℕ) → checkUnder limit a b D lent ≡ answered status d → status ≢ GaveUp
     → (gold gate : Design) → readPair a b ≡ both gold gate → (status ≡ NotEquivalent) ↔ Query1 gold gate (initialBits gold) (initialBits gate) D
-different-exactly limit a b D lent status d h n gold gate r =
-    let free = free-of a b D lent gold gate (check-accepts limit a b D lent status d h) r in
-    let f : Facts gold gate D lent = facts-of gold gate D lent free in
-    let p : 1 ≤ D = omega (arith, eqb-false D 0 (f .depth-low)) in
-    difference-found gold gate (initialBits gold) (initialBits gate) D d status p (status-is-said limit a b D lent status d h n gold gate r)
+different-exactly = check-finds
 
 -- Equivalent: the outputs have the same names, and the same bits in every cycle of every input sequence, past any depth searched
 pub equivalent-never-differs : (limit : ℕ) (a b : List ℕ) (D : ℕ) (lent : Lent) (d : ℕ) → checkUnder limit a b D lent ≡ answered Equivalent d
     → (gold gate : Design) → readPair a b ≡ both gold gate → SameOutputs gold gate
-equivalent-never-differs limit a b D lent d h gold gate r =
-    let l : Link a b = link-of (checkUnder limit) (status-is-said limit) (check-accepts limit) a b D lent d h in
-    let x = readPair-both a b gold gate r in
-    let p : l .gold ≡ gold = one-design a (l .gold) gold (l .goldRead) (x .0) in
-    let q : l .gate ≡ gate = one-design b (l .gate) gate (l .gateRead) (x .1) in
-    rw (← p, ← q) (l .same)
-
--- the trace of NotEquivalent is not refused by replay, and the answer is yes
-pub trace-replays : (limit : ℕ) (a b : List ℕ) (D : ℕ) (lent : Lent) (gold gate : Design) (d m : ℕ) (bytes : List ℕ) → checkRefusal a b D lent ≡ none → readPair a b ≡ both gold gate
-    → checkDesigns limit gold gate D .verdict ≡ Search.NotEquivalent d m bytes → replay a b m bytes ≡ record { refusal = accepted; yes = true }
-trace-replays limit = check-replays limit (right limit)
-
--- a larger limit changes no status and no depth but those of a give-up
-pub larger-limit : (limit larger : ℕ) → limit ≤ larger → (a b : List ℕ) (D : ℕ) (lent : Lent) (status : Status) (d : ℕ) → checkUnder limit a b D lent ≡ answered status d → status ≢ GaveUp
-    → checkUnder larger a b D lent ≡ answered status d
-larger-limit = check-larger
-
--- and a query gives up only where it has to: under any larger limit that settles it, it learns more literals than the limit
-pub gives-up-only-above : (limit larger : ℕ) → limit ≤ larger → (g : Aig) (assumptions : List Literal) (k : ℕ) → solve limit g assumptions ≡ gaveUp k
-    → Settled (solve larger g assumptions) → limit < answer-total (solve larger g assumptions)
-gives-up-only-above = give-up-needed
-
--- ---- the same of the call, under the limit 262,144
+equivalent-never-differs = check-equivalent
 
 -- an accepted call answers number 0, with the status and the depth that k-induction says, or GaveUp
 pub call-is-said : (a b : List ℕ) (D : ℕ) (trace words : List ℕ) (scores : List Float) → checkRefusal a b D (lentOf trace words scores) ≡ none → Called a b D trace words scores
@@ -145,51 +127,76 @@ pub call-is-checked : (a b : List ℕ) (D : ℕ) (trace words : List ℕ) (score
     → checked a b D (lentOf trace words scores) ≡ answered status (check a b D trace words scores .answer .depth)
 call-is-checked = call-checked
 
--- after status 1 the trace buffer begins with bytes that replay answers with yes at the mismatch answered, and all its other bytes stay
-pub call-leaves-trace : (a b : List ℕ) (D : ℕ) (trace words : List ℕ) (scores : List Float) → checkRefusal a b D (lentOf trace words scores) ≡ none
-    → check a b D trace words scores .answer .status ≡ 1 → TraceLeft a b D trace words scores
-call-leaves-trace = trace-left
+-- behind it, of each query that the check asks: its search ends
+pub search-ends : (limit : ℕ) (p : Problem) (d k : ℕ) (q : Query) → QueryOf p d k q → (n : ℕ) → ask limit q ≢ outOfFuel n
+search-ends = query-ends
 
--- after any other status every byte of the trace buffer stays
-pub call-keeps-trace : (a b : List ℕ) (D : ℕ) (trace words : List ℕ) (scores : List Float) → checkRefusal a b D (lentOf trace words scores) ≡ none
-    → check a b D trace words scores .answer .status ≢ 1 → check a b D trace words scores .trace ≡ trace
-call-keeps-trace = trace-kept
+-- no model: under every environment some assumption of the query is false
+pub none-refutes : (limit : ℕ) (p : Problem) (d k : ℕ) (q : Query) → QueryOf p d k q → (n : ℕ) → ask limit q ≡ noModel n
+    → (environment : ℕ → Bool) → ((i : ℕ) → i < length (q .assumptions) → evaluate (aigNodeValues environment (q .aig)) (getD (q .assumptions) i 0) ≡ true) → ⊥
+none-refutes = query-refutes
 
--- ---- demand 3: lists, swapped pairs, a design against itself
+-- a model: the values of the graph's nodes under an environment, every assumption true
+pub model-evaluates : (limit : ℕ) (p : Problem) (d k : ℕ) (q : Query) → QueryOf p d k q → (values : List Bool) (n : ℕ) → ask limit q ≡ model values n
+    → (environment : ℕ → Bool) × (values ≡ aigNodeValues environment (q .aig)) × ((i : ℕ) → i < length (q .assumptions) → evaluate values (getD (q .assumptions) i 0) ≡ true)
+model-evaluates = query-evaluates
+
+-- so no model means that the answer to its question is no
+pub none-means-no : (limit : ℕ) (a b : List ℕ) (D : ℕ) (lent : Lent) (gold gate : Design) → checkRefusal a b D lent ≡ none → readPair a b ≡ both gold gate
+    → (d k : ℕ) (q : Query) (w : QueryOf (problemOf (fromNetlist gold) (fromNetlist gate)) d k q) (n : ℕ) → ask limit q ≡ noModel n
+    → Asks gold gate (problemOf (fromNetlist gold) (fromNetlist gate)) d k q w → ⊥
+none-means-no = no-model-no
+
+-- and a model means yes
+pub model-means-yes : (limit : ℕ) (a b : List ℕ) (D : ℕ) (lent : Lent) (gold gate : Design) → checkRefusal a b D lent ≡ none → readPair a b ≡ both gold gate
+    → (d k : ℕ) (q : Query) (w : QueryOf (problemOf (fromNetlist gold) (fromNetlist gate)) d k q) (values : List Bool) (n : ℕ) → ask limit q ≡ model values n
+    → Asks gold gate (problemOf (fromNetlist gold) (fromNetlist gate)) d k q w
+model-means-yes = model-yes
+
+-- ==== P3: GaveUp exactly by the counted steps
+
+-- one query gives up, with total n, exactly where its search comes to a state of that total in which the next learned clause would bring the total above the limit
+pub query-gives-up-exactly : (limit : ℕ) (p : Problem) (d k : ℕ) (q : Query) → QueryOf p d k q → (n : ℕ) → (ask limit q ≡ gaveUp n) ↔ GivesUp limit (q .aig) (q .assumptions) n
+query-gives-up-exactly = query-gives-up
+
+-- the total is the sum of the lengths of the clauses learned so far, which stand after the original ones
+pub total-is-sum : (limit : ℕ) (p : Problem) (d k : ℕ) (q : Query) → QueryOf p d k q → (s : Solver) → Reached limit (q .aig) (q .assumptions) s
+    → s .learned ≡ literalCount (drop (length (encode (q .aig) (q .assumptions) .clauses)) (s .clauses))
+total-is-sum = query-total
+
+-- a whole check names depth d and query q exactly where every earlier query of its order was answered without deciding and query q at depth d so exceeds the limit
+pub check-gives-up-exactly : (limit : ℕ) (gold gate : Design) (D d q : ℕ)
+    → (checkDesigns limit gold gate D .verdict ≡ Search.GaveUp d q) ↔ StopsAt limit (problemOf (fromNetlist gold) (fromNetlist gate)) D d q
+check-gives-up-exactly = designs-give-up
+
+-- the same of the call: status 3, with that depth and that query, and the mismatch 0
+pub call-gives-up-exactly : (a b : List ℕ) (D : ℕ) (trace words : List ℕ) (scores : List Float) (gold gate : Design)
+    → checkRefusal a b D (lentOf trace words scores) ≡ none → readPair a b ≡ both gold gate
+    → (d q : ℕ) → (check a b D trace words scores .answer ≡ acceptedAnswer 3 d 0 q) ↔ StopsAt learnedLimit (problemOf (fromNetlist gold) (fromNetlist gate)) D d q
+call-gives-up-exactly = call-gives-up
+
+-- a larger limit changes no status and no depth but those of a give-up
+pub larger-limit : (limit larger : ℕ) → limit ≤ larger → (a b : List ℕ) (D : ℕ) (lent : Lent) (status : Status) (d : ℕ) → checkUnder limit a b D lent ≡ answered status d → status ≢ GaveUp
+    → checkUnder larger a b D lent ≡ answered status d
+larger-limit = check-larger
+
+-- and a query gives up only where it has to: under any larger limit that settles it, it learns more literals than the limit
+pub gives-up-only-above : (limit larger : ℕ) → limit ≤ larger → (g : Aig) (assumptions : List Literal) (k : ℕ) → solve limit g assumptions ≡ gaveUp k
+    → Settled (solve larger g assumptions) → limit < answerTotal (solve larger g assumptions)
+gives-up-only-above = give-up-needed
+
+-- ==== P4 and P5, demand 3: lists of any length
 
 -- lists of any length of two or more, neighbours checked Equivalent either way and to any depth: any two of the list show the same outputs in every cycle of every input sequence, and no check of them says NotEquivalent
 pub chain-law : (limit : ℕ) → ChainLaw (checkUnder limit)
-chain-law limit = check-chain limit (right limit)
+chain-law limit = check-chain limit
 
--- a swapped pair: the same status and depth where neither check gives up, and refused where the first is
-pub swap-law : (limit : ℕ) → SwapLaw (checkUnder limit)
-swap-law limit = check-swap limit (right limit)
-
--- a record against itself, where no refusal applies: Equivalent at depth 1
-pub self-law : (limit : ℕ) (a : List ℕ) (D : ℕ) (lent : Lent) → checkRefusal a a D lent ≡ none → checkUnder limit a a D lent ≡ answered Equivalent 1
-self-law limit a D lent free =
-    let x = check-answers limit a a D lent free in
-    let y = check-self limit a D lent (x .0) (x .1) (x .2) in
-    let p : x .0 ≡ Equivalent = y .0 in
-    let q : x .1 ≡ 1 = y .1 in
-    x .2 ∙ ap (λ s. answered s (x .1)) p ∙ ap (answered Equivalent) q
-
--- ---- demand 3 of the call, under the limit 262,144
-
--- the three laws of `checked`
+-- the same at document 01's limit
 pub call-chain-law : ChainLaw checked
 unfolding checked
 call-chain-law = chain-law learnedLimit
 
-pub call-swap-law : SwapLaw checked
-unfolding checked
-call-swap-law = swap-law learnedLimit
-
-pub call-self-law : SelfLaw checked
-unfolding checked
-call-self-law = check-self learnedLimit
-
--- and in the call's numbers: a call that answers number 0 and status 0 joins its two records for the chain law
+-- in the call's numbers: a call that answers number 0 and status 0 joins its two records for the chain law
 pub equivalent-joins : (a b : List ℕ) (D : ℕ) (trace words : List ℕ) (scores : List Float) → check a b D trace words scores .answer .number ≡ 0
     → check a b D trace words scores .answer .status ≡ 0 → Checked checked a b
 equivalent-joins = call-joins
@@ -198,6 +205,17 @@ equivalent-joins = call-joins
 pub chain-never-different : (a b : List ℕ) (D : ℕ) (trace words : List ℕ) (scores : List Float) → check a b D trace words scores .answer .number ≡ 0
     → (l : List (List ℕ)) → Chain checked l → List·Memᴰ a l → List·Memᴰ b l → check a b D trace words scores .answer .status ≢ 1
 chain-never-different = call-never
+
+-- ==== P6 and P7, demand 3: swapped pairs
+
+-- a swapped pair: the same status and depth where neither check gives up, and refused where the first is
+pub swap-law : (limit : ℕ) → SwapLaw (checkUnder limit)
+swap-law limit = check-swap limit
+
+-- the same at document 01's limit
+pub call-swap-law : SwapLaw checked
+unfolding checked
+call-swap-law = swap-law learnedLimit
 
 -- calls on a pair and on the swapped pair, to one depth, with buffers of the same lengths: the same status and depth, unless one gives up
 pub swap-keeps-numbers : (a b : List ℕ) (D : ℕ) (t w : List ℕ) (s : List Float) (t' w' : List ℕ) (s' : List Float) → lentOf t' w' s' ≡ lentOf t w s
@@ -211,7 +229,41 @@ pub swap-keeps-refusal : (a b : List ℕ) (D : ℕ) (t w : List ℕ) (s : List F
     → check b a D t' w' s' .answer .number ≡ 0 → check a b D t w s .answer .number ≡ 0
 swap-keeps-refusal = call-swap-refused
 
+-- ==== P8, demand 3: a design against itself
+
+-- a record against itself, where no refusal applies: Equivalent at depth 1
+pub self-law : (limit : ℕ) (a : List ℕ) (D : ℕ) (lent : Lent) → checkRefusal a a D lent ≡ none → checkUnder limit a a D lent ≡ answered Equivalent 1
+self-law = check-self-depth
+
+-- the same at document 01's limit
+pub call-self-law : SelfLaw checked
+unfolding checked
+call-self-law = check-self learnedLimit
+
 -- a record against itself, not refused: status 0 at depth 1
 pub self-is-equivalent : (a : List ℕ) (D : ℕ) (t w : List ℕ) (s : List Float) → check a a D t w s .answer .number ≡ 0
     → (check a a D t w s .answer .status ≡ 0) × (check a a D t w s .answer .depth ≡ 1)
 self-is-equivalent = call-self
+
+-- ==== P9: replay
+
+-- a replay that is not refused says yes exactly where the outputs agree in every earlier cycle and in the claimed one differ in exactly the marked outputs, at least one
+pub replay-says-yes-exactly : (a b : List ℕ) (cycle : ℕ) (claim : List ℕ) (gold gate : Design) → readPair a b ≡ both gold gate → replayFault gold gate cycle claim ≡ none
+    → (replay a b cycle claim .yes ≡ true) ↔ Yes gold gate (initialBits gold) (initialBits gate) cycle claim
+replay-says-yes-exactly = replay-rule
+
+-- the trace of NotEquivalent is not refused by replay, and the answer is yes
+pub trace-replays : (limit : ℕ) (a b : List ℕ) (D : ℕ) (lent : Lent) (gold gate : Design) (d m : ℕ) (bytes : List ℕ) → checkRefusal a b D lent ≡ none → readPair a b ≡ both gold gate
+    → checkDesigns limit gold gate D .verdict ≡ Search.NotEquivalent d m bytes → replay a b m bytes ≡ record { refusal = accepted; yes = true }
+trace-replays limit = check-replays limit
+
+-- ==== P10 and P13: steps, and the size of the graphs
+
+-- replay stepped to the claimed cycle from the initial position gives replay's answer
+pub steps-are-replay : (gold gate : Design) (s t : StoredBits) (cycle : ℕ) (claim : List ℕ) → stepsReplay gold gate s t cycle claim ≡ replays gold gate s t cycle claim
+steps-are-replay = steps-replay
+
+-- where no refusal applies, 23 among them, the graph of every query up to the maximum depth has at most 65,535 nodes
+pub graphs-fit : (limit : ℕ) (a b : List ℕ) (D : ℕ) (lent : Lent) (gold gate : Design) → checkRefusal a b D lent ≡ none → readPair a b ≡ both gold gate
+    → (d k : ℕ) (q : Query) → QueryOf (problemOf (fromNetlist gold) (fromNetlist gate)) d k q → d ≤ D → length (q .aig) ≤ 65535
+graphs-fit = query-fits

@@ -13,7 +13,6 @@ pub mod Aig
 pub mod Sat
 pub mod Transition
 pub mod Equivalence
-pub mod SystemRun
 pub mod Check
 pub mod Encode
 pub mod Cases

@@ -1,0 +1,19 @@
+-- The check: its course, refusals, answers and numbers, and the laws of demand 3 in them. Assumes nothing.
+-- refusals, and the call's numbers and memory
+pub mod Refusals
+pub mod Call
+-- the course of a check, and what its verdict means
+pub mod Course
+pub mod Ending
+pub mod Meaning
+pub mod Sound
+pub mod Verdict
+pub mod Replaying
+-- the limit of learned literals
+pub mod LargerLimit
+pub mod GiveUp
+pub mod Queries
+-- the call, and demand 3 in its numbers
+pub mod Self
+pub mod Numbers
+pub mod Demand3

@@ -1,0 +1,138 @@
+-- The call check, with its numbers and its lent memory: what an accepted call answers, and what it leaves in the trace buffer. Assumes nothing.
+use Prim.Native.Nat.{ℕ, suc, _+_, _*_, _≤_}
+use native.Mathlib.Omega.{arith}
+use native.Mathlib.Nat.{mul-le-mul-right}
+use mathlib.Core.Path.{_≡_, refl, sym, ap, _∙_, subst}
+use mathlib.Core.Logic.{_≢_}
+use mathlib.Core.Bool.{false}
+use mathlib.Core.List.{List}
+use mathlib.Core.Option.{none}
+use lib.ListN.{length}
+use lib.Dec.{ltb}
+use lib.Ieee.{Float}
+use borrow.Author.Tests.{ltb-false}
+use Rattle.model.specs.Answers.{accepted, Status, statusNumber, acceptedAnswer}
+use Rattle.model.specs.Answers as Answers
+use Rattle.model.specs.Netlist.{Design, inputCount, outputCount}
+use Rattle.model.specs.Run.{initialBits}
+use Rattle.model.specs.Pair.{Lent, traceLength, tooShort, checkRefusal}
+use Rattle.model.specs.Replay.{replay}
+use Rattle.model.specs.Induction.{answered, Says, notEquivalent}
+use Rattle.model.specs.Equivalence.{Verdict, Equivalent, NotEquivalent, Inconclusive, GaveUp, OutOfFuel}
+use Rattle.model.specs.Check.{checkDesigns, checkPair, checkRead, checkOutcome, verdictAnswer, checkAnswer, overwrite, verdictTrace, traceAfter, checkResult, lentOf, learnedLimit, check, checked}
+use Rattle.laws.specs.Terms.{Numbered, Called, TraceLeft}
+use Rattle.laws.specs.Bools.{or-left}
+use Rattle.laws.specs.Induction.Chain.{Accepted, accepted-pair}
+use Rattle.laws.specs.Induction.Pairs.{Facts, facts-of}
+use Rattle.laws.specs.Check.Call.{check-numbered}
+use Rattle.laws.specs.Check.Meaning.{Spoken, check-says}
+use Rattle.laws.specs.Check.Sound.{Comparable, comparable, check-sound, check-replays}
+use Rattle.laws.specs.Check.Ending.{check-answers}
+
+-- no two statuses have one number
+status-injective : (p q : Status) → statusNumber p ≡ statusNumber q → p ≡ q
+unfolding statusNumber
+status-injective Answers.Equivalent Answers.Equivalent e = refl
+status-injective Answers.Equivalent Answers.NotEquivalent e = absurd (omega arith)
+status-injective Answers.Equivalent Answers.Inconclusive e = absurd (omega arith)
+status-injective Answers.Equivalent Answers.GaveUp e = absurd (omega arith)
+status-injective Answers.NotEquivalent Answers.Equivalent e = absurd (omega arith)
+status-injective Answers.NotEquivalent Answers.NotEquivalent e = refl
+status-injective Answers.NotEquivalent Answers.Inconclusive e = absurd (omega arith)
+status-injective Answers.NotEquivalent Answers.GaveUp e = absurd (omega arith)
+status-injective Answers.Inconclusive Answers.Equivalent e = absurd (omega arith)
+status-injective Answers.Inconclusive Answers.NotEquivalent e = absurd (omega arith)
+status-injective Answers.Inconclusive Answers.Inconclusive e = refl
+status-injective Answers.Inconclusive Answers.GaveUp e = absurd (omega arith)
+status-injective Answers.GaveUp Answers.Equivalent e = absurd (omega arith)
+status-injective Answers.GaveUp Answers.NotEquivalent e = absurd (omega arith)
+status-injective Answers.GaveUp Answers.Inconclusive e = absurd (omega arith)
+status-injective Answers.GaveUp Answers.GaveUp e = refl
+
+-- a trace of a cycle within the depth fits the buffer
+trace-fits : (gold : Design) (D : ℕ) (lent : Lent) (m n : ℕ) → tooShort gold D lent ≡ false → m ≤ D → n ≡ traceLength gold m → n ≤ lent .trace
+unfolding tooShort traceLength
+trace-fits gold D lent m n h l e =
+    let k = ltb-false (lent .trace) (suc D * inputCount gold + outputCount gold) (or-left _ (ltb (lent .words) 8388608) (or-left _ (ltb (lent .scores) 65536) h)) in
+    omega (arith, k, e, mul-le-mul-right {m = suc m} {n = suc D} (inputCount gold) (omega (arith, l)))
+
+module _ (a b : List ℕ) (D : ℕ) (trace words : List ℕ) (scores : List Float) (free : checkRefusal a b D (lentOf trace words scores) ≡ none) where
+  -- an accepted call's numbers
+  pub called : Called a b D trace words scores
+  unfolding checked
+  called =
+      let k : Accepted a b D (lentOf trace words scores) = accepted-pair a b D (lentOf trace words scores) free in
+      let r = check-answers learnedLimit a b D (lentOf trace words scores) free in
+      record {
+        gold = k .gold;
+        gate = k .gate;
+        pair = k .pair;
+        status = r .0;
+        depth = r .1;
+        numbered = check-numbered a b D trace words scores (r .0) (r .1) (r .2);
+        says = λ n. check-sound learnedLimit a b D (lentOf trace words scores) (r .0) (r .1) (r .2) n (k .gold) (k .gate) (k .pair);
+      }
+
+  -- the call's numbers are what the laws of checks speak of
+  pub call-checked : (status : Status) → check a b D trace words scores .answer .status ≡ statusNumber status
+      → checked a b D (lentOf trace words scores) ≡ answered status (check a b D trace words scores .answer .depth)
+  unfolding checked
+  call-checked status h =
+      let r = check-answers learnedLimit a b D (lentOf trace words scores) free in
+      let n : Numbered (check a b D trace words scores .answer) (r .0) (r .1) = check-numbered a b D trace words scores (r .0) (r .1) (r .2) in
+      let e : r .0 ≡ status = status-injective (r .0) status (sym (n .status-number) ∙ h) in
+      r .2 ∙ ap (λ (p : Status). answered p (r .1)) e ∙ ap (answered status) (sym (n .depth))
+
+  module _ (k : Accepted a b D (lentOf trace words scores)) where
+    -- the call, by the verdict
+    call-is : (v : Verdict) → checkDesigns learnedLimit (k .gold) (k .gate) D .verdict ≡ v
+        → (check a b D trace words scores .answer ≡ verdictAnswer v) × (check a b D trace words scores .trace ≡ verdictTrace v trace)
+    unfolding check checkResult checkOutcome checkRead checkPair checkAnswer traceAfter
+    call-is v e = (rw (k .pair, k .free, e), rw (k .pair, k .free, e))
+
+    spoken : (v : Verdict) → checkDesigns learnedLimit (k .gold) (k .gate) D .verdict ≡ v → Spoken (k .gold) (k .gate) (initialBits (k .gold)) (initialBits (k .gate)) D v
+    spoken v e =
+        let c : Comparable (k .gold) (k .gate) = comparable a b D (lentOf trace words scores) (k .gold) (k .gate) free (k .pair) in
+        subst (Spoken (k .gold) (k .gate) (initialBits (k .gold)) (initialBits (k .gate)) D) e
+        (check-says learnedLimit (k .gold) (k .gate) (c .gold-valid) (c .gate-valid) (c .input-names) (c .output-names) D)
+
+    depth-within : (d : ℕ) → Says (k .gold) (k .gate) (initialBits (k .gold)) (initialBits (k .gate)) D Answers.NotEquivalent d → d ≤ D
+    depth-within d (notEquivalent p q u w) = q
+
+    not-one : (n : ℕ) (v : Verdict) → verdictAnswer v .status ≡ n → n ≢ 1 → check a b D trace words scores .answer ≡ verdictAnswer v → check a b D trace words scores .answer .status ≡ 1 → ⊥
+    not-one n v e h p q = h (sym e ∙ sym (ap (λ x. x .status) p) ∙ q)
+
+    left : (v : Verdict) → checkDesigns learnedLimit (k .gold) (k .gate) D .verdict ≡ v → check a b D trace words scores .answer .status ≡ 1 → TraceLeft a b D trace words scores
+    unfolding verdictAnswer acceptedAnswer statusNumber verdictTrace overwrite lentOf
+    left (Equivalent d) e s = absurd (not-one 0 (Equivalent d) refl (λ q. omega arith) (call-is (Equivalent d) e .0) s)
+    left (NotEquivalent d m bytes) e s =
+        let c = call-is (NotEquivalent d m bytes) e in
+        let x : Spoken (k .gold) (k .gate) (initialBits (k .gold)) (initialBits (k .gate)) D (NotEquivalent d m bytes) = spoken (NotEquivalent d m bytes) e in
+        let f : Facts (k .gold) (k .gate) D (lentOf trace words scores) = facts-of (k .gold) (k .gate) D (lentOf trace words scores) (k .free) in
+        let w : d ≤ D = depth-within d (x .0) in
+        let q : check a b D trace words scores .answer .mismatch ≡ m = ap (λ y. y .mismatch) (c .0) in
+        record {
+          bytes = bytes;
+          fits = trace-fits (k .gold) D (lentOf trace words scores) m (length bytes) (f .memory) (omega (arith, w, x .1 .early)) (x .1 .size);
+          written = c .1;
+          yes = ap (λ (i : ℕ). replay a b i bytes) q ∙ check-replays learnedLimit a b D (lentOf trace words scores) (k .gold) (k .gate) d m bytes free (k .pair) e;
+        }
+    left (Inconclusive d) e s = absurd (not-one 2 (Inconclusive d) refl (λ q. omega arith) (call-is (Inconclusive d) e .0) s)
+    left (GaveUp d q) e s = absurd (not-one 3 (GaveUp d q) refl (λ q. omega arith) (call-is (GaveUp d q) e .0) s)
+    left OutOfFuel e s = absurd (not-one 4 OutOfFuel refl (λ q. omega arith) (call-is OutOfFuel e .0) s)
+
+    kept : (v : Verdict) → checkDesigns learnedLimit (k .gold) (k .gate) D .verdict ≡ v → check a b D trace words scores .answer .status ≢ 1 → check a b D trace words scores .trace ≡ trace
+    unfolding verdictAnswer acceptedAnswer statusNumber verdictTrace
+    kept (Equivalent d) e s = call-is (Equivalent d) e .1
+    kept (NotEquivalent d m bytes) e s = absurd (s (ap (λ y. y .status) (call-is (NotEquivalent d m bytes) e .0)))
+    kept (Inconclusive d) e s = call-is (Inconclusive d) e .1
+    kept (GaveUp d q) e s = call-is (GaveUp d q) e .1
+    kept OutOfFuel e s = call-is OutOfFuel e .1
+
+  -- after status 1 the trace buffer begins with bytes that replay answers with yes, and the others stay
+  pub trace-left : check a b D trace words scores .answer .status ≡ 1 → TraceLeft a b D trace words scores
+  trace-left s = left (accepted-pair a b D (lentOf trace words scores) free) _ refl s
+
+  -- after another status the trace buffer stays
+  pub trace-kept : check a b D trace words scores .answer .status ≢ 1 → check a b D trace words scores .trace ≡ trace
+  trace-kept s = kept (accepted-pair a b D (lentOf trace words scores) free) _ refl s

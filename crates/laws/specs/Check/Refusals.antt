@@ -1,0 +1,274 @@
+-- Every refusal of a check has a number from 1 to 25, so that number 0 is answered exactly where no refusal applies. Assumes nothing.
+use Prim.Native.Nat.{ℕ, zero, suc, _+_, _≤_}
+use native.Mathlib.Omega.{arith}
+use mathlib.Core.Path.{_≡_, subst}
+use mathlib.Core.Bool.{Bool, true, false, cond}
+use mathlib.Core.List.{List, [], _∷_, _++_}
+use mathlib.Core.Option.{Option, none, some}
+use lib.ListN.{length, getD}
+use lib.Dec.{leb, eqb}
+use Rattle.model.specs.Answers.{Refusal}
+use Rattle.model.specs.Names.{Name, Place}
+use Rattle.model.specs.Netlist.{Node, Register, Design}
+use Rattle.model.specs.Record.{Step, got, refused, Reader, refuse, pure, goOn, _>>=_, tested, guard, bytes, byte, number, code, codeBelow, nameBytes, name, nameIf, valueIf, numbers, node, nodesFrom, nodes, enableFor, resetFor, register, registersFrom, registers, end, version1, versionOf, Read, parsed, refusedRecord, lengthFits, finished, parseFields, parseSized, parse}
+use Rattle.model.specs.Validate.{_otherwise_, refuseIf, nodeFault, nodesFault, registerFault, registersFault, connectionFault, resetFault, clockFault, validate, judged, validated, readRecord}
+use Rattle.model.specs.Pair.{Lent, interfaceFault, resetsFault, initialFault, checkFault, ReadPair, both, refusedPair, onGate, withGate, withGold, readPair, checkRefusalOf, checkRefusal}
+use Rattle.laws.specs.Terms.{Real}
+
+-- a step of a reader that refuses with a number of document 01, if it refuses
+abbrev RealStep : {A : Type 0} → Step A → Type 0
+RealStep (got a i) = Unit {0}
+RealStep (refused r) = Real r
+
+-- the same of a reader, wherever it begins
+abbrev RealReader : {A : Type 0} → Reader A → Type 0
+RealReader p = (s : List ℕ) (i : ℕ) → RealStep (p s i)
+
+-- the same of a refusal that may be none
+abbrev RealOption : Option Refusal → Type 0
+RealOption none = Unit {0}
+RealOption (some r) = Real r
+
+-- the same of a record that is read
+abbrev RealRead : Read → Type 0
+RealRead (parsed d) = Unit {0}
+RealRead (refusedRecord r) = Real r
+
+-- ---- readers
+
+refuse-real : (A : Type 0) (n place : ℕ) → 1 ≤ n → n ≤ 25 → RealStep (refuse {A = A} n place)
+unfolding refuse
+refuse-real A n place l h = record { low = l; high = h }
+
+cond-real : {A : Type 0} (b : Bool) (x y : Step A) → RealStep x → RealStep y → RealStep (cond b x y)
+cond-real true x y h k = h
+cond-real false x y h k = k
+
+pure-real : {A : Type 0} (a : A) → RealReader (pure a)
+unfolding pure
+pure-real a s i = tt
+
+go-real : {A B : Type 0} (f : A → Reader B) (s : List ℕ) (r : Step A) → RealStep r → ((a : A) → RealReader (f a)) → RealStep (goOn f s r)
+unfolding goOn
+go-real f s (got a i) h k = k a s i
+go-real f s (refused r) h k = h
+
+bind-real : {A B : Type 0} (p : Reader A) (f : A → Reader B) → RealReader p → ((a : A) → RealReader (f a)) → RealReader (_>>=_ p f)
+unfolding _>>=_
+bind-real p f h k s i = go-real f s (p s i) (h s i) k
+
+tested-real : {A : Type 0} (n : ℕ) (ok : A → Bool) (i : ℕ) (r : Step A) → 1 ≤ n → n ≤ 25 → RealStep r → RealStep (tested n ok i r)
+unfolding tested
+tested-real {A} n ok i (got a j) l h k = cond-real (ok a) (got a j) (refuse n i) tt (refuse-real A n i l h)
+tested-real {A} n ok i (refused r) l h k = k
+
+guard-real : {A : Type 0} (n : ℕ) (ok : A → Bool) (p : Reader A) → 1 ≤ n → n ≤ 25 → RealReader p → RealReader (guard n ok p)
+unfolding guard
+guard-real n ok p l h k s i = tested-real n ok i (p s i) l h (k s i)
+
+bytes-real : (k : ℕ) → RealReader (bytes k)
+unfolding bytes
+bytes-real k s i = cond-real (leb (i + k) (length s)) _ (refuse 3 i) tt (refuse-real (List ℕ) 3 i (omega arith) (omega arith))
+
+byte-real : RealReader byte
+unfolding byte
+byte-real s i = cond-real (leb (i + 1) (length s)) _ (refuse 3 i) tt (refuse-real ℕ 3 i (omega arith) (omega arith))
+
+number-real : RealReader number
+unfolding number
+number-real s i = cond-real (leb (i + 2) (length s)) _ (refuse 3 i) tt (refuse-real ℕ 3 i (omega arith) (omega arith))
+
+end-real : RealReader end
+unfolding end
+end-real s i = cond-real (leb (length s) i) _ (refuse 3 i) tt (refuse-real (Unit {0}) 3 i (omega arith) (omega arith))
+
+code-real : (listed : ℕ → Bool) → RealReader (code listed)
+unfolding code
+code-real listed = guard-real 4 listed byte (omega arith) (omega arith) byte-real
+
+below-real : (n : ℕ) → RealReader (codeBelow n)
+unfolding codeBelow
+below-real n = code-real _
+
+name-real : RealReader name
+unfolding name
+name-real = bind-real _ _ (guard-real 5 _ byte (omega arith) (omega arith) byte-real) (λ n. guard-real 5 nameBytes (bytes n) (omega arith) (omega arith) (bytes-real n))
+
+name-if-real : (b : Bool) → RealReader (nameIf b)
+unfolding nameIf
+name-if-real true = name-real
+name-if-real false = pure-real []
+
+value-if-real : (b : Bool) → RealReader (valueIf b)
+unfolding valueIf
+value-if-real true = below-real 2
+value-if-real false = pure-real 0
+
+numbers-real : (k : ℕ) → RealReader (numbers k)
+unfolding numbers
+numbers-real zero = pure-real []
+numbers-real (suc k) = bind-real _ _ number-real (λ n. bind-real _ _ (numbers-real k) (λ ns. pure-real (n ∷ ns)))
+
+node-real : (listed : ℕ → Bool) (ns : List Node) → RealReader (node listed ns)
+unfolding node
+node-real listed ns =
+    bind-real _ _ (guard-real 6 _ (code listed) (omega arith) (omega arith) (code-real listed))
+    (λ k. bind-real _ _ (name-if-real _) (λ n. bind-real _ _ (value-if-real _) (λ v. bind-real _ _ (numbers-real _) (λ ins. pure-real _))))
+
+nodes-from-real : (listed : ℕ → Bool) (k : ℕ) (ns : List Node) → RealReader (nodesFrom listed k ns)
+unfolding nodesFrom
+nodes-from-real listed zero ns = pure-real ns
+nodes-from-real listed (suc k) ns = bind-real _ _ (node-real listed ns) (λ n. nodes-from-real listed k (ns ++ (n ∷ [])))
+
+nodes-real : (listed : ℕ → Bool) → RealReader (nodes listed)
+unfolding nodes
+nodes-real listed = bind-real _ _ (guard-real 6 _ number (omega arith) (omega arith) number-real) (λ n. nodes-from-real listed n [])
+
+enable-real : (c : ℕ) → RealReader (enableFor c)
+unfolding enableFor
+enable-real zero = pure-real none
+enable-real (suc c) = bind-real _ _ number-real (λ signal. pure-real _)
+
+reset-real : (c : ℕ) → RealReader (resetFor c)
+unfolding resetFor
+reset-real zero = pure-real none
+reset-real (suc c) = bind-real _ _ number-real (λ signal. bind-real _ _ (below-real 2) (λ kind. bind-real _ _ (below-real 2) (λ value. pure-real _)))
+
+register-real : RealReader register
+unfolding register
+register-real =
+    bind-real _ _ name-real (λ n. bind-real _ _ number-real (λ output. bind-real _ _ number-real (λ input. bind-real _ _ number-real (λ clock.
+    bind-real _ _ (below-real 2) (λ edge. bind-real _ _ (below-real 3) (λ e. bind-real _ _ (enable-real e) (λ enable.
+    bind-real _ _ (below-real 3) (λ r. bind-real _ _ (reset-real r) (λ reset. pure-real _)))))))))
+
+registers-from-real : (one : Reader Register) → RealReader one → (k : ℕ) (rs : List Register) → RealReader (registersFrom one k rs)
+unfolding registersFrom
+registers-from-real one h zero rs = pure-real rs
+registers-from-real one h (suc k) rs = bind-real _ _ h (λ r. registers-from-real one h k (rs ++ (r ∷ [])))
+
+registers-real : (one : Reader Register) → RealReader one → RealReader (registers one)
+unfolding registers
+registers-real one h = bind-real _ _ (guard-real 6 _ number (omega arith) (omega arith) number-real) (λ n. registers-from-real one h n [])
+
+version-real : RealReader version1
+unfolding version1
+version-real =
+    bind-real _ _ name-real (λ n. bind-real _ _ (nodes-real _) (λ ns. bind-real _ _ (registers-real register register-real) (λ rs. bind-real _ _ end-real (λ e. pure-real _))))
+
+finished-real : (r : Step Design) → RealStep r → RealRead (finished r)
+unfolding finished
+finished-real (got d i) h = tt
+finished-real (refused r) h = h
+
+fields-real : (s : List ℕ) (v : ℕ) (b : Bool) → RealRead (parseFields s (cond b (some version1) none))
+unfolding parseFields
+fields-real s v true = finished-real (version1 s 5) (version-real s 5)
+fields-real s v false = finished-real (refuse 2 0) (refuse-real Design 2 0 (omega arith) (omega arith))
+
+sized-real : (s : List ℕ) (b : Bool) → RealRead (parseSized s b)
+unfolding parseSized versionOf
+sized-real s false = finished-real (refuse 1 0) (refuse-real Design 1 0 (omega arith) (omega arith))
+sized-real s true = fields-real s (getD s 0 0) (eqb (getD s 0 0) 1)
+
+parse-real : (s : List ℕ) → RealRead (parse s)
+unfolding parse
+parse-real s = sized-real s (lengthFits s)
+
+-- ---- the checks of a design and of a pair
+
+if-real : (n side place : ℕ) (b : Bool) → 1 ≤ n → n ≤ 25 → RealOption (refuseIf n side place b)
+unfolding refuseIf
+if-real n side place true l h = record { low = l; high = h }
+if-real n side place false l h = tt
+
+or-real : (x y : Option Refusal) → RealOption x → RealOption y → RealOption (x otherwise y)
+unfolding _otherwise_
+or-real none y h k = k
+or-real (some r) y h k = h
+
+real-nodes : (i : ℕ) (names : List Name) (ns : List Node) → RealOption (nodesFault i names ns)
+unfolding nodesFault nodeFault
+real-nodes i names [] = tt
+real-nodes i names (n ∷ ns) = or-real _ _ (or-real _ _ (if-real 7 0 i _ (omega arith) (omega arith)) (if-real 8 0 i _ (omega arith) (omega arith))) (real-nodes _ _ ns)
+
+real-registers : (nodes : List Node) (i : ℕ) (names : List Name) (taken : List ℕ) (rs : List Register) → RealOption (registersFault nodes i names taken rs)
+unfolding registersFault registerFault
+real-registers nodes i names taken [] = tt
+real-registers nodes i names taken (r ∷ rs) =
+    or-real _ _
+    (or-real _ _ (if-real 9 0 i _ (omega arith) (omega arith)) (or-real _ _ (if-real 10 0 i _ (omega arith) (omega arith))
+    (or-real _ _ (if-real 11 0 i _ (omega arith) (omega arith)) (if-real 12 0 i _ (omega arith) (omega arith)))))
+    (real-registers nodes _ _ _ rs)
+
+real-connection : (rs : List Register) (i : ℕ) (ns : List Node) → RealOption (connectionFault rs i ns)
+unfolding connectionFault
+real-connection rs i [] = tt
+real-connection rs i (n ∷ ns) = or-real _ _ (if-real 13 0 i _ (omega arith) (omega arith)) (real-connection rs (suc i) ns)
+
+real-reset : (rs : List Register) (i : ℕ) (ns : List Node) → RealOption (resetFault rs i ns)
+unfolding resetFault
+real-reset rs i [] = tt
+real-reset rs i (n ∷ ns) = or-real _ _ (if-real 14 0 i _ (omega arith) (omega arith)) (real-reset rs (suc i) ns)
+
+real-clock : (nodes : List Node) (i : ℕ) (rs : List Register) → RealOption (clockFault nodes i rs)
+unfolding clockFault
+real-clock nodes i [] = tt
+real-clock nodes i (r ∷ rs) = or-real _ _ (if-real 15 0 i _ (omega arith) (omega arith)) (real-clock nodes (suc i) rs)
+
+real-validate : (d : Design) → RealOption (validate d)
+unfolding validate
+real-validate d = or-real _ _ (real-nodes 0 [] _) (or-real _ _ (real-registers _ 0 [] [] _) (or-real _ _ (real-connection _ 0 _) (or-real _ _ (real-reset _ 0 _) (real-clock _ 0 _))))
+
+judged-real : (d : Design) (o : Option Refusal) → RealOption o → RealRead (judged d o)
+unfolding judged
+judged-real d none h = tt
+judged-real d (some r) h = h
+
+validated-real : (r : Read) → RealRead r → RealRead (validated r)
+unfolding validated
+validated-real (parsed d) h = judged-real d (validate d) (real-validate d)
+validated-real (refusedRecord r) h = h
+
+-- every refusal of a record
+read-real : (s : List ℕ) → RealRead (readRecord s)
+unfolding readRecord
+read-real s = validated-real (parse s) (parse-real s)
+
+real-resets : (side : ℕ) (rs : List Register) (ps : List Place) → RealOption (resetsFault side rs ps)
+unfolding resetsFault
+real-resets side rs [] = tt
+real-resets side rs (p ∷ ps) = or-real _ _ (if-real 22 side (p .number) _ (omega arith) (omega arith)) (real-resets side rs ps)
+
+real-fault : (gold gate : Design) (D : ℕ) (lent : Lent) → RealOption (checkFault gold gate D lent)
+unfolding checkFault interfaceFault initialFault
+real-fault gold gate D lent =
+    or-real _ _ (if-real 16 0 0 _ (omega arith) (omega arith)) (or-real _ _ (if-real 17 0 0 _ (omega arith) (omega arith))
+    (or-real _ _
+    (or-real _ _ (if-real 18 0 0 _ (omega arith) (omega arith)) (or-real _ _ (if-real 19 0 0 _ (omega arith) (omega arith)) (or-real _ _ (if-real 20 0 0 _ (omega arith) (omega arith))
+    (or-real _ _ (if-real 20 1 0 _ (omega arith) (omega arith)) (if-real 21 0 0 _ (omega arith) (omega arith))))))
+    (or-real _ _ (or-real _ _ (real-resets 0 _ _) (real-resets 1 _ _)) (or-real _ _ (if-real 23 0 0 _ (omega arith) (omega arith)) (if-real 24 0 0 _ (omega arith) (omega arith))))))
+
+-- the same of two
+abbrev RealPair : ReadPair → Type 0
+RealPair (both gold gate) = Unit {0}
+RealPair (refusedPair r) = Real r
+
+gate-real : (gold : Design) (r : Read) → RealRead r → RealPair (withGate gold r)
+unfolding withGate onGate
+gate-real gold (parsed gate) h = tt
+gate-real gold (refusedRecord r) h = record { low = h .low; high = h .high }
+
+gold-real : (r : Read) (b : List ℕ) → RealRead r → RealPair (withGold r b)
+unfolding withGold
+gold-real (parsed gold) b h = gate-real gold (readRecord b) (read-real b)
+gold-real (refusedRecord r) b h = h
+
+of-real : (p : ReadPair) (D : ℕ) (lent : Lent) → RealPair p → RealOption (checkRefusalOf p D lent)
+unfolding checkRefusalOf
+of-real (refusedPair r) D lent h = h
+of-real (both gold gate) D lent h = real-fault gold gate D lent
+
+-- every refusal of a check
+pub check-real : (a b : List ℕ) (D : ℕ) (lent : Lent) (r : Refusal) → checkRefusal a b D lent ≡ some r → Real r
+unfolding checkRefusal readPair
+check-real a b D lent r e = subst RealOption e (of-real (withGold (readRecord a) b) D lent (gold-real (readRecord a) b (read-real a)))

@@ -1,0 +1,5 @@
+-- Records: what the reader leaves, and what an accepted design has. Assumes nothing.
+pub mod Reader
+pub mod Limits
+pub mod Accepted
+pub mod Valid

@@ -1,0 +1,156 @@
+-- The words of `Promises` that `model` does not have: what a give-up is, and what a call leaves. Definitions only, over `model` alone. Assumes nothing.
+use Prim.Native.Nat.{ℕ, suc, _+_, _*_, _≤_, _<_}
+use mathlib.Core.Path.{_≡_}
+use mathlib.Core.Logic.{_≢_, _⊎_}
+use mathlib.Core.Bool.{Bool, true, false, xor}
+use mathlib.Core.List.{List, [], _∷_, _++_}
+use lib.ListN.{length, drop}
+use lib.Ieee.{Float}
+use Rattle.model.specs.Answers.{Refusal, accepted, Status, statusNumber, CheckAnswer}
+use Rattle.model.specs.Answers as Answers
+use Rattle.model.specs.Netlist.{Design, inputCount}
+use Rattle.model.specs.Run.{StoredBits, bitAt, outputsAt, initialBits}
+use Rattle.model.specs.Pair.{both, readPair}
+use Rattle.model.specs.Replay.{claimBit, claimInputs, differAt, replay}
+use Rattle.model.specs.Induction.{Says, Query1, Query2, Query3, Query4}
+use Rattle.model.specs.Literal.{Literal}
+use Rattle.model.specs.Aig.{Aig}
+use Rattle.model.specs.Sat.{Clause, Solver, decisionLevel, conflict, propagate, Analysis, resolved, analyze, Answer, model, noModel, gaveUp, outOfFuel, searching, step, start, encode}
+use Rattle.model.specs.Equivalence.{Problem, Query, baseCounterexample, basePreservesNamedState, inductionCloses, ask}
+use Rattle.model.specs.Check.{check}
+
+-- ---- refusals, and the numbers of a call
+
+-- a refusal with one of document 01's numbers
+pub record Real (r : Refusal) : Type 0 where
+  pub low : 1 ≤ r .number
+  pub high : r .number ≤ 25
+
+-- an accepted answer's number, status and depth
+pub record Numbered (c : CheckAnswer) (status : Status) (d : ℕ) : Type 0 where
+  pub number : c .number ≡ 0
+  pub status-number : c .status ≡ statusNumber status
+  pub depth : c .depth ≡ d
+
+-- an accepted call: the designs of both records, and the status and depth that its numbers are; the status is what k-induction says unless it is GaveUp
+pub record Called (a b : List ℕ) (D : ℕ) (trace words : List ℕ) (scores : List Float) : Type 0 where
+  pub gold : Design
+  pub gate : Design
+  pub pair : readPair a b ≡ both gold gate
+  pub status : Status
+  pub depth : ℕ
+  pub numbered : Numbered (check a b D trace words scores .answer) status depth
+  pub says : status ≢ Answers.GaveUp → Says gold gate (initialBits gold) (initialBits gate) D status depth
+
+-- bytes written at the front of the trace buffer, which replay answers with yes
+pub record TraceLeft (a b : List ℕ) (D : ℕ) (trace words : List ℕ) (scores : List Float) : Type 0 where
+  pub bytes : List ℕ
+  pub fits : length bytes ≤ length trace
+  pub written : check a b D trace words scores .trace ≡ bytes ++ drop (length bytes) trace
+  pub yes : replay a b (check a b D trace words scores .answer .mismatch) bytes ≡ record { refusal = accepted; yes = true }
+
+-- ---- replay
+
+-- a yes: agreement before, exactly the marked differences in the claimed cycle, and at least one
+pub record Yes (gold gate : Design) (s t : StoredBits) (cycle : ℕ) (claim : List ℕ) : Type 0 where
+  pub agree : (c : ℕ) → c < cycle → differAt gold gate s t (claimInputs gold claim) c ≡ false
+  pub marked : (j : ℕ) → j < length (outputsAt gold s (claimInputs gold claim) cycle) → xor (bitAt (outputsAt gold s (claimInputs gold claim) cycle) j) (bitAt (outputsAt gate t (claimInputs gold claim) cycle) j) ≡ claimBit claim (suc cycle * inputCount gold + j)
+  pub differ : differAt gold gate s t (claimInputs gold claim) cycle ≡ true
+
+-- ---- the search of a query
+
+-- an answer that the limit and the rounds did not cut short
+abbrev pub Settled : Answer → Type 0
+Settled (model values n) = Unit {0}
+Settled (noModel n) = Unit {0}
+Settled (gaveUp n) = ⊥
+Settled (outOfFuel n) = ⊥
+
+-- the total of an answer
+unfoldable pub answerTotal : Answer → ℕ
+answerTotal (model values n) = n
+answerTotal (noModel n) = n
+answerTotal (gaveUp n) = n
+answerTotal (outOfFuel n) = n
+
+-- the number of literals of all clauses
+unfoldable pub literalCount : List Clause → ℕ
+literalCount [] = 0
+literalCount (c ∷ cs) = length (c .literals) + literalCount cs
+
+-- the search of a query comes to this state
+pub data Reached (limit : ℕ) (g : Aig) (assumptions : List Literal) : Solver → Type 0 where
+  begun : {s : Solver} → start (encode g assumptions) ≡ searching s → Reached limit g assumptions s
+  stepped : {s t : Solver} → Reached limit g assumptions s → step limit s ≡ searching t → Reached limit g assumptions t
+
+-- propagation ends in a conflict above level 0, and the clause that `analyze` learns of it would bring the total above the limit
+pub record Overflows (limit : ℕ) (s : Solver) : Type 0 where
+  pub clause : ℕ
+  pub after : Solver
+  pub stopped : propagate s ≡ conflict clause after
+  pub level : ℕ
+  pub decided : decisionLevel (after .assignment) ≡ suc level
+  pub analysis : Analysis
+  pub pivot : Literal
+  pub analyzed : analyze after clause ≡ resolved analysis pivot
+  pub above : limit < s .learned + suc (length (analysis .learned))
+
+-- the search gives up in a state that it reaches, where the next clause would pass the limit; its total is k
+pub record GivesUp (limit : ℕ) (g : Aig) (assumptions : List Literal) (k : ℕ) : Type 0 where
+  pub state : Solver
+  pub reached : Reached limit g assumptions state
+  pub overflows : Overflows limit state
+  pub total : state .learned ≡ k
+
+-- ---- the whole check
+
+-- the four queries of depth d, by their numbers
+pub data QueryOf (p : Problem) (d : ℕ) : ℕ → Query → Type 0 where
+  query-1 : QueryOf p d 1 (baseCounterexample p d)
+  query-2 : QueryOf p d 2 (basePreservesNamedState p d)
+  query-3 : QueryOf p d 3 (inductionCloses p true d)
+  query-4 : QueryOf p d 4 (inductionCloses p false d)
+
+-- the question that a query asks, from the initial states
+abbrev pub Asks : (gold gate : Design) (p : Problem) (d k : ℕ) (q : Query) → QueryOf p d k q → Type 0
+Asks gold gate p d k q query-1 = Query1 gold gate (initialBits gold) (initialBits gate) d
+Asks gold gate p d k q query-2 = Query2 gold gate (initialBits gold) (initialBits gate) d
+Asks gold gate p d k q query-3 = Query3 gold gate d
+Asks gold gate p d k q query-4 = Query4 gold gate d
+
+-- the query has no model
+abbrev pub NoModel : ℕ → Query → Type 0
+NoModel limit q = (n : ℕ) × (ask limit q ≡ noModel n)
+
+-- the query has a model
+abbrev pub Model : ℕ → Query → Type 0
+Model limit q = (values : List Bool) × (n : ℕ) × (ask limit q ≡ model values n)
+
+-- the query's search comes to a conflict whose clause would bring its total above the limit
+abbrev pub Exceeds : ℕ → Query → Type 0
+Exceeds limit q = (n : ℕ) × GivesUp limit (q .aig) (q .assumptions) n
+
+-- induction over the named states does not close at depth d: they can differ, or they are kept and query 3 has a model
+abbrev pub NamedOpen : ℕ → Problem → ℕ → Type 0
+NamedOpen limit p d =
+    Model limit (basePreservesNamedState p d) ⊎ (NoModel limit (basePreservesNamedState p d) × Model limit (inductionCloses p true d))
+
+-- every query of depth d that is asked was answered without deciding
+pub record Passed (limit : ℕ) (p : Problem) (d : ℕ) : Type 0 where
+  pub first : NoModel limit (baseCounterexample p d)
+  pub named : NamedOpen limit p d
+  pub last : Model limit (inductionCloses p false d)
+
+-- the earlier queries of depth d were answered without deciding, and this one exceeds the limit
+pub data Stops (limit : ℕ) (p : Problem) (d : ℕ) : ℕ → Type 0 where
+  at-query-1 : Exceeds limit (baseCounterexample p d) → Stops limit p d 1
+  at-query-2 : NoModel limit (baseCounterexample p d) → Exceeds limit (basePreservesNamedState p d) → Stops limit p d 2
+  at-query-3 : NoModel limit (baseCounterexample p d) → NoModel limit (basePreservesNamedState p d) → Exceeds limit (inductionCloses p true d) → Stops limit p d 3
+  at-query-4 : NoModel limit (baseCounterexample p d) → NamedOpen limit p d → Exceeds limit (inductionCloses p false d) → Stops limit p d 4
+
+-- the check gives up at depth d in query q: no depth before it decides, and there it stops
+pub record StopsAt (limit : ℕ) (p : Problem) (D d q : ℕ) : Type 0 where
+  pub low : 1 ≤ d
+  pub high : d ≤ D
+  pub passed : (e : ℕ) → 1 ≤ e → e < d → Passed limit p e
+  pub stops : Stops limit p d q
