@@ -3,12 +3,13 @@ use mathlib.Core.Path.{_≡_, refl, ap, sym, _∙_}
 use mathlib.Core.Bool.{Bool, true, false, _||_, cond}
 use mathlib.Core.List.{List, [], _∷_, _++_}
 use mathlib.Core.Logic.{⊎-elim, _⊎_, inl, inr}
-use Prim.Native.Nat.{ℕ, _+_, _-_, _≤_, _<_}
+use Prim.Native.Nat.{ℕ, zero, suc, _+_, _-_, _≤_, _<_}
 use native.Mathlib.Omega.{arith}
 use native.Mathlib.Numerals.{add-one}
 use lib.Dec.{leb, ltb}
 use borrow.Author.Tests.{leb-true, ltb-true, ltb-false}
 use lib.ListN.{length, take, drop, set, getD, length-take, length-drop, length-set, List·getD-eq-default}
+use Rattle.words.specs.Fill.{filled, filled-suc, filled-none}
 use lib.Seq.{take-set-le, take-set-lt, take-suc-set, drop-set-lt, drop-set-add, getD-take, getD-drop, set-out}
 
 -- how many words the region that starts at `base` has: the one table of sizes
@@ -87,4 +88,37 @@ pub read-out : (b : ℕ) (w : List ℕ) (i : ℕ) → sizeOf b ≤ i → 0 ≡ g
 unfolding region
 read-out b w i h = let k : length (region b w) ≤ i = simp length-take (omega arith) in rw List·getD-eq-default
 
-pub ruleset stores = (stored-in, stored-out)
+-- ---- clearing
+
+-- the words with the first n of a region 0; as a store, nothing past the region's end
+unfoldable pub cleared : ℕ → List ℕ → ℕ → List ℕ
+cleared b w zero = w
+cleared b w (suc n) = stored b (cleared b w n) n 0
+
+pub cleared-none : (b : ℕ) (w : List ℕ) → cleared b w 0 ≡ w
+unfolding cleared
+cleared-none b w = refl
+
+-- one word more
+pub cleared-more : (b : ℕ) (w : List ℕ) (n : ℕ) → stored b (cleared b w n) n 0 ≡ cleared b w (n + 1)
+unfolding cleared
+cleared-more b w n = rw add-one
+
+-- inside
+pub cleared-in : (b : ℕ) (w : List ℕ) (n : ℕ) → region b (cleared b w n) ≡ filled 0 n (region b w)
+unfolding cleared
+cleared-in b w zero = sym (filled-none 0 (region b w))
+cleared-in b w (suc n) = stored-in b (cleared b w n) n 0 ∙ ap (λ (xs : List ℕ). set xs n 0) (cleared-in b w n) ∙ filled-suc 0 n (region b w)
+
+-- the frame
+pub cleared-out : (b : ℕ) (w : List ℕ) (b′ n : ℕ) → apart b b′ ≡ true → region b (cleared b′ w n) ≡ region b w
+unfolding cleared
+cleared-out b w b′ zero e = refl
+cleared-out b w b′ (suc n) e = stored-out b (cleared b′ w n) b′ n 0 e ∙ cleared-out b w b′ n e
+
+pub length-cleared : (b : ℕ) (w : List ℕ) (n : ℕ) → length (cleared b w n) ≡ length w
+unfolding cleared
+length-cleared b w zero = refl
+length-cleared b w (suc n) = length-stored b (cleared b w n) n 0 ∙ length-cleared b w n
+
+pub ruleset stores = (stored-in, stored-out, cleared-in, cleared-out)

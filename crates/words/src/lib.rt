@@ -1,8 +1,11 @@
 // The lent words: the layout of their regions, and total accessors. Everything else reaches lent words through this crate.
 ghost use mathlib.Core.Path.{_≡_};
 ghost use Prim.Native.Nat.{ℕ, _+_, _<_, _≤_};
-ghost use lib.ListN.{length, getD};
-ghost use Rattle.words.specs.Region.{region, sizeOf, stored};
+ghost use lib.ListN.{length, getD, replicate};
+ghost use lib.Ieee.{fin};
+ghost use lib.IntN.{pos};
+ghost use mathlib.Core.Bool.{false};
+ghost use Rattle.words.specs.Region.{region, sizeOf, stored, cleared};
 
 // How many words a check is lent at least: 128 units of 65,536.
 pub const LENT: usize = 8388608;
@@ -15,7 +18,7 @@ pub const SMALL: usize = 65536;
 pub const GRAPH_LHS: usize = 0;
 
 pub const GRAPH_RHS: usize = 65536;
-// The next node with the same larger literal, plus one; 0 at the end of a chain.
+// The node before it with the same larger literal; 0 at the end of a chain, since node 0 is no conjunction.
 pub const AND_NEXT: usize = 131072;
 // The transition graphs of gold and gate, laid out as the proof graph.
 pub const GOLD_LHS: usize = 196608;
@@ -25,7 +28,7 @@ pub const GOLD_RHS: usize = 262144;
 pub const GATE_LHS: usize = 327680;
 
 pub const GATE_RHS: usize = 393216;
-// The literal in the proof graph of each node of an imported graph.
+// The literal in the proof graph of each node of an imported graph; while a design is lowered, the variable of each register output by its net.
 pub const IMPORTED: usize = 458752;
 // The literals of inputs, outputs and mismatches of each cycle.
 pub const FRAMES: usize = 524288;
@@ -52,7 +55,7 @@ pub const LEARNED: usize = 1114112;
 
 pub const DOUBLE: usize = 131072;
 
-// The newest node with this larger literal, plus one; 0 where there is none.
+// The newest node with this larger literal; 0 where there is none.
 pub const AND_HEADS: usize = 1572864;
 // The watch queue of each literal: its first and last cell, and how many it has.
 pub const WATCH_HEADS: usize = 1703936;
@@ -100,5 +103,39 @@ pub fn stash(words: &mut [u32], base: usize, size: usize, i: usize, value: u32)
 {
     if i < size {
         words[base + i] = value;
+    }
+}
+
+// Clears the first `n` words of the region at `base`, of `size` words; nothing past its end.
+pub fn clear(words: &mut [u32], base: usize, size: usize, n: usize)
+    requires { ⌜ (8388608 ≤ length (now words)) × (base + size ≤ 8388608) × (size ≡ sizeOf base) ⌝ }
+    ensures { λ _. ⌜ (now (words .exit) ≡ cleared base (now (words .entry)) n) × (8388608 ≤ length (now (words .exit))) ⌝ }
+{
+    let mut i: usize = 0;
+    while i < n {
+        stash(words, base, size, i, 0);
+        i += 1;
+    }
+}
+
+// Clears all words, whatever their number.
+pub fn clear_words(words: &mut [u32])
+    ensures { λ _. ⌜ now (words .exit) ≡ replicate (length (now (words .entry))) 0 ⌝ }
+{
+    let mut i: usize = 0;
+    while i < words.len() {
+        words[i] = 0;
+        i += 1;
+    }
+}
+
+// Clears all scores, whatever their number.
+pub fn clear_scores(scores: &mut [f64])
+    ensures { λ _. ⌜ now (scores .exit) ≡ replicate (length (now (scores .entry))) (fin false 0 (pos 0)) ⌝ }
+{
+    let mut i: usize = 0;
+    while i < scores.len() {
+        scores[i] = 0.0;
+        i += 1;
     }
 }

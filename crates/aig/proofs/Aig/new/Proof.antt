@@ -1,0 +1,17 @@
+-- `aig::Aig::new` meets its contract. Assumes nothing.
+use mathlib.Core.Path.{_≡_, refl}
+use Rattle.aig.specs.Made.{emptied, graph-new, ready-new, same-new}
+use borrow.Author.Needs.{needs}
+use Rattle.aig.proofs.Aig.new.Statement.{statement}
+use Rattle.aig.proofs.Aig.new.Tie as tie
+
+returns : tie.Need-returns
+returns c =
+    let a = c .before .before .before .before .before .before .before .before .before .before .before .before .before .before in
+    let e : c .before .before .stash2 .last .0 ≡ emptied (a .args .words .now) (a .args .used) = cc in
+    (refl, rw e (graph-new (a .args .used) _ (a .pre .0) (a .pre .2)), rw e (ready-new (a .args .used) _ (a .pre .0) (a .pre .2)), rw e (same-new (a .args .used) _ (a .pre .0) (a .pre .2)))
+
+pub new-spec : {M : Type 1} → statement M
+new-spec =
+    tie.close
+    (tie.spec (λ c κs. search needs) (λ c. search needs) (λ c κs. search needs) (λ c κs. search needs) (λ c κs. search needs) (λ c. search needs) returns)

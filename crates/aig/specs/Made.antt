@@ -1,0 +1,235 @@
+-- What an operation on the proof graph in lent words leaves: the model's graph and literal, the chains, and every other region as it was. Assumes nothing.
+use mathlib.Core.Path.{_≡_, refl, ap, sym, _∙_}
+use mathlib.Core.Bool.{Bool, true, false, _&&_, cond, false≢true}
+use mathlib.Core.List.{List}
+use mathlib.Core.Option.{none}
+use Prim.Native.Nat.{ℕ, zero, suc, _+_, _*_, _≤_, _<_}
+use native.Mathlib.Omega.{arith}
+use lib.ListN.{length, getD, set}
+use lib.Seq.{getD-set-same}
+use lib.Dec.{eqb, ltb}
+use borrow.Author.Tests.{ltb-true, ltb-false}
+use Rattle.words.specs.Region.{region, apart, stored, cleared, stores, length-region, length-stored, length-cleared, read-out}
+use Rattle.words.specs.Fill.{filled, getD-filled, getD-filled-past}
+use Rattle.model.specs.Lists.{snoc}
+use Rattle.model.specs.Aig.{Node, Variable, And, Built, new, variable, andFound}
+use Rattle.aig.specs.Graph.{nodeOf, nodesOf, graphAt, graphOf, nodes-more, length-graph, ordered-le}
+use Rattle.aig.specs.Index.{Indexed, latest, latest-suc-other, lastAnd, indexed-variable, indexed-and}
+
+-- ---- the frame
+
+-- the region at b is none of the proof graph's four
+abbrev pub outside : ℕ → Bool
+outside b = apart b 0 && (apart b 65536 && (apart b 131072 && apart b 1572864))
+
+-- the regions that pass the test are as they were
+pub record Same (p : ℕ → Bool) (w w′ : List ℕ) : Type 0 where
+  pub at : (b : ℕ) → p b ≡ true → region b w′ ≡ region b w
+
+pub same-refl : (p : ℕ → Bool) (w : List ℕ) → Same p w w
+same-refl p w = record { at = λ b _. refl }
+
+pub same-trans : {p : ℕ → Bool} {w w′ w″ : List ℕ} → Same p w w′ → Same p w′ w″ → Same p w w″
+same-trans f g = record { at = λ b e. g .at b e ∙ f .at b e }
+
+pub both : (s t : Bool) → (s && t) ≡ true → (s ≡ true) × (t ≡ true)
+both true t e = (refl, e)
+both false t e = absurd (false≢true e)
+
+-- the four tests of `outside`
+pub outside-parts : (b : ℕ) → outside b ≡ true → (apart b 0 ≡ true) × (apart b 65536 ≡ true) × (apart b 131072 ≡ true) × (apart b 1572864 ≡ true)
+outside-parts b e =
+    let p : (apart b 0 ≡ true) × ((apart b 65536 && (apart b 131072 && apart b 1572864)) ≡ true) = both _ _ e in
+    let q : (apart b 65536 ≡ true) × ((apart b 131072 && apart b 1572864) ≡ true) = both _ _ (p .1) in
+    let r : (apart b 131072 ≡ true) × (apart b 1572864 ≡ true) = both _ _ (q .1) in
+    (p .0, q .0, r .0, r .1)
+
+-- ---- the graph in the words
+
+-- the words are long enough, and hold n nodes, node 0 among them, with their chains
+pub record Ready (n : ℕ) (w : List ℕ) : Type 0 where
+  pub positive : 0 < n
+  pub long : 8388608 ≤ length w
+  pub indexed : Indexed n (region 0 w) (region 65536 w) (region 131072 w) (region 1572864 w)
+
+-- From n nodes in w an operation made m, in w′ with n′ nodes: at most k more.
+pub record Made (k n : ℕ) (w : List ℕ) (n′ : ℕ) (w′ : List ℕ) (literal : ℕ) (m : Built) : Type 0 where
+  pub built : record { aig = graphOf n′ w′; literal = literal } ≡ m
+  pub ready : Ready n′ w′
+  pub same : Same outside w w′
+  pub grows : n ≤ n′
+  pub within : n′ ≤ n + k
+  pub below : literal < n′ * 2
+
+-- no node more
+pub made-none : (k n : ℕ) (w : List ℕ) (literal : ℕ) (m : Built) → Ready n w → literal < n * 2 → record { aig = graphOf n w; literal = literal } ≡ m → Made k n w n w literal m
+made-none k n w literal m ready below e =
+    record { built = e; ready = ready; same = same-refl outside w; grows = omega arith; within = omega arith; below = below }
+
+-- the four lengths that a store needs
+long-graph : (w : List ℕ) → 8388608 ≤ length w → (length (region 0 w) ≡ 65536) × (length (region 65536 w) ≡ 65536) × (length (region 131072 w) ≡ 65536) × (length (region 1572864 w) ≡ 131072)
+long-graph w h = (length-region 0 w (omega arith), length-region 65536 w (omega arith), length-region 131072 w (omega arith), length-region 1572864 w (omega arith))
+
+-- the words after a new variable
+abbrev pub pushedVariable : List ℕ → ℕ → List ℕ
+pushedVariable w n = stored 65536 (stored 0 w n 0) n 0
+
+-- the words after a new conjunction: the head of its chain becomes its next
+abbrev pub pushedAnd : List ℕ → ℕ → ℕ → ℕ → List ℕ
+pushedAnd w n l r =
+    stored 1572864 (stored 131072 (stored 65536 (stored 0 w n l) n r) n (getD (region 1572864 (stored 65536 (stored 0 w n l) n r)) r 0)) r n
+
+-- the stores of a new conjunction, one after another
+pub pushed-is : (w w₁ w₂ w₃ w₄ : List ℕ) (n at chain head l r : ℕ) → at ≡ n → w₁ ≡ stored 0 w at l → w₂ ≡ stored 65536 w₁ at r
+    → chain ≡ r → head ≡ getD (region 1572864 w₂) chain 0 → w₃ ≡ stored 131072 w₂ at head → w₄ ≡ stored 1572864 w₃ chain n → w₄ ≡ pushedAnd w n l r
+pushed-is w w₁ w₂ w₃ w₄ n at chain head l r p a b q h c d = cc
+
+variable-of : (i : ℕ) → 0 < i → nodeOf i 0 0 ≡ Variable i
+unfolding nodeOf
+variable-of zero h = absurd (omega arith)
+variable-of (suc i) h = refl
+
+and-of : (i l r : ℕ) → 0 < i → 0 < r → nodeOf i l r ≡ And l r
+unfolding nodeOf
+and-of zero l r h k = absurd (omega arith)
+and-of (suc i) l zero h k = absurd (omega arith)
+and-of (suc i) l (suc r) h k = refl
+
+module _ (n : ℕ) (w : List ℕ) (ready : Ready n w) (room : n < 65536) where
+  graph-variable : graphOf (n + 1) (pushedVariable w n) ≡ snoc (graphOf n w) (Variable n)
+  unfolding graphAt
+  graph-variable =
+      let s = long-graph w (ready .long) in
+      simp stores (nodes-more n (region 0 w) (region 65536 w) 0 0 (omega arith) (omega arith)
+      ∙ ap (λ (x : Node). snoc (nodesOf n (region 0 w) (region 65536 w)) x) (variable-of n (ready .positive)))
+
+  ready-variable : Ready (n + 1) (pushedVariable w n)
+  ready-variable =
+      let s = long-graph w (ready .long) in
+      record {
+        positive = omega arith;
+        long = simp length-stored (ready .long);
+        indexed = simp stores (indexed-variable n _ _ _ _ (ready .indexed) (omega arith) (omega arith));
+      }
+
+  -- a new variable
+  pub made-variable : Made 1 n w (n + 1) (pushedVariable w n) (n * 2) (variable (graphOf n w))
+  unfolding variable
+  made-variable =
+      record {
+        built = rw (graph-variable, length-graph);
+        ready = ready-variable;
+        same = record { at = λ b e. let q = outside-parts b e in simp (stores, q .0, q .1) };
+        grows = omega arith;
+        within = omega arith;
+        below = omega arith;
+      }
+
+  module _ (l r : ℕ) (h0 : 0 < r) (hl : l < n * 2) (hr : r < n * 2) where
+    graph-and : graphOf (n + 1) (pushedAnd w n l r) ≡ snoc (graphOf n w) (And l r)
+    unfolding graphAt
+    graph-and =
+        let s = long-graph w (ready .long) in
+        simp stores (nodes-more n (region 0 w) (region 65536 w) l r (omega arith) (omega arith)
+        ∙ ap (λ (x : Node). snoc (nodesOf n (region 0 w) (region 65536 w)) x) (and-of n l r (ready .positive) h0))
+
+    ready-and : lastAnd (region 0 w) (region 65536 w) l r n ≡ 0 → Ready (n + 1) (pushedAnd w n l r)
+    ready-and fresh =
+        let s = long-graph w (ready .long) in
+        record {
+          positive = omega arith;
+          long = simp length-stored (ready .long);
+          indexed = simp stores (indexed-and n _ _ _ _ (ready .indexed) (omega arith) (omega arith) l r (omega arith) (omega arith) (omega arith) h0 hl hr fresh);
+        }
+
+    -- a new conjunction
+    pub made-and : lastAnd (region 0 w) (region 65536 w) l r n ≡ 0 → Made 1 n w (n + 1) (pushedAnd w n l r) (n * 2) (andFound (graphOf n w) l r none)
+    unfolding andFound
+    made-and fresh =
+        record {
+          built = rw (graph-and, length-graph);
+          ready = ready-and fresh;
+          same = record { at = λ b e. let q = outside-parts b e in simp (stores, q .0, q .1, q .2, q .3) };
+          grows = omega arith;
+          within = omega arith;
+          below = omega arith;
+        }
+
+-- ---- the empty graph
+
+-- only literals of the first `used` nodes have a chain
+pub record HeadsBelow (used : ℕ) (w : List ℕ) : Type 0 where
+  pub none-past : (r : ℕ) → used * 2 ≤ r → getD (region 1572864 w) r 0 ≡ 0
+
+-- every words do, for all nodes that there is room for
+pub heads-all : (w : List ℕ) → HeadsBelow 65536 w
+heads-all w = record { none-past = λ r h. sym (read-out 1572864 w r h) }
+
+latest-one : (rs : List ℕ) (r : ℕ) → latest rs r 1 ≡ 0
+unfolding latest
+latest-one rs r = go (eqb (getD rs 0 0) r)
+  where
+    go : (t : Bool) → _≡_ {A = ℕ} (cond t 0 0) 0
+    go true = refl
+    go false = refl
+
+latest-none : (rs : List ℕ) (r n : ℕ) → ((i : ℕ) → i < n → getD rs i 0 ≤ 2 * i) → n * 2 ≤ r → 0 < n → latest rs r n ≡ 0
+unfolding latest
+latest-none rs r zero below h k = refl
+latest-none rs r (suc zero) below h k = latest-one rs r
+latest-none rs r (suc (suc n)) below h k =
+    latest-suc-other rs r (suc n) (λ e. omega (arith, below (suc n) (omega arith))) ∙ latest-none rs r (suc n) (λ i j. below i (omega arith)) (omega arith) (omega arith)
+
+-- the words of a graph do, for its nodes
+pub heads-ready : (n : ℕ) (w : List ℕ) → Ready n w → HeadsBelow n w
+heads-ready n w ready = record { none-past = λ r h. go r h (ltb r 131072) refl }
+  where
+    go : (r : ℕ) → n * 2 ≤ r → (t : Bool) → ltb r 131072 ≡ t → getD (region 1572864 w) r 0 ≡ 0
+    go r h true e =
+        let p : 0 < n = ready .positive in
+        ready .indexed .heads r (omega arith) (ltb-true r 131072 e) ∙ latest-none (region 65536 w) r n (ordered-le n _ _ (ready .indexed .ordered)) h p
+    go r h false e = sym (read-out 1572864 w r (ltb-false r 131072 e))
+
+-- the words after emptying: the chains cleared, and node 0 the constant
+abbrev pub emptied : List ℕ → ℕ → List ℕ
+emptied w used = stored 65536 (stored 0 (cleared 1572864 w (used * 2)) 0 0) 0 0
+
+module _ (used : ℕ) (w : List ℕ) (long : 8388608 ≤ length w) (clear : HeadsBelow used w) where
+  no-heads : (r : ℕ) → getD (filled 0 (used * 2) (region 1572864 w)) r 0 ≡ 0
+  no-heads r = go (ltb r (used * 2)) refl
+    where
+      go : (t : Bool) → ltb r (used * 2) ≡ t → getD (filled 0 (used * 2) (region 1572864 w)) r 0 ≡ 0
+      go true e = getD-filled 0 (used * 2) (region 1572864 w) r (ltb-true r (used * 2) e)
+      go false e =
+          getD-filled-past 0 (used * 2) (region 1572864 w) r 0 (ltb-false r (used * 2) e) ∙ clear .none-past r (ltb-false r (used * 2) e)
+
+  one-indexed : (ls rs ns : List ℕ) → getD rs 0 0 ≡ 0 → Indexed 1 ls rs ns (filled 0 (used * 2) (region 1572864 w))
+  one-indexed ls rs ns z =
+      record {
+        heads = λ r h k. no-heads r ∙ sym (latest-one rs r);
+        nexts = λ i h k. absurd (ground i h k);
+        once = λ i h k. absurd (ground i h k);
+        ordered = record { at = λ i h k. absurd (ground i h k) };
+      }
+    where
+      ground : (i : ℕ) → i < 1 → 0 < getD rs i 0 → ⊥
+      ground zero h k = omega arith
+      ground (suc i) h k = omega arith
+
+  -- the graph is node 0 alone
+  pub graph-new : graphOf 1 (emptied w used) ≡ new
+  unfolding graphAt nodesOf nodeOf new snoc
+  graph-new = refl
+
+  -- and the words are ready for it
+  pub ready-new : Ready 1 (emptied w used)
+  ready-new =
+      let s = long-graph w long in
+      record {
+        positive = omega arith;
+        long = simp (length-stored, length-cleared) long;
+        indexed = simp stores (one-indexed _ (set (region 65536 w) 0 0) _ (getD-set-same (region 65536 w) 0 0 0 (omega arith)));
+      }
+
+  pub same-new : Same outside w (emptied w used)
+  same-new = record { at = λ b e. let q = outside-parts b e in simp (stores, q .0, q .1, q .3) }

@@ -1,0 +1,123 @@
+-- What the lent words and scores of an analysis stand for: the definition's analysis; and what the functions over them promise. Definitions only.
+use mathlib.Core.Path.{_≡_}
+use mathlib.Core.Bool.{Bool, false, cond}
+use mathlib.Core.List.{List, [], _∷_, map}
+use Prim.Native.Nat.{ℕ, zero, suc, _+_, _<_, _≤_}
+use lib.Dec.{ltb}
+use lib.ListN.{length, getD, replicate}
+use lib.Seq.{slice}
+use lib.Ieee.{Float}
+use Rattle.words.specs.Region.{region}
+use Rattle.model.specs.Sat as Sat
+use Rattle.assignment.specs.State.{wordBit, column, assignmentOf, Unchanged, Ready}
+use Rattle.assignment.specs.Scores.{scoresOf, Fixed, Others}
+use Rattle.assignment.specs.declared.state.Trail.{Trail}
+use Rattle.assignment.specs.declared.state.Activity.{Activity}
+use Rattle.analysis.specs.declared.state.Analysis.{Analysis}
+use Rattle.analysis.specs.declared.state.Analyzed.{Analyzed}
+use Rattle.analysis.specs.declared.state.Bounds.{Bounds}
+
+-- ---- the analysis
+
+-- the variables that are seen
+unfoldable pub seenOf : Trail → List ℕ → List Bool
+seenOf t w = map wordBit (column (t .variables) 917504 w)
+
+-- THE ABSTRACTION: the analysis that the numbers, the words and the scores stand for
+unfoldable pub analysisOf : Trail → Analysis → List ℕ → List Float → Sat.Analysis
+analysisOf t a w s =
+    record {
+      scores = scoresOf (t .variables) (a .activity) s;
+      seen = seenOf t w;
+      learned = column (a .learned) 1114112 w;
+      openAtLevel = a .open_at_level;
+    }
+
+-- the analysis after a literal, which may be skipped
+abbrev pub saw : Sat.Assignment → ℕ → Sat.Analysis → ℕ → Sat.Analysis
+saw t v a l = Sat.seeUnless t a l (Sat.skipped t v a l)
+
+-- ---- what is asked and promised
+
+-- the regions of the analysis
+abbrev pub analysisRegions : List ℕ
+analysisRegions = 917504 ∷ 1114112 ∷ []
+
+-- the words, the scores and the numbers are within the layout, with room for one more literal
+pub record Able (t : Trail) (a : Analysis) (w : List ℕ) (s : List Float) : Type 0 where
+  pub ready : Ready t w
+  pub scores : t .variables ≤ length s
+  pub fixed : Fixed (a .activity)
+  pub room : a .learned < 65536
+  pub few : a .open_at_level < 1152921504606846976
+
+-- of a function that makes the analysis another one, with at most `more` more open
+pub record Sees (more : ℕ) (t : Trail) (a : Analysis) (w : List ℕ) (s : List Float) (b : Sat.Analysis) (r : Analysis) (w′ : List ℕ) (s′ : List Float) : Type 0 where
+  pub is : analysisOf t r w′ s′ ≡ b
+  pub frame : Unchanged analysisRegions w w′
+  pub others : Others (t .variables) s s′
+  pub words : 8388608 ≤ length w′
+  pub fixed : Fixed (r .activity)
+  pub opened : r .open_at_level ≤ a .open_at_level + more
+
+-- ---- clauses
+
+-- the literals of a clause, by its number; none past the count. They lie in the pool between its start and the next one's.
+unfoldable pub literalsAt : ℕ → List ℕ → ℕ → List ℕ
+literalsAt count w id = cond (ltb id count) (slice (getD (region 2097152 w) id 0) (getD (region 2097152 w) (id + 1) 0) (region 4718592 w)) []
+
+-- the clauses from number i on, k of them; which places are watched is of no effect on an analysis
+unfoldable pub clausesFrom : ℕ → ℕ → List ℕ → List Sat.Clause
+clausesFrom zero i w = []
+clausesFrom (suc k) i w = record { literals = slice (getD (region 2097152 w) i 0) (getD (region 2097152 w) (i + 1) 0) (region 4718592 w); watched = (0, 0) } ∷ clausesFrom k (suc i) w
+
+-- the solver as an analysis sees it: the clauses' literals, the assignment and the scores
+unfoldable pub viewOf : ℕ → Trail → Activity → List ℕ → List Float → Sat.Solver
+viewOf count t a w s =
+    record {
+      clauses = clausesFrom count 0 w;
+      watches = [];
+      assignment = assignmentOf t w;
+      scores = scoresOf (t .variables) a s;
+      inconsistent = false;
+      learned = 0;
+    }
+
+-- of `bounds`
+pub record Spans (count : ℕ) (w : List ℕ) (id : ℕ) (r : Bounds) : Type 0 where
+  pub is : slice (r .start) (r .end) (region 4718592 w) ≡ literalsAt count w id
+  pub inside : r .end ≤ 786432
+
+-- ---- rounds
+
+-- of `start`
+pub record Begins (t : Trail) (activity : Activity) (w : List ℕ) (r : Analysis) (w′ : List ℕ) : Type 0 where
+  pub scores : r .activity ≡ activity
+  pub seen : seenOf t w′ ≡ replicate (t .variables) false
+  pub learned : r .learned ≡ 0
+  pub opened : r .open_at_level ≡ 0
+  pub frame : Unchanged analysisRegions w w′
+  pub words : 8388608 ≤ length w′
+
+-- of `close_pivot`
+pub record Closes (t : Trail) (a : Analysis) (w : List ℕ) (p : ℕ) (r : Analysis) (w′ : List ℕ) : Type 0 where
+  pub is : (s : List Float) → analysisOf t r w′ s ≡ Sat.closePivot (analysisOf t a w s) p
+  pub same : r .activity ≡ a .activity
+  pub frame : Unchanged analysisRegions w w′
+  pub words : 8388608 ≤ length w′
+  pub opened : r .open_at_level ≤ a .open_at_level
+  pub learned : r .learned ≡ a .learned
+
+-- the analysis ended, and what it learned fits its region
+abbrev pub Bounded : Sat.Resolution → Type 0
+Bounded (Sat.resolving a i id v) = ⊥
+Bounded (Sat.resolved a p) = length (a .learned) < 65536
+
+-- of `analyze`
+pub record Analyzes (count : ℕ) (t : Trail) (activity : Activity) (id : ℕ) (w : List ℕ) (s : List Float) (r : Analyzed) (w′ : List ℕ) (s′ : List Float) : Type 0 where
+  pub is : Sat.resolved (analysisOf t (r .analysis) w′ s′) (r .pivot) ≡ Sat.analyze (viewOf count t activity w s) id
+  pub frame : Unchanged analysisRegions w w′
+  pub others : Others (t .variables) s s′
+  pub words : 8388608 ≤ length w′
+  pub fixed : Fixed (r .analysis .activity)
+  pub room : r .analysis .learned < 65536

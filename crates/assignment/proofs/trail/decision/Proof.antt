@@ -1,0 +1,23 @@
+use mathlib.Core.Path.{_≡_}
+use Rattle.assignment.specs.DecideLaws.{decision-false, decision-true}
+use lib.ListN.{getD}
+use Rattle.assignment.specs.State.{column}
+use borrow.Author.Needs.{needs}
+use Rattle.assignment.proofs.trail.decision.Statement.{statement}
+use Rattle.assignment.proofs.trail.decision.Tie as tie
+
+-- the word that was read is the variable's
+read : (c : tie.After-fetch-below) → let a = c .before .before .before .args in
+    c .fetch-below .result ≡ getD (column (a .t .variables) 851968 (a .words .now)) (a .variable) 0
+read c = cc
+
+returns : tie.Need-returns
+returns c = decision-false _ _ _ _ (read (c .before)) (c .if1 .taken)
+
+returns-2 : tie.Need-returns-2
+returns-2 c = decision-true _ _ _ _ (read (c .before)) (c .if1 .left)
+
+pub decision-spec : {M : Type 1} → statement M
+decision-spec =
+    tie.close
+    (tie.spec (λ c κs. search needs) (λ c κs. search needs) (λ c. search needs) (λ c. search needs) returns (λ c. search needs) returns-2)

@@ -1,0 +1,18 @@
+use Rattle.assignment.specs.DecideLaws.{news}
+use borrow.Author.Needs.{needs}
+use Rattle.assignment.proofs.trail.new.Statement.{statement}
+use Rattle.assignment.proofs.trail.new.Tie as tie
+
+returns : tie.Need-returns
+returns c =
+    let c4 = c .before .before in
+    let c3 = c4 .before .before .before .before in
+    let c2 = c3 .before .before .before .before in
+    let c1 = c2 .before .before .before .before in
+    let s = c1 .before .before .before in
+    news _ _ _ _ _ _ (s .pre .1) (c1 .clear .ensures) (c2 .clear2 .ensures) (c3 .clear3 .ensures) (c4 .clear4 .ensures)
+
+pub new-spec : {M : Type 1} → statement M
+new-spec =
+    tie.close
+    (tie.spec (λ c κs. search needs) (λ c κs. search needs) (λ c κs. search needs) (λ c κs. search needs) (λ c. search needs) returns)

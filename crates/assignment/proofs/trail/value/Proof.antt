@@ -1,0 +1,30 @@
+use mathlib.Core.Path.{_≡_, sym, _∙_}
+use Prim.Native.Nat.{_/_}
+use lib.ListN.{getD}
+use Rattle.model.specs.Sat as Sat
+use Rattle.model.specs.Literal as Literals
+use Rattle.assignment.specs.State.{assignmentOf, wordValue, column}
+use Rattle.assignment.specs.StateLaws.{value-is, word-unassigned, word-false, word-true}
+use borrow.Author.Needs.{needs}
+use Rattle.assignment.proofs.trail.value.Statement.{statement}
+use Rattle.assignment.proofs.trail.value.Tie as tie
+
+-- the word that was read decides the value
+read : (c : tie.After-fetch-below) → let a = c .before .before .before .args in
+    Sat.value (assignmentOf (a .t) (a .words .now)) (a .literal) ≡ Sat.literalValue (Literals.inverted (a .literal)) (wordValue (c .fetch-below .result))
+read c =
+    let a = c .before .before .before .args in
+    let e : c .fetch-below .result ≡ getD (column (a .t .variables) 655360 (a .words .now)) (a .literal / 2) 0 = cc in
+    rw e (value-is (a .t) (a .words .now) (a .literal))
+
+returns : tie.Need-returns
+returns c = sym (read (c .before) ∙ word-unassigned _ _ (c .if1 .taken))
+
+returns-2 : tie.Need-returns-2
+returns-2 c = sym (read (c .before .before) ∙ word-false _ _ (c .before .if1 .left) (c .if2 .taken))
+
+returns-3 : tie.Need-returns-3
+returns-3 c = sym (read (c .before .before) ∙ word-true _ _ (c .before .if1 .left) (c .if2 .left))
+
+pub value-spec : {M : Type 1} → statement M
+value-spec = tie.close (tie.spec (λ c κs. search needs) (λ c κs. search needs) returns returns-2 returns-3)

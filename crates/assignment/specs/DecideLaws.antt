@@ -1,0 +1,122 @@
+-- Laws of a decision and of the start in lent words. Assumes nothing.
+use mathlib.Core.Path.{_≡_, refl, ap, _∙_}
+use mathlib.Core.Bool.{true, false}
+use mathlib.Core.List.{List, [], _∷_, map}
+use Prim.Native.Nat.{ℕ, zero, suc, _+_, _*_, _<_, _≤_}
+use native.Mathlib.Omega.{arith}
+use borrow.Author.Tests.{eq-eqb}
+use lib.ListN.{length, getD, replicate, List·getD-map, replicate-append-replicate}
+use Rattle.words.specs.Region.{region, sizeOf, stored, stores, stored-in}
+use Rattle.model.specs.Lists as Lists
+use Rattle.model.specs.Sat as Sat
+use Rattle.assignment.specs.State.{wordValue, wordReason, wordBit, assignmentOf, column, lists, Ready, assignmentRegions, Becomes, Assigns, decided, Cleared, News}
+use Rattle.assignment.specs.StateLaws.{bit-true, set-end, take-set, unchanged-none, unchanged-both, unchanged-stored, unchanged-within, trail-length}
+use Rattle.assignment.specs.declared.state.Trail.{Trail}
+
+-- ---- a decision
+
+-- the phase of a variable, from its word
+phase-is : (t : Trail) (w : List ℕ) (v : ℕ) → getD (assignmentOf t w .phases) v false ≡ wordBit (getD (column (t .variables) 851968 w) v 0)
+unfolding assignmentOf wordBit
+phase-is t w v = List·getD-map wordBit (column (t .variables) 851968 w) v 0
+
+pub decision-false : (t : Trail) (w : List ℕ) (v p : ℕ) → p ≡ getD (column (t .variables) 851968 w) v 0 → p ≡ 0 → v * 2 + 1 ≡ Sat.decision (assignmentOf t w) v
+unfolding Sat.decision wordBit
+decision-false t w v p e z = rw (phase-is t w v, ← e, z)
+
+pub decision-true : (t : Trail) (w : List ℕ) (v p : ℕ) → p ≡ getD (column (t .variables) 851968 w) v 0 → (p ≡ 0 → ⊥) → v * 2 ≡ Sat.decision (assignmentOf t w) v
+unfolding Sat.decision
+decision-true t w v p e n = rw (phase-is t w v, ← e, bit-true p n)
+
+push-limit-is : (t : Trail) (w : List ℕ) → Ready t w → t .level < 65536
+    → assignmentOf (record { variables = t .variables; length = t .length; head = t .head; level = t .level + 1 }) (stored 1048576 w (t .level) (t .length)) ≡ Sat.pushLimit (assignmentOf t w)
+unfolding Sat.pushLimit assignmentOf Lists.snoc
+push-limit-is t w r h =
+    let k : 1048576 + 65536 ≤ length w = omega arith in
+    let e : length (column (t .length) 983040 w) ≡ t .length = trail-length t w r in
+    simp (stores, take-set, set-end 1048576 w (t .level) (t .length) h k, e)
+
+pub pushes-limit : (t : Trail) (w w′ : List ℕ) → Ready t w → t .level < 65536 → w′ ≡ stored 1048576 w (t .level) (t .length) → 8388608 ≤ length w′
+    → Becomes t w (Sat.pushLimit (assignmentOf t w)) (record { variables = t .variables; length = t .length; head = t .head; level = t .level + 1 }) w′
+pushes-limit t w w′ r h e k =
+    record {
+      is = rw e (push-limit-is t w r h);
+      frame = unchanged-stored assignmentRegions 1048576 _ _ refl (unchanged-none assignmentRegions w) e;
+      ready = record { words = k; variables = r .variables; literals = r .literals; levels = omega arith };
+      variables = refl;
+    }
+
+pub decides : (t u r : Trail) (w w₁ w₂ : List ℕ) (v l : ℕ) → l ≡ Sat.decision (assignmentOf t w) v → Becomes t w (Sat.pushLimit (assignmentOf t w)) u w₁
+    → Assigns u w₁ l 0 r w₂ → Becomes t w (decided (assignmentOf t w) v) r w₂
+unfolding decided wordReason
+decides t u r w w₁ w₂ v l e p a =
+    record {
+      is = a .is ∙ rw (p .is, e);
+      frame = unchanged-both assignmentRegions (p .frame) (a .frame);
+      ready = a .ready;
+      variables = a .variables ∙ p .variables;
+    }
+
+-- ---- the start
+
+listed-alone : (b : ℕ) → lists b (b ∷ []) ≡ true
+listed-alone b = rw (eq-eqb b b refl)
+
+-- the first i words of a region are 0, the words being w
+pub record Clearing (base n : ℕ) (w₀ : List ℕ) (i : ℕ) (w : List ℕ) : Type 0 where
+  pub inside : i ≤ n
+  pub long : length w ≡ length w₀
+  pub cleared : Cleared base i w₀ w
+
+pub clearing-start : (base n : ℕ) (w : List ℕ) → 8388608 ≤ length w → Clearing base n w 0 w
+clearing-start base n w h = record { inside = omega arith; long = refl; cleared = record { zeros = refl; frame = unchanged-none (base ∷ []) w; words = h } }
+
+pub clearing-step : (base n : ℕ) (w₀ w w′ : List ℕ) (i : ℕ) → n ≤ sizeOf base → base + sizeOf base ≤ 8388608 → Clearing base n w₀ i w → i < n → w′ ≡ stored base w i 0 → length w′ ≡ length w
+    → Clearing base n w₀ (i + 1) w′
+clearing-step base n w₀ w w′ i h b c k e l =
+    let d = c .cleared in
+    let m : i < sizeOf base = omega arith in
+    let q : base + sizeOf base ≤ length w = omega arith in
+    record {
+      inside = omega arith;
+      long = l ∙ c .long;
+      cleared =
+          record {
+            zeros = rw (e, stored-in base w i 0, take-set (i + 1) (region base w) i 0, set-end base w i 0 m q, d .zeros) (replicate-append-replicate i 1 0);
+            frame = unchanged-stored (base ∷ []) base i 0 (listed-alone base) (d .frame) e;
+            words = omega arith;
+          };
+    }
+
+pub clearing-end : (base n : ℕ) (w₀ w : List ℕ) (i : ℕ) → Clearing base n w₀ i w → n ≤ i → Cleared base n w₀ w
+clearing-end base n w₀ w i c h = let e : i ≡ n = omega arith in rw e at (c .cleared)
+
+pub map-replicate : {A B : Type 0} (f : A → B) (n : ℕ) (a : A) → map f (replicate n a) ≡ replicate n (f a)
+map-replicate f zero a = refl
+map-replicate f (suc n) a = ap (λ xs. f a ∷ xs) (map-replicate f n a)
+
+-- the four regions of `new`, one after another
+pub news : (n : ℕ) (w w₁ w₂ w₃ w₄ : List ℕ) → n ≤ 65536 → Cleared 655360 n w w₁ → Cleared 720896 n w₁ w₂ → Cleared 786432 n w₂ w₃ → Cleared 851968 n w₃ w₄
+    → News n w (record { variables = n; length = 0; head = 0; level = 0 }) w₄
+unfolding assignmentOf Sat.new wordValue wordReason wordBit
+news n w w₁ w₂ w₃ w₄ h c₁ c₂ c₃ c₄ =
+    record {
+      is = rw (
+        c₄ .zeros,
+        c₄ .frame .same 655360 refl,
+        c₄ .frame .same 720896 refl,
+        c₄ .frame .same 786432 refl,
+        c₃ .frame .same 655360 refl,
+        c₃ .frame .same 720896 refl,
+        c₃ .zeros,
+        c₂ .frame .same 655360 refl,
+        c₂ .zeros,
+        c₁ .zeros,
+      )
+          (simp map-replicate);
+      frame = unchanged-both assignmentRegions (unchanged-within (655360 ∷ []) assignmentRegions refl (c₁ .frame))
+          (unchanged-both assignmentRegions (unchanged-within (720896 ∷ []) assignmentRegions refl (c₂ .frame))
+          (unchanged-both assignmentRegions (unchanged-within (786432 ∷ []) assignmentRegions refl (c₃ .frame)) (unchanged-within (851968 ∷ []) assignmentRegions refl (c₄ .frame))));
+      ready = record { words = c₄ .words; variables = h; literals = omega arith; levels = omega arith };
+      variables = refl;
+    }

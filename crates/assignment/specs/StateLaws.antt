@@ -1,0 +1,257 @@
+-- Laws of the assignment in lent words: what a read finds, and what a store makes of it. Assumes nothing.
+use mathlib.Core.Path.{_≡_, refl, ap, sym, _∙_}
+use mathlib.Core.Bool.{Bool, true, false, not, _&&_}
+use mathlib.Core.List.{List, [], _∷_, _++_, map}
+use mathlib.Core.Option.{some}
+use mathlib.Core.Logic.{_⊎_, inl, inr, ⊎-elim}
+use Prim.Native.Nat.{ℕ, zero, suc, _+_, _-_, _/_, _%_, _<_, _≤_}
+use native.Mathlib.Omega.{arith}
+use lib.Dec.{eqb, ltb}
+use borrow.Author.Tests.{eqb-true, eqb-false, ltb-true, ltb-false}
+use lib.ListN.{length, take, set, getD, length-take, length-map, List·getD-map, List·getD-eq-default}
+use lib.Seq.{take-set-lt, take-set-le, set-out, length-take-le}
+use Rattle.words.specs.Region.{region, sizeOf, apart, stored, stores, stored-out, push, length-region}
+use Rattle.model.specs.Literal as Literals
+use Rattle.model.specs.Lists as Lists
+use Rattle.model.specs.Sat as Sat
+use Rattle.assignment.specs.State.{wordValue, wordReason, wordBit, assignmentOf, column, apartFrom, lists, within, spares, Unchanged, Ready, assignmentRegions, Assigns, Enqueues, valueOf, enqueued}
+use Rattle.assignment.specs.declared.state.Trail.{Trail}
+use Rattle.assignment.specs.declared.state.Value.{Value}
+use Rattle.assignment.specs.declared.state.Value.the-variants as Variants
+
+-- ---- lists
+
+-- i is below n or not
+pub below : (i n : ℕ) → (i < n) ⊎ (n ≤ i)
+below i n = go (ltb i n) refl
+  where
+    go : (b : Bool) → ltb i n ≡ b → (i < n) ⊎ (n ≤ i)
+    go true e = inl (ltb-true i n e)
+    go false e = inr (ltb-false i n e)
+
+-- a store commutes with a cut, wherever it goes
+pub take-set : {A : Type 0} (n : ℕ) (l : List A) (i : ℕ) (a : A) → take n (set l i a) ≡ set (take n l) i a
+take-set n l i a =
+    ⊎-elim (λ (h : i < n). take-set-lt n l i a h)
+    (λ (h : n ≤ i). take-set-le n l i a h ∙ sym (set-out (take n l) i a (simp length-take (omega arith))))
+    (below i n)
+
+-- a store commutes with a map
+pub map-set : {A B : Type 0} (f : A → B) (l : List A) (i : ℕ) (a : A) → map f (set l i a) ≡ set (map f l) i (f a)
+map-set f [] i a = refl
+map-set f (x ∷ xs) zero a = refl
+map-set f (x ∷ xs) (suc i) a = ap (λ ys. f x ∷ ys) (map-set f xs i a)
+
+-- past a cut there is nothing
+pub getD-past : (n : ℕ) (l : List ℕ) (i : ℕ) → n ≤ i → 0 ≡ getD (take n l) i 0
+getD-past n l i h = sym (List·getD-eq-default (take n l) 0 (simp length-take (omega arith)))
+
+-- ---- literals
+
+-- the low bit is 0 or 1
+pub low-bit : (l : ℕ) → (l % 2 ≡ 0) ⊎ (l % 2 ≡ 1)
+low-bit l = go (eqb (l % 2) 1) refl
+  where
+    go : (b : Bool) → eqb (l % 2) 1 ≡ b → (l % 2 ≡ 0) ⊎ (l % 2 ≡ 1)
+    go true e = inr (eqb-true (l % 2) 1 e)
+    go false e = inl (let n = eqb-false (l % 2) 1 e in omega arith)
+
+-- the word that makes a literal true
+pub making-true : (l : ℕ) → wordValue (l % 2 + 1) ≡ Sat.makingTrue (Literals.inverted l)
+unfolding wordValue Sat.makingTrue Literals.inverted
+making-true l = ⊎-elim (λ (e : l % 2 ≡ 0). rw e) (λ (e : l % 2 ≡ 1). rw e) (low-bit l)
+
+-- the phase of a literal that is made true
+pub phase-of : (l : ℕ) → wordBit (1 - l % 2) ≡ not (Literals.inverted l)
+unfolding wordBit Literals.inverted
+phase-of l = ⊎-elim (λ (e : l % 2 ≡ 0). rw e) (λ (e : l % 2 ≡ 1). rw e) (low-bit l)
+
+-- the word 0: no literal of the variable has a value
+pub word-unassigned : (v l : ℕ) → v ≡ 0 → Sat.literalValue (Literals.inverted l) (wordValue v) ≡ Sat.Unassigned
+unfolding wordValue Sat.literalValue
+word-unassigned v l e = rw e
+
+-- a word and a literal of the same low bit: the literal is false; else it is true
+pub word-false : (v l : ℕ) → (v ≡ 0 → ⊥) → v % 2 ≡ l % 2 → Sat.literalValue (Literals.inverted l) (wordValue v) ≡ Sat.False
+unfolding wordValue Sat.literalValue Literals.inverted
+word-false zero l n e = absurd (n refl)
+word-false (suc k) l n e = ⊎-elim (λ (z : l % 2 ≡ 0). rw (e, z)) (λ (z : l % 2 ≡ 1). rw (e, z)) (low-bit l)
+
+pub word-true : (v l : ℕ) → (v ≡ 0 → ⊥) → (v % 2 ≡ l % 2 → ⊥) → Sat.literalValue (Literals.inverted l) (wordValue v) ≡ Sat.True
+unfolding wordValue Sat.literalValue Literals.inverted
+word-true zero l n e = absurd (n refl)
+word-true (suc k) l n e =
+    ⊎-elim (λ (z : l % 2 ≡ 0). let y : suc k % 2 ≡ 1 = omega arith in rw (y, z))
+    (λ (z : l % 2 ≡ 1). let y : suc k % 2 ≡ 0 = omega arith in rw (y, z))
+    (low-bit l)
+
+-- ---- reads
+
+-- a mark's word that is not 0
+pub bit-true : (p : ℕ) → (p ≡ 0 → ⊥) → wordBit p ≡ true
+unfolding wordBit
+bit-true zero n = absurd (n refl)
+bit-true (suc p) n = refl
+
+-- the value of a literal, from the word of its variable
+pub value-is : (t : Trail) (w : List ℕ) (l : ℕ) → Sat.value (assignmentOf t w) l ≡ Sat.literalValue (Literals.inverted l) (wordValue (getD (column (t .variables) 655360 w) (l / 2) 0))
+unfolding Sat.value assignmentOf Literals.node wordValue
+value-is t w l = ap (λ (v : Sat.Value). Sat.literalValue (Literals.inverted l) v) (List·getD-map wordValue (column (t .variables) 655360 w) (l / 2) 0)
+
+-- ---- the frame
+
+and-left : (x y : Bool) → (x && y) ≡ true → x ≡ true
+and-left true y e = refl
+and-left false y e = e
+
+and-right : (x y : Bool) → (x && y) ≡ true → y ≡ true
+and-right true y e = e
+and-right false true e = refl
+and-right false false e = e
+
+-- a region apart from all those listed is apart from each
+apart-of : (listed : List ℕ) (b c : ℕ) → lists c listed ≡ true → apartFrom listed b ≡ true → apart b c ≡ true
+apart-of [] b c m e = absurd (let z : _≡_ {A = ℕ} 0 1 = cc m in omega arith)
+apart-of (x ∷ xs) b c m e = go (eqb c x) refl (λ (k : lists c xs ≡ true). apart-of xs b c k (and-right (apart b x) (apartFrom xs b) e))
+  where
+    go : (q : Bool) → eqb c x ≡ q → (lists c xs ≡ true → apart b c ≡ true) → apart b c ≡ true
+    go true q f = rw (eqb-true c x q) (and-left (apart b x) (apartFrom xs b) e)
+    go false q f = f (rw q at m)
+
+pub unchanged-none : (listed w : List ℕ) → Unchanged listed w w
+unchanged-none listed w = record { same = λ b e. refl }
+
+pub unchanged-both : (listed : List ℕ) {u v w : List ℕ} → Unchanged listed u v → Unchanged listed v w → Unchanged listed u w
+unchanged-both listed f g = record { same = λ b e. g .same b e ∙ f .same b e }
+
+and-both : (x y : Bool) → x ≡ true → y ≡ true → (x && y) ≡ true
+and-both x y e f = rw (e, f)
+
+apart-within : (xs ys : List ℕ) (b : ℕ) → within xs ys ≡ true → apartFrom ys b ≡ true → apartFrom xs b ≡ true
+apart-within [] ys b m e = refl
+apart-within (x ∷ xs) ys b m e =
+    and-both (apart b x) (apartFrom xs b) (apart-of ys b x (and-left (lists x ys) (within xs ys) m) e)
+    (apart-within xs ys b (and-right (lists x ys) (within xs ys) m) e)
+
+-- what is unchanged apart from a few regions is so apart from more
+pub unchanged-within : (xs ys : List ℕ) {u w : List ℕ} → within xs ys ≡ true → Unchanged xs u w → Unchanged ys u w
+unchanged-within xs ys m f = record { same = λ b e. f .same b (apart-within xs ys b m e) }
+
+-- one more store into a listed region
+pub unchanged-stored : (listed : List ℕ) (c i v : ℕ) {u w w′ : List ℕ} → lists c listed ≡ true → Unchanged listed u w → w′ ≡ stored c w i v → Unchanged listed u w′
+unchanged-stored listed c i v {u} {w} {w′} m f e =
+    record { same = λ b k. ap (λ (x : List ℕ). region b x) e ∙ stored-out b w c i v (apart-of listed b c m k) ∙ f .same b k }
+
+-- the assignment is as it was where other regions are written
+pub assignment-kept : (listed : List ℕ) (t : Trail) {w w′ : List ℕ} → spares listed assignmentRegions ≡ true → Unchanged listed w w′ → assignmentOf t w′ ≡ assignmentOf t w
+unfolding assignmentOf
+assignment-kept listed t {w} {w′} m f =
+    let p = apartFrom listed in
+    let m₁ = and-right (p 655360) _ m in
+    let m₂ = and-right (p 720896) _ m₁ in
+    let m₃ = and-right (p 786432) _ m₂ in
+    let m₄ = and-right (p 851968) _ m₃ in
+    let m₅ = and-right (p 983040) _ m₄ in
+    rw (
+      f .same 655360 (and-left _ _ m),
+      f .same 720896 (and-left _ _ m₁),
+      f .same 786432 (and-left _ _ m₂),
+      f .same 851968 (and-left _ _ m₃),
+      f .same 983040 (and-left _ _ m₄),
+      f .same 1048576 (and-left _ _ m₅),
+    )
+
+-- ---- the numbers of an assignment
+
+length-column : (b n : ℕ) (w : List ℕ) → b + sizeOf b ≤ length w → n ≤ sizeOf b → length (column n b w) ≡ n
+length-column b n w h k = length-take-le n (region b w) (omega (arith, length-region b w h))
+
+pub trail-length : (t : Trail) (w : List ℕ) → Ready t w → length (assignmentOf t w .trail) ≡ t .length
+unfolding assignmentOf
+trail-length t w r = length-column 983040 (t .length) w (omega arith) (r .literals)
+
+pub level-is : (t : Trail) (w : List ℕ) → Ready t w → Sat.decisionLevel (assignmentOf t w) ≡ t .level
+unfolding assignmentOf Sat.decisionLevel
+level-is t w r = length-column 1048576 (t .level) w (omega arith) (r .levels)
+
+pub variables-are : (t : Trail) (w : List ℕ) → Ready t w → length (assignmentOf t w .assignments) ≡ t .variables
+unfolding assignmentOf
+variables-are t w r = length-map (column (t .variables) 655360 w) wordValue ∙ length-column 655360 (t .variables) w (omega arith) (r .variables)
+
+-- ---- assign
+
+-- the words of `assign`
+abbrev pub assignWords : List ℕ → ℕ → ℕ → ℕ → ℕ → List ℕ
+assignWords w n level l reason =
+    stored 983040 (stored 851968 (stored 786432 (stored 720896 (stored 655360 w (l / 2) (l % 2 + 1)) (l / 2) level) (l / 2) reason) (l / 2) (1 - l % 2)) n l
+
+-- a store at the end of the first n words
+pub set-end : (b : ℕ) (w : List ℕ) (n v : ℕ) → n < sizeOf b → b + sizeOf b ≤ length w → set (column (n + 1) b w) n v ≡ column n b w ++ (v ∷ [])
+set-end b w n v h k = sym (take-set (n + 1) (region b w) n v) ∙ push b w n v h k
+
+pub assign-is : (t : Trail) (w : List ℕ) (l reason : ℕ) → Ready t w → t .length < 65536
+    → assignmentOf (record { variables = t .variables; length = t .length + 1; head = t .head; level = t .level }) (assignWords w (t .length) (t .level) l reason)
+    ≡ Sat.assign (assignmentOf t w) l (wordReason reason)
+unfolding assignmentOf Sat.assign Sat.decisionLevel Literals.node Lists.snoc
+assign-is t w l reason r h =
+    let k : 983040 + 65536 ≤ length w = omega arith in
+    let lv : length (column (t .level) 1048576 w) ≡ t .level = length-column 1048576 (t .level) w (omega arith) (r .levels) in
+    simp (stores, take-set, map-set, making-true, phase-of, set-end 983040 w (t .length) l h k, lv)
+
+-- the five stores of `assign`
+module _ (t : Trail) (l reason v : ℕ) {w w₁ w₂ w₃ w₄ w₅ : List ℕ} where
+  pub assigns : Ready t w → t .length < 65536 → v ≡ l / 2 → w₁ ≡ stored 655360 w v (l % 2 + 1) → w₂ ≡ stored 720896 w₁ v (t .level) → w₃ ≡ stored 786432 w₂ v reason
+      → w₄ ≡ stored 851968 w₃ v (1 - l % 2) → w₅ ≡ stored 983040 w₄ (t .length) l → 8388608 ≤ length w₅
+      → Assigns t w l reason (record { variables = t .variables; length = t .length + 1; head = t .head; level = t .level }) w₅
+  assigns r h e e₁ e₂ e₃ e₄ e₅ k =
+      let listed = assignmentRegions in
+      let s : w₅ ≡ assignWords w (t .length) (t .level) l reason = cc in
+      record {
+        is = rw s (assign-is t w l reason r h);
+        frame = unchanged-stored listed 983040 _ _ refl (unchanged-stored listed 851968 _ _ refl (unchanged-stored listed 786432 _ _ refl
+            (unchanged-stored listed 720896 _ _ refl (unchanged-stored listed 655360 _ _ refl (unchanged-none listed w) e₁) e₂) e₃) e₄) e₅;
+        ready = record { words = k; variables = r .variables; literals = omega arith; levels = r .levels };
+        variables = refl;
+        level = refl;
+      }
+
+-- ---- enqueue, by the value that was found
+
+pub enqueues-true : (t : Trail) (w : List ℕ) (l reason : ℕ) {v : Value} → Ready t w → valueOf v ≡ Sat.value (assignmentOf t w) l → v ≡ Variants.True
+    → Enqueues t w l reason (record { ok = true; trail = t }) w
+unfolding Sat.enqueue Sat.enqueueValued enqueued
+enqueues-true t w l reason {v} r e k =
+    record {
+      is = let h : Sat.value (assignmentOf t w) l ≡ Sat.True = sym e ∙ ap valueOf k in rw h;
+      kept = λ b. refl;
+      frame = unchanged-none assignmentRegions w;
+      ready = r;
+      variables = refl;
+      level = refl;
+    }
+
+pub enqueues-false : (t : Trail) (w : List ℕ) (l reason : ℕ) {v : Value} → Ready t w → valueOf v ≡ Sat.value (assignmentOf t w) l → v ≡ Variants.False
+    → Enqueues t w l reason (record { ok = false; trail = t }) w
+unfolding Sat.enqueue Sat.enqueueValued enqueued
+enqueues-false t w l reason {v} r e k =
+    record {
+      is = let h : Sat.value (assignmentOf t w) l ≡ Sat.False = sym e ∙ ap valueOf k in rw h;
+      kept = λ b. refl;
+      frame = unchanged-none assignmentRegions w;
+      ready = r;
+      variables = refl;
+      level = refl;
+    }
+
+pub enqueues-unassigned : (t : Trail) (w w′ : List ℕ) (l reason : ℕ) (r : Trail) {v : Value} → valueOf v ≡ Sat.value (assignmentOf t w) l → v ≡ Variants.Unassigned
+    → Assigns t w l reason r w′ → Enqueues t w l reason (record { ok = true; trail = r }) w′
+unfolding Sat.enqueue Sat.enqueueValued enqueued
+enqueues-unassigned t w w′ l reason r {v} e k a =
+    record {
+      is = let h : Sat.value (assignmentOf t w) l ≡ Sat.Unassigned = sym e ∙ ap valueOf k in rw h (ap some (a .is));
+      kept = λ (b : _≡_ true false). absurd (let z : _≡_ {A = ℕ} 0 1 = cc b in omega arith);
+      frame = a .frame;
+      ready = a .ready;
+      variables = a .variables;
+      level = a .level;
+    }

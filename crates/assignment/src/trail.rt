@@ -1,0 +1,211 @@
+// Values, enqueue and backtrack, as sat.rs has them, over the words of a search.
+ghost use mathlib.Core.Path.{_≡_};
+ghost use Prim.Native.Nat.{_+_, _<_, _≤_, min};
+ghost use lib.ListN.{length, getD, take, drop};
+ghost use Rattle.words.specs.Region.{region, sizeOf};
+ghost use Rattle.model.specs.Sat as Sat;
+ghost use Rattle.assignment.specs.State.{assignmentOf, valueOf, Ready, Assigns, Enqueues, Becomes, decided, Cleared, News};
+use crate::state::Enqueued;
+use crate::state::Trail;
+use crate::state::Value;
+use words::LEVELS;
+use words::LIMITS;
+use words::PHASES;
+use words::REASONS;
+use words::SMALL;
+use words::TRAIL;
+use words::VALUES;
+use words::fetch;
+use words::stash;
+use words::wide;
+
+// A word of the first `count` of a region; 0 past them.
+pub fn fetch_below(words: &[u32], base: usize, size: usize, count: usize, i: usize) -> u32
+    requires { ⌜ (8388608 ≤ length (now words)) × (base + size ≤ 8388608) × (size ≡ sizeOf base) ⌝ }
+    ensures { λ r. ⌜ r ≡ getD (take count (region base (now (words .entry)))) i 0 ⌝ }
+{
+    if i < count {
+        fetch(words, base, size, i)
+    } else {
+        0
+    }
+}
+
+// The value of a literal.
+pub fn value(words: &[u32], t: Trail, literal: u32) -> Value
+    requires { ⌜ 8388608 ≤ length (now words) ⌝ }
+    ensures { λ r. ⌜ valueOf r ≡ Sat.value (assignmentOf t (now (words .entry))) literal ⌝ }
+{
+    let n = t.variables;
+    let word = fetch_below(words, VALUES, SMALL, n, wide(literal / 2));
+    if word == 0 {
+        return Value::Unassigned;
+    }
+    if word % 2 == literal % 2 {
+        Value::False
+    } else {
+        Value::True
+    }
+}
+
+// An unassigned literal made true; a reason is 0 for none, and one more than the number of its clause.
+pub fn assign(words: &mut [u32], t: Trail, literal: u32, reason: u32) -> Trail
+    requires { ⌜ Ready t (now words) × (t .length < 65536) ⌝ }
+    ensures { λ r. ⌜ Assigns t (now (words .entry)) literal reason r (now (words .exit)) ⌝ }
+{
+    let v = wide(literal / 2);
+    let n = t.length;
+    let level = t.level as u32;
+    stash(words, VALUES, SMALL, v, literal % 2 + 1);
+    stash(words, LEVELS, SMALL, v, level);
+    stash(words, REASONS, SMALL, v, reason);
+    stash(words, PHASES, SMALL, v, 1 - literal % 2);
+    stash(words, TRAIL, SMALL, n, literal);
+    Trail {
+        variables: t.variables,
+        length: n + 1,
+        head: t.head,
+        level: t.level,
+    }
+}
+
+// A literal made true with its reason; not ok where it is false.
+pub fn enqueue(words: &mut [u32], t: Trail, literal: u32, reason: u32) -> Enqueued
+    requires { ⌜ Ready t (now words) × (t .length < 65536) ⌝ }
+    ensures { λ r. ⌜ Enqueues t (now (words .entry)) literal reason r (now (words .exit)) ⌝ }
+{
+    match value(words, t, literal) {
+        Value::True => Enqueued { ok: true, trail: t },
+        Value::False => Enqueued {
+            ok: false,
+            trail: t,
+        },
+        Value::Unassigned => {
+            let next = assign(words, t, literal, reason);
+            Enqueued {
+                ok: true,
+                trail: next,
+            }
+        }
+    }
+}
+
+// A literal's variable unassigned; its phase stays.
+fn unassign(words: &mut [u32], t: Trail, literal: u32)
+    requires { ⌜ Ready t (now words) ⌝ }
+    ensures { λ _. ⌜ Becomes t (now (words .entry)) (Sat.unassign (assignmentOf t (now (words .entry))) literal) t (now (words .exit)) ⌝ }
+{
+    let v = wide(literal / 2);
+    stash(words, VALUES, SMALL, v, 0);
+    stash(words, LEVELS, SMALL, v, 0);
+    stash(words, REASONS, SMALL, v, 0);
+}
+
+// The literals of the trail from a place on unassigned.
+fn unassign_from(words: &mut [u32], t: Trail, from: usize)
+    requires { ⌜ Ready t (now words) × (from ≤ t .length) ⌝ }
+    ensures { λ _. ⌜ Becomes t (now (words .entry)) (Sat.unassignAll (assignmentOf t (now (words .entry))) (drop from (assignmentOf t (now (words .entry)) .trail))) t (now (words .exit)) ⌝ }
+{
+    let n = t.length;
+    let mut i = from;
+    while i < n {
+        let literal = fetch(words, TRAIL, SMALL, i);
+        unassign(words, t, literal);
+        i += 1;
+    }
+}
+
+// The lower of two numbers.
+pub fn lower(a: usize, b: usize) -> usize
+    ensures { λ r. ⌜ r ≡ min a b ⌝ }
+{
+    if a < b { a } else { b }
+}
+
+// Back to a level: what was assigned above it is unassigned.
+pub fn backtrack(words: &mut [u32], t: Trail, level: usize) -> Trail
+    requires { ⌜ Ready t (now words) ⌝ }
+    ensures { λ r. ⌜ Becomes t (now (words .entry)) (Sat.backtrack (assignmentOf t (now (words .entry))) level) r (now (words .exit)) ⌝ }
+{
+    if t.level <= level {
+        return t;
+    }
+    let levels = t.level;
+    let n = t.length;
+    let head = wide(fetch_below(words, LIMITS, SMALL, levels, level));
+    let length = lower(head, n);
+    unassign_from(words, t, length);
+    Trail {
+        variables: t.variables,
+        length,
+        head,
+        level,
+    }
+}
+
+// The literal of a decision: the variable with its phase.
+fn decision(words: &[u32], t: Trail, variable: u32) -> u32
+    requires { ⌜ Ready t (now words) × (variable < 65536) ⌝ }
+    ensures { λ r. ⌜ r ≡ Sat.decision (assignmentOf t (now (words .entry))) variable ⌝ }
+{
+    let n = t.variables;
+    if fetch_below(words, PHASES, SMALL, n, wide(variable)) == 0 {
+        return variable * 2 + 1;
+    }
+    variable * 2
+}
+
+// One more decision level, which begins at the trail's end.
+fn push_limit(words: &mut [u32], t: Trail) -> Trail
+    requires { ⌜ Ready t (now words) × (t .level < 65536) ⌝ }
+    ensures { λ r. ⌜ Becomes t (now (words .entry)) (Sat.pushLimit (assignmentOf t (now (words .entry)))) r (now (words .exit)) × (r .length ≡ t .length) ⌝ }
+{
+    let level = t.level;
+    let limit = t.length as u32;
+    stash(words, LIMITS, SMALL, level, limit);
+    Trail {
+        variables: t.variables,
+        length: t.length,
+        head: t.head,
+        level: level + 1,
+    }
+}
+
+// A variable decided, by its phase, at a new level.
+pub fn decide(words: &mut [u32], t: Trail, variable: u32) -> Trail
+    requires { ⌜ Ready t (now words) × (t .length < 65536) × (t .level < 65536) × (variable < 65536) ⌝ }
+    ensures { λ r. ⌜ Becomes t (now (words .entry)) (decided (assignmentOf t (now (words .entry))) variable) r (now (words .exit)) ⌝ }
+{
+    let literal = decision(words, t, variable);
+    let deeper = push_limit(words, t);
+    assign(words, deeper, literal, 0)
+}
+
+// The first `count` words of a region zeroed.
+pub fn clear(words: &mut [u32], base: usize, size: usize, count: usize)
+    requires { ⌜ (8388608 ≤ length (now words)) × (base + size ≤ 8388608) × (size ≡ sizeOf base) × (count ≤ size) ⌝ }
+    ensures { λ _. ⌜ Cleared base count (now (words .entry)) (now (words .exit)) ⌝ }
+{
+    let mut i: usize = 0;
+    while i < count {
+        stash(words, base, size, i, 0);
+        i += 1;
+    }
+}
+
+// The assignment of a new search of so many variables, counted with variable 0.
+pub fn new(words: &mut [u32], variables: usize) -> Trail
+    requires { ⌜ (8388608 ≤ length (now words)) × (variables ≤ 65536) ⌝ }
+    ensures { λ r. ⌜ News variables (now (words .entry)) r (now (words .exit)) ⌝ }
+{
+    clear(words, VALUES, SMALL, variables);
+    clear(words, LEVELS, SMALL, variables);
+    clear(words, REASONS, SMALL, variables);
+    clear(words, PHASES, SMALL, variables);
+    Trail {
+        variables,
+        length: 0,
+        head: 0,
+        level: 0,
+    }
+}

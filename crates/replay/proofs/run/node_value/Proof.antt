@@ -1,0 +1,20 @@
+-- `node_value` reads the node's inputs. Assumes nothing.
+use mathlib.Core.Path.{_≡_, refl, sym, ap, _∙_}
+use Rattle.replay.specs.RunTables.{nodeBy}
+use borrow.Author.Needs.{needs}
+use Rattle.replay.proofs.run.node_value.Statement.{statement}
+use Rattle.replay.proofs.run.node_value.Tie as tie
+use Rattle.replay.proofs.run.node_value.Reads as reads
+use Rattle.replay.proofs.run.node_value.Lts as lts
+use Rattle.replay.proofs.run.bit_at.Reads as bit-at-reads
+use Rattle.replay.proofs.run.value_of.Reads as value-of-reads
+use Rattle.struo_ir.proofs.order.wide.Reads as wide-reads
+
+returns : tie.Need-returns
+unfolding nodeBy
+returns c = cc
+
+pub node-value-spec : {M : Type 1} → statement M
+node-value-spec =
+    tie.close
+    (tie.spec (λ c κs. search needs) (λ c κs. search needs) (λ c κs. search needs) (λ c κs. search needs) (λ c κs. search needs) (λ c κs. search needs) (λ c κs. search needs) returns)

@@ -1,0 +1,11 @@
+pub mod RunTables
+pub mod RunLaws
+pub mod RowLaws
+pub mod TableLaws
+pub mod PairChecks
+pub mod PairCheckLaws
+pub mod StepSides
+pub mod StepLaws
+pub mod StepRight
+pub mod ReplayAnswers
+pub mod ReplayRight

@@ -1,0 +1,78 @@
+-- What the tables of a run hold, and the value of a node by its kind byte. Definitions only.
+use Prim.Native.Nat.{ℕ, zero, suc, _+_, _-_, _<_, _≤_}
+use mathlib.Core.Path.{_≡_}
+use mathlib.Core.Bool.{Bool, true, false, cond, not, _&&_, _||_, xor}
+use mathlib.Core.List.{List, _++_, map}
+use mathlib.Core.Option.{Option, none, some}
+use lib.Dec.{eqb, ltb}
+use lib.ListN.{length, getD, take, replicate}
+use Rattle.model.specs.Names.{Name, Place, rank}
+use Rattle.model.specs.Netlist.{Enable, Reset, Register, Design}
+use Rattle.model.specs.Validate.{Driver, driver}
+use Rattle.model.specs.Run.{InputBits, StoredBits, bitAt, shownBit, enabledBit, resetBit}
+use Rattle.model.specs.Replay.{claimBit}
+use Rattle.struo_ir.specs.Decoded.{nameAt, decodedEnable, decodedReset, decodedRegister, decoded}
+use Rattle.struo_ir.specs.OrderPlaces.{noNode, noCell}
+use Rattle.struo_ir.specs.declared.netlist.Node.{Node}
+use Rattle.struo_ir.specs.declared.netlist.RegisterCell.{RegisterCell}
+use Rattle.struo_ir.specs.declared.netlist.Netlist.{Netlist}
+
+-- the reset that a register's fields say
+unfoldable pub resetOf : RegisterCell → Option Reset
+resetOf r = decodedReset (r .reset) (r .«reset_signal») (r .«reset_kind») (r .«reset_value»)
+
+-- the enable that a register's fields say
+unfoldable pub enableOf : RegisterCell → Option Enable
+enableOf r = decodedEnable (r .enable) (r .«enable_signal»)
+
+-- the next stored bit of a register, given its fields
+unfoldable pub nextOf : List Bool → Bool → RegisterCell → Bool
+nextOf values stored r = resetBit values (enabledBit values stored (bitAt values (r .«data»)) (enableOf r)) (resetOf r)
+
+-- the value of a node that is neither Input nor Constant nor RegisterOutput, by its kind byte
+unfoldable pub gateOf : ℕ → Bool → Bool → Bool → Bool
+gateOf kind a b c =
+    cond (eqb kind 0x10) (not a)
+    (cond (eqb kind 0x11) a
+    (cond (eqb kind 0x20) (a && b)
+    (cond (eqb kind 0x21) (a || b)
+    (cond (eqb kind 0x22) (xor a b) (cond a b c)))))
+
+-- the value of a node by its kind byte, from its detail, the input bit of its name, what its register shows, and the values of its inputs
+unfoldable pub valueOf : ℕ → ℕ → Bool → Bool → Bool → Bool → Bool → Bool
+valueOf kind detail input shown a b c =
+    cond (eqb kind 0x00) input (cond (eqb kind 0x01) (eqb detail 1) (cond (eqb kind 0x02) shown (gateOf kind a b c)))
+
+-- the value of a node from the values of the nodes before it
+unfoldable pub nodeBy : List Bool → Node → Bool → Bool → Bool
+nodeBy values n input shown =
+    valueOf (n .kind) (n .detail) input shown (bitAt values (n .first)) (bitAt values (n .second)) (bitAt values (n .third))
+
+-- what the register of a number shows, given its fields; false where there is no register of that number
+unfoldable pub shownBy : List Bool → StoredBits → ℕ → RegisterCell → Bool
+shownBy values stored k r = cond (ltb k 128) (shownBit values (bitAt stored k) (resetOf r)) false
+
+-- the rank of an Input's name among the inputs; 0 for another node
+unfoldable pub inputRank : List ℕ → List Place → Node → ℕ
+inputRank s ins n = cond (eqb (n .kind) 0x00) (rank (nameAt s (n .detail)) ins) 0
+
+-- a table has the rank of each node
+abbrev pub Ranked : List ℕ → List Place → Netlist → List ℕ → Type 0
+Ranked s ins n ranks = (k : ℕ) → k < n .«node_count» → getD ranks k 0 ≡ inputRank s ins (getD (n .nodes) k noNode)
+
+-- the number of a driver; 128 where there is none
+unfoldable pub driverNumber : Option Driver → ℕ
+driverNumber none = 128
+driverNumber (some d) = d .number
+
+-- a table has the number of each node's driver
+abbrev pub Driven : List Register → List ℕ → Type 0
+Driven rs drivers = (k : ℕ) → k < 1024 → getD drivers k 0 ≡ driverNumber (driver rs k)
+
+-- the input bits that a row of the claim gives by the ranks of names
+unfoldable pub rowInputs : List ℕ → ℕ → List Place → InputBits
+rowInputs claim at ins n = claimBit claim (at + rank n ins)
+
+-- a row of n bits: the bits given, and false past them
+unfoldable pub padded : ℕ → List Bool → List Bool
+padded n bits = bits ++ replicate (n - length bits) false

@@ -1,0 +1,76 @@
+// The public library: the calls on design records, for Rust and for C. No call requires anything of its arguments.
+use struo_ir::reader::Answer;
+use struo_ir::reader::Reading;
+use struo_ir::record::read_record;
+ghost use mathlib.Core.Path.{_≡_};
+ghost use Rattle.model.specs.Validate as Validate;
+ghost use Rattle.model.specs.Replay as Replay;
+ghost use Rattle.struo_formal.specs.ReadAnswers.{refusalOf};
+ghost use Rattle.struo_formal.specs.ReplayAnswers.{replayOf};
+
+// What a read answers: 0 or the refusal's number, the side, which is 0, and the place.
+#[repr(C)]
+pub struct ReadAnswer {
+    pub number: u32,
+    pub side: u32,
+    pub place: u32,
+}
+
+// Read a record of any content and length: accepted, or the first refusal of 1 to 15 with its place.
+pub fn read(record: &[u8]) -> ReadAnswer
+    ensures { λ r. ⌜ refusalOf r ≡ Validate.read (now («record» .entry)) ⌝ }
+{
+    let reading = read_record(record);
+    let answer = reading.answer;
+    match answer {
+        Answer::Accepted => ReadAnswer {
+            number: 0,
+            side: 0,
+            place: 0,
+        },
+        Answer::Refused(number, place) => ReadAnswer {
+            number: number as u32,
+            side: 0,
+            place,
+        },
+    }
+}
+
+// The same for C.
+#[no_mangle]
+pub extern "C" fn struo_read(record: &[u8]) -> ReadAnswer
+    ensures { λ r. ⌜ refusalOf r ≡ Validate.read (now («record» .entry)) ⌝ }
+{
+    read(record)
+}
+
+// What a replay answers: 0 or the refusal's number, the side and the place; and yes or no, which is no where it is refused.
+#[repr(C)]
+pub struct ReplayAnswer {
+    pub number: u32,
+    pub side: u32,
+    pub place: u32,
+    pub yes: bool,
+}
+
+// Replay a claimed trace of any content and length on two records of any content and length: a refusal of 1 to 15, 18 to 22 or 25, or
+// yes exactly when the outputs agree in every cycle before the claimed one and in that cycle differ in exactly the marked ones, at least one.
+pub fn replay(gold: &[u8], gate: &[u8], cycle: u64, claim: &[u8]) -> ReplayAnswer
+    ensures { λ r. ⌜ replayOf r ≡ Replay.replay (now (gold .entry)) (now (gate .entry)) cycle (now (claim .entry)) ⌝ }
+{
+    let answer = replay::replay::replay(gold, gate, cycle, claim);
+    ReplayAnswer {
+        number: answer.number,
+        side: answer.side,
+        place: answer.place,
+        yes: answer.yes,
+    }
+}
+
+// The same for C.
+#[no_mangle]
+pub extern "C" fn struo_replay(gold: &[u8], gate: &[u8], cycle: u64, claim: &[u8]) -> ReplayAnswer
+    ensures { λ r. ⌜ replayOf r ≡ Replay.replay (now (gold .entry)) (now (gate .entry)) cycle (now (claim .entry)) ⌝ }
+{
+    replay(gold, gate, cycle, claim)
+}

@@ -1,0 +1,72 @@
+-- Laws of a node's fields as the reader takes them. Assumes nothing.
+use Prim.Native.Nat.{ℕ, zero, suc, _-_, _≤_, _<_}
+use mathlib.Core.Path.{_≡_, refl}
+use mathlib.Core.Bool.{Bool, true, false, _&&_}
+use mathlib.Core.List.{List, [], _∷_}
+use native.Mathlib.Omega.{arith}
+use lib.ListN.{getD}
+use lib.Dec.{leb}
+use borrow.Author.Tests.{ne-eqb, leb-true}
+use Rattle.model.specs.Answers.{Refusal}
+use Rattle.model.specs.Record.{Step, got, refused, pure, goOn, _>>=_, number, numbers, hasName, inputTable, inputsPerKind}
+use Rattle.struo_ir.specs.Fields.{mapStep}
+use Rattle.struo_ir.specs.Nodes.{three}
+
+-- ---- the table
+
+-- every entry is at most k
+allAtMost : ℕ → List ℕ → Bool
+allAtMost k [] = true
+allAtMost k (x ∷ xs) = let rest = allAtMost k xs in leb x k && rest
+
+and-both : (x y : Bool) → (x && y) ≡ true → (x ≡ true) × (y ≡ true)
+and-both true y h = (refl, h)
+and-both false y h = absurd (let z : _≡_ {A = ℕ} 0 1 = cc in omega arith)
+
+at-most : (k : ℕ) (xs : List ℕ) → allAtMost k xs ≡ true → (i : ℕ) → getD xs i 0 ≤ k
+unfolding allAtMost
+at-most k [] h i = omega arith
+at-most k (x ∷ xs) h zero = leb-true x k (and-both (leb x k) (allAtMost k xs) h .0)
+at-most k (x ∷ xs) h (suc i) = at-most k xs (and-both (leb x k) (allAtMost k xs) h .1) i
+
+-- a kind has at most three inputs
+pub three-inputs : (k : ℕ) → inputsPerKind k ≤ 3
+unfolding inputsPerKind inputTable allAtMost
+three-inputs k = at-most 3 inputTable refl k
+
+-- ---- numbers one by one
+
+module _ (f : List ℕ → List ℕ) (s : List ℕ) (i : ℕ) where
+  pub numbers-none : (n : ℕ) → n < 1 → got (f []) i ≡ mapStep f (numbers n s i)
+  unfolding numbers mapStep pure
+  numbers-none zero h = refl
+  numbers-none (suc n) h = absurd (omega arith)
+
+  pub numbers-refused : (n : ℕ) (r : Refusal) → 1 ≤ n → refused r ≡ number s i → refused r ≡ mapStep f (numbers n s i)
+  unfolding numbers mapStep _>>=_ goOn
+  numbers-refused zero r h e = absurd (omega arith)
+  numbers-refused (suc n) r h e = rw (← e)
+
+  after : (a : ℕ) (x : Step (List ℕ)) → mapStep (λ ns. f (a ∷ ns)) x ≡ mapStep f (goOn (λ ns. pure (a ∷ ns)) s x)
+  unfolding mapStep goOn pure
+  after a (got ns j) = refl
+  after a (refused r) = refl
+
+  pub numbers-got : (n a j : ℕ) → 1 ≤ n → got a j ≡ number s i → mapStep (λ ns. f (a ∷ ns)) (numbers (n - 1) s j) ≡ mapStep f (numbers n s i)
+  unfolding numbers _>>=_ goOn
+  numbers-got zero a j h e = absurd (omega arith)
+  numbers-got (suc n) a j h e = let d : suc n - 1 ≡ n = omega arith in rw (d, ← e) (after a (numbers n s j))
+
+-- ---- kinds
+
+pub named-input : (k : ℕ) → k ≡ 0x00 → hasName k ≡ true
+unfolding hasName
+named-input k e = rw e
+
+pub named-output : (k : ℕ) → k ≡ 0x11 → hasName k ≡ true
+unfolding hasName
+named-output k e = rw e
+
+pub unnamed : (k : ℕ) → (k ≡ 0x00 → ⊥) → (k ≡ 0x11 → ⊥) → hasName k ≡ false
+unfolding hasName
+unnamed k x y = rw (ne-eqb k 0x00 x, ne-eqb k 0x11 y)

@@ -1,0 +1,18 @@
+use Prim.Native.Nat.{ℕ, _+_, _-_, _*_, _<_, _≤_}
+use mathlib.Core.Path.{_≡_}
+use lib.ListN.{length}
+use native.Mathlib.Omega.{arith}
+use borrow.Author.Needs.{needs}
+use Rattle.vectors.proofs.tally.feed.Statement.{statement}
+use Rattle.vectors.proofs.tally.feed.Tie as tie
+
+abbrev Inv-loop : tie.InvT-loop
+Inv-loop part line₀ gold₀ gate₀ claim₀ t₀ i₀ line gold gate claim t i = (length line ≡ length line₀) × (length gold ≡ length gold₀) × (length gate ≡ length gate₀) × (length claim ≡ length claim₀)
+
+abbrev μ-loop : tie.MeasureT-loop
+μ-loop part line₀ gold₀ gate₀ claim₀ t₀ i₀ line gold gate claim t i = length part - i
+
+pub feed-spec : {M : Type 1} → statement M
+feed-spec =
+    tie.close
+    (tie.spec Inv-loop μ-loop (λ c. search needs) (λ c. search needs) (λ c κs. search needs) (λ c. search needs) (λ c. search needs) (λ c. search needs) (λ c. search needs) (λ c. search needs) (λ c. search needs) (λ c. search needs) (λ c. search needs))

@@ -1,0 +1,87 @@
+// Runs a file of recorded calls, compares every answer with the recorded one, and says how many lines differ.
+mod cases;
+mod outcome;
+mod tally;
+mod text;
+
+use tally::Tally;
+use tally::feed;
+use tally::tell;
+
+// A part of the file, and whether it was the last one.
+struct Part {
+    tally: Tally,
+    more: bool,
+}
+
+// Reads once and runs the lines that end in what came.
+fn some_lines(
+    fd: i32,
+    line: &mut [u8],
+    gold: &mut [u8],
+    gate: &mut [u8],
+    claim: &mut [u8],
+    t: Tally,
+) -> Part {
+    let mut buf = io::large_buffer();
+    let n = io::read_full(fd, &mut buf);
+    if n == 0 {
+        return Part {
+            tally: t,
+            more: false,
+        };
+    }
+    let next = feed(&buf[..n], line, gold, gate, claim, t);
+    Part {
+        tally: next,
+        more: true,
+    }
+}
+
+// The whole file. Nothing says that a file ends, so the turns are counted down from a number that no run uses up.
+fn all_lines(
+    fd: i32,
+    line: &mut [u8],
+    gold: &mut [u8],
+    gate: &mut [u8],
+    claim: &mut [u8],
+) -> Tally {
+    let mut t = Tally {
+        held: 0,
+        ended: 0,
+        lines: 0,
+        differ: 0,
+        skipped: 0,
+    };
+    let mut turns = u64::MAX;
+    while 0 < turns {
+        let part = some_lines(fd, line, gold, gate, claim, t);
+        t = part.tally;
+        if !part.more {
+            return t;
+        }
+        turns -= 1;
+    }
+    t
+}
+
+fn main() {
+    let mut path = io::buffer();
+    let length = os::arg(1, &mut path);
+    if os::errno() != 0 {
+        os::fail(b"path");
+        return;
+    }
+    let fd = os::open_read(&path[..length]);
+    if fd < 0 {
+        os::fail(&path[..length]);
+        return;
+    }
+    let mut line = [0u8; 524288];
+    let mut gold = [0u8; 131072];
+    let mut gate = [0u8; 131072];
+    let mut claim = [0u8; 131072];
+    let t = all_lines(fd, &mut line, &mut gold, &mut gate, &mut claim);
+    libc::close(fd);
+    tell(t);
+}

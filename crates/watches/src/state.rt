@@ -1,0 +1,47 @@
+// The types of this crate's arguments and answers.
+use assignment::state::Trail;
+
+// How many clauses there are, and how many literals they have together.
+pub struct Store {
+    pub clauses: usize,
+    pub literals: usize,
+}
+
+// A clause as it is read: its literals lie in the pool from `start` up to `end`; the two watched places.
+pub struct Clause {
+    pub start: u32,
+    pub end: u32,
+    pub first: u32,
+    pub second: u32,
+}
+
+// The cells that were taken from a queue and are still to be visited: the first, and how many there are.
+pub struct Pending {
+    pub cell: u32,
+    pub left: usize,
+}
+
+// A place in a clause, or none.
+pub enum Place {
+    At(u32),
+    Nothing,
+}
+
+// A propagation under way, ended without a conflict, or stopped at a clause whose literals are all false.
+pub enum Propagation {
+    Propagating(Trail),
+    Complete(Trail),
+    Conflict(usize, Trail),
+}
+
+// What is encoded so far: the clauses, and whether one without a literal was asked for.
+pub struct Encoding {
+    pub store: Store,
+    pub inconsistent: bool,
+}
+
+// A search before its first step: its clauses and its assignment.
+pub struct Encoded {
+    pub encoding: Encoding,
+    pub trail: Trail,
+}

@@ -1,0 +1,57 @@
+/* Links the static library and calls it as a C program would. */
+#include <stdio.h>
+
+#include "struo_formal.h"
+
+/* The wire of document 01: input a, output y = a. */
+static const uint8_t wire[19] = {0x01, 0x00, 0x00, 0x00, 0x13, 0x01, 0x67, 0x00, 0x02, 0x00,
+                                 0x01, 0x61, 0x11, 0x01, 0x79, 0x00, 0x00, 0x00, 0x00};
+
+static int failed = 0;
+
+/* One read against what document 01 says of it. */
+static void reads(const char *what, const uint8_t *record, size_t length, uint32_t number, uint32_t place) {
+    struct struo_read_answer answer = struo_read(record, length);
+    if (answer.number != number || answer.side != 0 || answer.place != place) {
+        printf("boundary: %s: %u %u %u, expected %u 0 %u\n", what, answer.number, answer.side, answer.place, number, place);
+        failed = 1;
+    }
+}
+
+/* The wire with a Not before y. */
+static const uint8_t inverter[22] = {0x01, 0x00, 0x00, 0x00, 0x16, 0x01, 0x67, 0x00, 0x03, 0x00, 0x01,
+                                     0x61, 0x10, 0x00, 0x00, 0x11, 0x01, 0x79, 0x00, 0x01, 0x00, 0x00};
+
+/* One replay of wire against inverter in cycle 0. */
+static void replays(uint8_t input, uint8_t mark, bool yes) {
+    uint8_t claim[2] = {input, mark};
+    struct struo_replay_answer answer = struo_replay(wire, sizeof wire, inverter, sizeof inverter, 0, claim, sizeof claim);
+    if (answer.number != 0 || answer.side != 0 || answer.place != 0 || answer.yes != yes) {
+        printf("boundary: replay %u %u: %u %u %u %d\n", input, mark, answer.number, answer.side, answer.place, answer.yes);
+        failed = 1;
+    }
+}
+
+int main(void) {
+    uint8_t other[19];
+    reads("wire", wire, sizeof wire, 0, 0);
+    reads("empty", wire, 0, 1, 0);
+    for (size_t i = 0; i < sizeof wire; i++) other[i] = wire[i];
+    other[0] = 9;
+    reads("first byte 9", other, sizeof other, 2, 0);
+    other[0] = 1;
+    other[16] = 1;
+    reads("y reads node 1", other, sizeof other, 7, 1);
+    other[16] = 0;
+    other[12] = 0x12;
+    reads("unlisted kind", other, sizeof other, 4, 12);
+    replays(0, 1, true);
+    replays(0, 0, false);
+    struct struo_replay_answer late = struo_replay(wire, sizeof wire, inverter, sizeof inverter, 65, wire, 0);
+    if (late.number != 25 || late.yes) {
+        printf("boundary: a claim of cycle 65 is not refused with 25\n");
+        failed = 1;
+    }
+    if (!failed) printf("boundary: the C calls answer as document 01 says\n");
+    return failed;
+}
