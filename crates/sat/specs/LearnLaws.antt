@@ -1,0 +1,205 @@
+-- Laws of the learned clause: its literals put into the pool one after another, and the clause that they become. Assumes nothing.
+use mathlib.Core.Path.{_≡_, refl, ap, sym, _∙_}
+use mathlib.Core.Bool.{true}
+use mathlib.Core.List.{List, [], _∷_}
+use Prim.Native.Nat.{ℕ, zero, suc, _+_, _-_, _*_, _<_, _≤_}
+use native.Mathlib.Omega.{arith}
+use native.Mathlib.Numerals.{add-one}
+use lib.ListN.{length, take, drop, getD, length-drop}
+use lib.Seq.{take-suc, getD-drop, length-take-le, slice-empty}
+use lib.Ieee.{Float}
+use Rattle.words.specs.Region.{region, length-region}
+use Rattle.model.specs.Lists.{snoc}
+use Rattle.model.specs.Sat as Sat
+use Rattle.assignment.specs.State.{Unchanged, column, assignmentOf, assignmentRegions, Ready, Becomes}
+use Rattle.assignment.specs.Scores.{Others}
+use Rattle.assignment.specs.StateLaws.{unchanged-none, unchanged-both, unchanged-within, assignment-kept}
+use Rattle.assignment.specs.declared.state.Trail.{Trail}
+use Rattle.watches.specs.State.{solverOf, scored, searchRegions, Sound, watchRegions, poolLiterals, Attachable, AllBelow, Pooled, clean, Added, AddedList}
+use Rattle.watches.specs.PoolLaws.{attachable, added-list}
+use Rattle.watches.specs.declared.state.Store.{Store}
+use Rattle.analysis.specs.SortLaws.{part}
+use Rattle.analysis.specs.Sorting.{Sorts}
+use Rattle.analysis.specs.Analysis.{analysisRegions}
+use Rattle.sat.specs.SoundLaws.{sound-back, sound-analysis, solver-becomes, solver-analysis}
+use Rattle.sat.specs.declared.state.Learned.{Learned}
+
+-- of `push_learned`
+pub record Pushes (m : Store) (t : Trail) (start count : ℕ) (w w′ : List ℕ) : Type 0 where
+  pub literals : poolLiterals m count w′ ≡ part count start (region 1114112 w)
+  pub frame : Unchanged watchRegions w w′
+  pub sound : Sound m t w′ []
+  pub is : (s : Sat.Solver) → solverOf s m t w′ ≡ solverOf s m t w
+
+module _ (m : Store) (t : Trail) (start count : ℕ) (w₀ : List ℕ) where
+  -- i literals are in the pool
+  pub record Pushing (i : ℕ) (w : List ℕ) : Type 0 where
+    pub inside : i ≤ count
+    pub long : length w ≡ length w₀
+    pub done : Pushes m t start i w₀ w
+
+  pub pushing-start : Sound m t w₀ [] → Pushing 0 w₀
+  pushing-start s =
+      let e : m .literals + 0 ≡ m .literals = omega arith in
+      record {
+        inside = omega arith;
+        long = refl;
+        done = record { literals = rw e (slice-empty (m .literals) (region 4718592 w₀)); frame = unchanged-none watchRegions w₀; sound = s; is = λ s. refl };
+      }
+
+  -- one more word of a part
+  part-more : (i s : ℕ) (r : List ℕ) → s + i < length r → snoc (part i s r) (getD r (s + i) 0) ≡ part (i + 1) s r
+  unfolding snoc
+  part-more i s r h =
+      let k : i < length (drop s r) = simp length-drop (omega arith) in
+      rw (add-one, take-suc (drop s r) i 0 k, getD-drop s r i 0)
+
+  pub pushing-step : (i l : ℕ) (w w′ : List ℕ) → start + count ≤ 65536 → Pushing i w → i < count → l ≡ getD (region 1114112 w) (start + i) 0 → Pooled m t w i l w′ → length w′ ≡ length w → Pushing (i + 1) w′
+  pushing-step i l w w′ h g k e p n =
+      let d = g .done in
+      let r = region 1114112 w₀ in
+      let f : l ≡ getD r (start + i) 0 = e ∙ ap (λ (x : List ℕ). getD x (start + i) 0) (d .frame .same 1114112 refl) in
+      let z : start + i < length r = omega (arith, length-region 1114112 w₀ (omega (arith, g .long, d .sound .formed .ready .words))) in
+      record {
+        inside = omega arith;
+        long = n ∙ g .long;
+        done =
+            record {
+              literals = p .literals ∙ ap (λ (x : List ℕ). snoc x l) (d .literals) ∙ ap (λ (y : ℕ). snoc (part i start r) y) f ∙ part-more i start r z;
+              frame = unchanged-both watchRegions (d .frame) (p .frame);
+              sound = p .sound;
+              is = λ s. p .is s ∙ d .is s;
+            };
+      }
+
+  pub pushes : (i : ℕ) (w : List ℕ) → Pushing i w → count ≤ i → Pushes m t start count w₀ w
+  pushes i w g h = let e : i ≡ count = omega arith in rw e at (g .done)
+
+  -- what `add_clause` asks
+  pub learned-asked : (w : List ℕ) (x : List Float) → Pushes m t start count w₀ w → m .literals + count ≤ 786432 → m .clauses + 1 < 524288 → 0 < count → t .variables ≤ length x
+      → AllBelow (t .variables * 2) (part count start (region 1114112 w₀)) → clean (part count start (region 1114112 w₀)) ≡ true
+      → Attachable m t w count × (t .variables ≤ length x) × (clean (poolLiterals m count w) ≡ true)
+  learned-asked w x p l c n v a k = (attachable m t w count (p .sound) c l n (rw (p .literals) a), v, rw (p .literals) k)
+
+  -- what it makes
+  pub learned-added : (w : List ℕ) (x : List Float) (m′ : Store) (w′ : List ℕ) (x′ : List Float) → Pushes m t start count w₀ w → 8388608 ≤ length w₀ → start + count ≤ 65536 → Added m t w x count m′ w′ x′
+      → AddedList m t w₀ x (part count start (region 1114112 w₀)) m′ w′ x′
+  learned-added w x m′ w′ x′ p h k a =
+      let n : count ≡ length (part count start (region 1114112 w₀)) = sym (length-take-le count (drop start (region 1114112 w₀)) (simp length-drop (omega (arith, length-region 1114112 w₀ (omega arith))))) in
+      added-list m t w₀ w x (part count start (region 1114112 w₀)) count m′ w′ x′ (p .frame) (p .is) (p .literals) n a
+
+-- ---- the clause learned
+
+-- the literals of the learned clause
+abbrev pub learnedClause : ℕ → ℕ → List ℕ → List ℕ
+learnedClause asserting count w = Sat.sortLiterals (asserting ∷ column count 1114112 w)
+
+-- what is asked: there is room, and the literals are of distinct variables of the solver
+pub record Learnable (m : Store) (t : Trail) (w : List ℕ) (x : List Float) (asserting count : ℕ) : Type 0 where
+  pub sound : Sound m t w []
+  pub scores : t .variables ≤ length x
+  pub few : count < 65536
+  pub clauses : m .clauses + 1 < 524288
+  pub literals : m .literals + (count + 1) ≤ 786432
+  pub range : AllBelow (t .variables * 2) (learnedClause asserting count w)
+  pub distinct : clean (learnedClause asserting count w) ≡ true
+
+-- the regions that learning writes
+abbrev pub learnRegions : List ℕ
+learnRegions = 1114112 ∷ searchRegions
+
+-- of `learn`
+pub record Learns (m : Store) (t : Trail) (w : List ℕ) (x : List Float) (asserting count : ℕ) (r : Learned) (w′ : List ℕ) (x′ : List Float) : Type 0 where
+  pub is : (s : Sat.Solver) → solverOf (scored s (t .variables) x′) (r .store) (r .trail) w′
+      ≡ Sat.addSorted
+      (Sat.withAssignment (solverOf (scored s (t .variables) x) m t w)
+      (Sat.backtrack (assignmentOf t w) (Sat.highestLevel (assignmentOf t w) (column count 1114112 w))))
+      (learnedClause asserting count w)
+  pub sound : Sound (r .store) (r .trail) w′ []
+  pub variables : r .trail .variables ≡ t .variables
+  pub clauses : r .store .clauses ≡ m .clauses + 1
+  pub literals : r .store .literals ≡ m .literals + length (learnedClause asserting count w)
+  pub others : Others (t .variables) x x′
+  pub frame : Unchanged learnRegions w w′
+
+module _ (m : Store) (t : Trail) (w : List ℕ) (x : List Float) (asserting count : ℕ) (able : Learnable m t w x asserting count) (start : ℕ) (w₁ : List ℕ) (o : Sorts count asserting w start w₁) (long : length w₁ ≡ length w) where
+  within : Unchanged analysisRegions w w₁
+  within = unchanged-within (1114112 ∷ []) analysisRegions refl (o .frame)
+
+  same : assignmentOf t w₁ ≡ assignmentOf t w
+  same = assignment-kept analysisRegions t refl within
+
+  -- what backtracking asks
+  pub learn-ready : Ready t w₁
+  learn-ready = let y = able .sound .formed .ready in record { words = o .words; variables = y .variables; literals = y .literals; levels = y .levels }
+
+  module _ (level : ℕ) (l : level ≡ Sat.highestLevel (assignmentOf t w) (column count 1114112 w)) (r : Trail) (w₂ : List ℕ) (b : Becomes t w₁ (Sat.backtrack (assignmentOf t w₁) level) r w₂) where
+    sound₂ : Sound m r w₂ []
+    sound₂ = sound-back m t r w₁ w₂ level (sound-analysis m t w w₁ [] (able .sound) within long) b
+
+    clause-is : part (count + 1 - start) start (region 1114112 w₂) ≡ learnedClause asserting count w
+    clause-is = ap (λ (u : List ℕ). part (count + 1 - start) start u) (b .frame .same 1114112 refl) ∙ o .is
+
+    -- a clean clause has a literal
+    some-literal : (n : ℕ) (u : List ℕ) → clean (take n u) ≡ true → 0 < n
+    unfolding clean
+    some-literal zero u e = absurd (let z : _≡_ {A = ℕ} 0 1 = cc e in omega arith)
+    some-literal (suc n) u e = omega arith
+
+    pub learn-asked : Sound m r w₂ [] × (m .literals + (count + 1 - start) ≤ 786432) × (start + (count + 1 - start) ≤ 65536) × (m .clauses + 1 < 524288) × (0 < count + 1 - start) × (r .variables ≤ length x)
+        × AllBelow (r .variables * 2) (part (count + 1 - start) start (region 1114112 w₂)) × (clean (part (count + 1 - start) start (region 1114112 w₂)) ≡ true)
+    learn-asked =
+        let k : clean (part (count + 1 - start) start (region 1114112 w₂)) ≡ true = rw clause-is (able .distinct) in (
+          sound₂,
+          omega (arith, able .literals),
+          omega (arith, o .high, able .few),
+          able .clauses,
+          some-literal (count + 1 - start) _ k,
+          omega (arith, able .scores, b .variables),
+          rw (clause-is, b .variables) (able .range),
+          k,
+        )
+
+    pub learns : (m′ : Store) (w′ : List ℕ) (x′ : List Float) → AddedList m r w₂ x (part (count + 1 - start) start (region 1114112 w₂)) m′ w′ x′
+        → Learns m t w x asserting count (record { store = m′; trail = r }) w′ x′
+    learns m′ w′ x′ a =
+        record {
+          is = λ s.
+              let ls = part (count + 1 - start) start (region 1114112 w₂) in
+              let S = solverOf (scored s (t .variables) x) m t w in
+              sym (ap (λ (n : ℕ). solverOf (scored s n x′) m′ r w′) (b .variables)) ∙ a .is s
+              ∙ ap (λ (n : ℕ). Sat.addSorted (solverOf (scored s n x) m r w₂) ls) (b .variables)
+              ∙ ap (λ (z : Sat.Solver). Sat.addSorted z ls) (solver-becomes (scored s (t .variables) x) m t r w₁ w₂ (Sat.backtrack (assignmentOf t w₁) level) b)
+              ∙ ap (λ (z : Sat.Solver). Sat.addSorted (Sat.withAssignment z (Sat.backtrack (assignmentOf t w₁) level)) ls) (solver-analysis (scored s (t .variables) x) m t w w₁ within)
+              ∙ ap (λ (u : Sat.Assignment). Sat.addSorted (Sat.withAssignment S (Sat.backtrack u level)) ls) same
+              ∙ ap (λ (k : ℕ). Sat.addSorted (Sat.withAssignment S (Sat.backtrack (assignmentOf t w) k)) ls) l
+              ∙ ap (λ (k : List ℕ). Sat.addSorted (Sat.withAssignment S (Sat.backtrack (assignmentOf t w) (Sat.highestLevel (assignmentOf t w) (column count 1114112 w)))) k) clause-is;
+          sound = a .sound;
+          variables = b .variables;
+          clauses = a .clauses;
+          literals = rw clause-is at (a .literals);
+          others = rw (b .variables) at (a .others);
+          frame = unchanged-both learnRegions (unchanged-within (1114112 ∷ []) learnRegions refl (o .frame))
+              (unchanged-both learnRegions (unchanged-within assignmentRegions learnRegions refl (b .frame)) (unchanged-within watchRegions learnRegions refl (a .frame)));
+        }
+
+-- ---- as the definition has it
+
+-- the solver with these scores, and k literals and one more in its total
+unfoldable pub counted : Sat.Solver → Sat.Scores → ℕ → Sat.Solver
+counted s c k =
+    record {
+      clauses = s .clauses;
+      watches = s .watches;
+      assignment = s .assignment;
+      scores = c;
+      inconsistent = s .inconsistent;
+      learned = s .learned + suc k;
+    }
+
+-- the definition's `learn` is what `Learns` says of the counted solver
+pub learn-of : (s : Sat.Solver) (c : Sat.Scores) (m : Store) (t : Trail) (w : List ℕ) (asserting : ℕ) (others : List ℕ)
+    → Sat.learn (solverOf s m t w) c asserting others
+    ≡ Sat.addSorted (Sat.withAssignment (solverOf (counted s c (length others)) m t w) (Sat.backtrack (assignmentOf t w) (Sat.highestLevel (assignmentOf t w) others))) (Sat.sortLiterals (asserting ∷ others))
+unfolding Sat.learn Sat.addClause solverOf Sat.withAssignment counted
+learn-of s c m t w asserting others = refl

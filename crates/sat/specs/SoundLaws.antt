@@ -1,0 +1,170 @@
+-- Backtracking and analysis keep a search's clauses and queues sound, and the solver but for what they change. Assumes nothing.
+use mathlib.Core.Path.{_≡_, refl, ap}
+use mathlib.Core.Bool.{Bool, true, false, cond}
+use mathlib.Core.List.{List, [], _∷_}
+use Prim.Native.Nat.{ℕ, zero, suc, _+_, _*_, _/_, _<_, _≤_}
+use native.Mathlib.Omega.{arith}
+use lib.Dec.{leb}
+use lib.ListN.{length, take, drop, set, getD, length-take, length-drop, length-append}
+use Rattle.model.specs.Literal.{node, inverted}
+use Rattle.model.specs.Lists as Lists
+use Rattle.model.specs.Sat as Sat
+use Rattle.assignment.specs.State.{assignmentOf, Unchanged, Becomes, decided}
+use Rattle.assignment.specs.StateLaws.{assignment-kept, trail-length, variables-are}
+use Rattle.assignment.specs.declared.state.Trail.{Trail}
+use Rattle.watches.specs.Clauses.{watchesOf, same-clauses, same-queues}
+use Rattle.watches.specs.State.{solverOf, unassigned, Formed, Sound}
+use Rattle.watches.specs.StepLaws.{formed-kept, assigned-clauses, assigned-queues}
+use Rattle.watches.specs.declared.state.Store.{Store}
+use Rattle.analysis.specs.Analysis.{analysisRegions}
+
+-- ---- the room of the trail
+
+-- one variable less is assigned at most
+one-less : (vs : List Sat.Value) (i : ℕ) → unassigned (set vs i Sat.Unassigned) ≤ suc (unassigned vs)
+unfolding unassigned
+one-less [] i = omega arith
+one-less (Sat.False ∷ vs) zero = omega arith
+one-less (Sat.Unassigned ∷ vs) zero = omega arith
+one-less (Sat.True ∷ vs) zero = omega arith
+one-less (Sat.False ∷ vs) (suc i) = one-less vs i
+one-less (Sat.Unassigned ∷ vs) (suc i) = omega (arith, one-less vs i)
+one-less (Sat.True ∷ vs) (suc i) = one-less vs i
+
+-- as many as the literals that are unassigned
+all-less : (t : Sat.Assignment) (ls : List ℕ) → unassigned (Sat.unassignAll t ls .assignments) ≤ unassigned (t .assignments) + length ls
+unfolding Sat.unassignAll Sat.unassign
+all-less t [] = omega arith
+all-less t (l ∷ ls) = omega (arith, all-less (Sat.unassign t l) ls, one-less (t .assignments) (node l))
+
+-- the trail stays meanwhile
+all-trail : (t : Sat.Assignment) (ls : List ℕ) → Sat.unassignAll t ls .trail ≡ t .trail
+unfolding Sat.unassignAll Sat.unassign
+all-trail t [] = refl
+all-trail t (l ∷ ls) = all-trail (Sat.unassign t l) ls
+
+cut-room : (t : Sat.Assignment) (n level : ℕ)
+    → unassigned (Sat.cutTrail (Sat.unassignAll t (drop n (t .trail))) n level .assignments) + length (Sat.cutTrail (Sat.unassignAll t (drop n (t .trail))) n level .trail)
+    ≤ unassigned (t .assignments) + length (t .trail)
+unfolding Sat.cutTrail
+cut-room t n level =
+    omega (
+      arith,
+      all-less t (drop n (t .trail)),
+      length-drop n (t .trail),
+      length-take n (t .trail),
+      ap (λ (ls : List ℕ). length (take n ls)) (all-trail t (drop n (t .trail))),
+    )
+
+-- backtracking leaves as much room
+back-room : (t : Sat.Assignment) (level : ℕ) → unassigned (Sat.backtrack t level .assignments) + length (Sat.backtrack t level .trail) ≤ unassigned (t .assignments) + length (t .trail)
+unfolding Sat.backtrack Sat.backtrackUnless
+back-room t level = go (leb (Sat.decisionLevel t) level)
+  where
+    go : (b : Bool) → unassigned (Sat.backtrackUnless t level b .assignments) + length (Sat.backtrackUnless t level b .trail) ≤ unassigned (t .assignments) + length (t .trail)
+    go true = omega arith
+    go false = cut-room t (getD (t .trailLimits) level 0) level
+
+-- ---- soundness
+
+-- another assignment that leaves as much room is sound
+sound-becomes : (m : Store) (t r : Trail) (w w′ : List ℕ) (a : Sat.Assignment) → Sound m t w [] → Becomes t w a r w′
+    → unassigned (a .assignments) + length (a .trail) ≤ unassigned (assignmentOf t w .assignments) + length (assignmentOf t w .trail) → Sound m r w′ []
+sound-becomes m t r w w′ a s b k =
+    let f = s .formed in
+    record {
+      formed =
+          record {
+            ready = b .ready;
+            some = omega (arith, f .some, b .variables);
+            clauses = f .clauses;
+            literals = f .literals;
+            last = rw (b .frame .same 2097152 refl) (f .last);
+            within = rw (b .frame .same 2097152 refl) (f .within);
+            range = rw (b .frame .same 4718592 refl, b .variables) (f .range);
+            room =
+                omega (
+                  arith,
+                  f .room,
+                  k,
+                  trail-length t w (f .ready),
+                  trail-length r w′ (b .ready),
+                  b .variables,
+                  ap (λ (u : Sat.Assignment). unassigned (u .assignments)) (b .is),
+                  ap (λ (u : Sat.Assignment). length (u .trail)) (b .is),
+                );
+          };
+      queues = rw (assigned-queues w w′ (b .frame)) (s .queues);
+    }
+
+-- after backtracking all is sound
+pub sound-back : (m : Store) (t r : Trail) (w w′ : List ℕ) (level : ℕ) → Sound m t w [] → Becomes t w (Sat.backtrack (assignmentOf t w) level) r w′ → Sound m r w′ []
+sound-back m t r w w′ level s b = sound-becomes m t r w w′ (Sat.backtrack (assignmentOf t w) level) s b (back-room (assignmentOf t w) level)
+
+-- the solver with another assignment
+pub solver-becomes : (s : Sat.Solver) (m : Store) (t r : Trail) (w w′ : List ℕ) (a : Sat.Assignment) → Becomes t w a r w′ → solverOf s m r w′ ≡ Sat.withAssignment (solverOf s m t w) a
+unfolding solverOf Sat.withAssignment watchesOf
+solver-becomes s m t r w w′ a b = rw (assigned-clauses (m .clauses) w w′ (b .frame), assigned-queues w w′ (b .frame), b .is, b .variables)
+
+-- ---- a decision
+
+-- a variable assigned leaves one fewer unassigned
+one-fewer : (vs : List Sat.Value) (i : ℕ) (b : Bool) → i < length vs → getD vs i Sat.Unassigned ≡ Sat.Unassigned → suc (unassigned (set vs i (Sat.makingTrue b))) ≡ unassigned vs
+unfolding unassigned Sat.makingTrue
+one-fewer [] i b h e = absurd (omega arith)
+one-fewer (Sat.Unassigned ∷ vs) zero true h e = refl
+one-fewer (Sat.Unassigned ∷ vs) zero false h e = refl
+one-fewer (Sat.False ∷ vs) zero b h e = absurd (let z : _≡_ {A = ℕ} 0 1 = cc e in omega arith)
+one-fewer (Sat.True ∷ vs) zero b h e = absurd (let z : _≡_ {A = ℕ} 0 1 = cc e in omega arith)
+one-fewer (Sat.Unassigned ∷ vs) (suc i) b h e = ap suc (one-fewer vs i b (omega arith) e)
+one-fewer (Sat.False ∷ vs) (suc i) b h e = one-fewer vs i b (omega arith) e
+one-fewer (Sat.True ∷ vs) (suc i) b h e = one-fewer vs i b (omega arith) e
+
+-- the literal of a decision is of its variable
+decision-node : (t : Sat.Assignment) (v : ℕ) → node (Sat.decision t v) ≡ v
+unfolding node Sat.decision
+decision-node t v = go (getD (t .phases) v false)
+  where
+    go : (b : Bool) → cond b (v * 2) (v * 2 + 1) / 2 ≡ v
+    go true = omega arith
+    go false = omega arith
+
+-- a decision takes one variable and one place of the trail
+decide-room : (t : Sat.Assignment) (v : ℕ) → v < length (t .assignments) → getD (t .assignments) v Sat.Unassigned ≡ Sat.Unassigned
+    → unassigned (decided t v .assignments) + length (decided t v .trail) ≡ unassigned (t .assignments) + length (t .trail)
+unfolding decided Sat.assign Sat.pushLimit Lists.snoc
+decide-room t v h e =
+    let x = Sat.makingTrue (inverted (Sat.decision t v)) in
+    let a : unassigned (set (t .assignments) (node (Sat.decision t v)) x) ≡ unassigned (set (t .assignments) v x) = ap (λ (i : ℕ). unassigned (set (t .assignments) i x)) (decision-node t v) in
+    omega (arith, a, one-fewer (t .assignments) v (inverted (Sat.decision t v)) h e, length-append (t .trail) (Sat.decision t v ∷ []))
+
+-- the trail has room for a variable that is not assigned
+pub decide-fits : (m : Store) (t : Trail) (w : List ℕ) (v : ℕ) → Formed m t w → v < t .variables → getD (assignmentOf t w .assignments) v Sat.Unassigned ≡ Sat.Unassigned → t .length < t .variables
+decide-fits m t w v f h e =
+    omega (arith, f .room, one-fewer (assignmentOf t w .assignments) v true (omega (arith, variables-are t w (f .ready))) e)
+
+-- after a decision all is sound
+pub sound-decide : (m : Store) (t r : Trail) (w w′ : List ℕ) (v : ℕ) → Sound m t w [] → v < t .variables → getD (assignmentOf t w .assignments) v Sat.Unassigned ≡ Sat.Unassigned
+    → Becomes t w (decided (assignmentOf t w) v) r w′ → Sound m r w′ []
+sound-decide m t r w w′ v s h e b =
+    sound-becomes m t r w w′ (decided (assignmentOf t w) v) s b
+    (omega (arith, decide-room (assignmentOf t w) v (omega (arith, variables-are t w (s .formed .ready))) e))
+
+-- ---- an analysis
+
+-- an analysis touches nothing of it
+pub sound-analysis : (m : Store) (t : Trail) (w w′ : List ℕ) (p : List ℕ) → Sound m t w p → Unchanged analysisRegions w w′ → length w′ ≡ length w → Sound m t w′ p
+sound-analysis m t w w′ p s f l =
+    record {
+      formed = formed-kept m t w w′ (s .formed) (f .same 2097152 refl) (f .same 4718592 refl) (assignment-kept analysisRegions t refl f) l;
+      queues = rw (same-queues w′ w (f .same 1703936 refl) (f .same 1835008 refl) (f .same 1966080 refl) (f .same 3670016 refl)) (s .queues);
+    }
+
+pub solver-analysis : (s : Sat.Solver) (m : Store) (t : Trail) (w w′ : List ℕ) → Unchanged analysisRegions w w′ → solverOf s m t w′ ≡ solverOf s m t w
+unfolding solverOf watchesOf
+solver-analysis s m t w w′ f =
+    rw (
+      same-clauses (m .clauses) w′ w (f .same 2097152 refl) (f .same 2621440 refl) (f .same 4718592 refl),
+      same-queues w′ w (f .same 1703936 refl) (f .same 1835008 refl) (f .same 1966080 refl) (f .same 3670016 refl),
+      assignment-kept analysisRegions t refl f,
+    )

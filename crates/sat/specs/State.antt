@@ -1,0 +1,103 @@
+-- What a search's state and words stand for: the definition's solver and search; what holds between rounds; and what the functions of a round promise. Definitions only.
+use mathlib.Core.Path.{_≡_}
+use mathlib.Core.Bool.{Bool}
+use mathlib.Core.List.{List, [], _∷_, map}
+use Prim.Native.Nat.{ℕ, suc, _+_, _*_, _<_, _≤_}
+use lib.ListN.{length}
+use lib.Ieee.{Float}
+use Rattle.model.specs.Literal.{Literal}
+use Rattle.model.specs.Aig.{Aig}
+use Rattle.model.specs.Sat as Sat
+use Rattle.laws.specs.Search.State.{Idle, Stuck, Conflicting}
+use Rattle.assignment.specs.State.{wordValue, column, Unchanged}
+use Rattle.assignment.specs.Scores.{scoresOf, Fixed, Others}
+use Rattle.watches.specs.State.{solverOf, Sound, searchRegions}
+use Rattle.analysis.specs.Analysis.{analysisRegions}
+use Rattle.sat.specs.LearnLaws.{learnedClause, Learnable}
+use Rattle.sat.specs.declared.state.State.{State}
+use Rattle.sat.specs.declared.state.Step.{Step}
+use Rattle.sat.specs.declared.state.Step.the-variants as Steps
+
+-- ---- THE ABSTRACTION
+
+-- the part of the solver that is in no lent word
+unfoldable pub baseOf : State → List Float → Sat.Solver
+baseOf s x =
+    record {
+      clauses = [];
+      watches = [];
+      assignment = Sat.new 0 .assignment;
+      scores = scoresOf (s .trail .variables) (s .activity) x;
+      inconsistent = s .inconsistent;
+      learned = s .learned;
+    }
+
+-- the definition's solver
+unfoldable pub stateOf : State → List ℕ → List Float → Sat.Solver
+stateOf s w x = solverOf (baseOf s x) (s .store) (s .trail) w
+
+-- the model that the values of n variables are
+abbrev pub modelOf : ℕ → List ℕ → List Bool
+modelOf n w = map Sat.isTrue (map wordValue (column n 655360 w))
+
+-- the definition's search after a round
+abbrev pub stepOf : ℕ → Step → List ℕ → List Float → Sat.Search
+stepOf n (Steps.Searching s) w x = Sat.searching (stateOf s w x)
+stepOf n (Steps.Model k) w x = Sat.answered (Sat.model (modelOf n w) k)
+stepOf n (Steps.NoModel k) w x = Sat.answered (Sat.noModel k)
+stepOf n (Steps.GaveUp k) w x = Sat.answered (Sat.gaveUp k)
+
+-- ---- what holds throughout
+
+-- the words and the scores are sound, and what may still be learned within the limit fits the layout
+pub record Fits (limit : ℕ) (s : State) (w : List ℕ) (x : List Float) : Type 0 where
+  pub sound : Sound (s .store) (s .trail) w []
+  pub scores : s .trail .variables ≤ length x
+  pub fixed : Fixed (s .activity)
+  pub limited : limit ≤ 262144
+  pub total : s .learned ≤ limit
+  pub clauses : s .store .clauses ≤ 262143 + s .learned
+  pub literals : s .store .literals ≤ 524288 + s .learned
+
+-- between rounds: the invariant of the search of a graph and its assumptions
+pub record Going (limit : ℕ) (s : State) (w : List ℕ) (x : List Float) : Type 0 where
+  pub fits : Fits limit s w x
+  pub graph : Aig
+  pub assumptions : List Literal
+  pub size : length graph ≡ s .trail .variables
+  pub idle : Idle (length graph) (Sat.encode graph assumptions .clauses) (stateOf s w x)
+
+-- at a conflict
+pub record Stopped (limit : ℕ) (s : State) (w : List ℕ) (x : List Float) (id : ℕ) : Type 0 where
+  pub fits : Fits limit s w x
+  pub original : List Sat.Clause
+  pub stuck : Stuck (s .trail .variables) original (stateOf s w x)
+  pub conflicting : Conflicting (stateOf s w x) id (stuck .place)
+
+-- ---- what is promised
+
+-- the regions that a search writes
+abbrev pub solveRegions : List ℕ
+solveRegions = 917504 ∷ 1114112 ∷ searchRegions
+
+-- a search that goes on is sound, with the same variables
+abbrev pub Next : ℕ → ℕ → Step → List ℕ → List Float → Type 0
+Next limit n (Steps.Searching s) w x = Fits limit s w x × (s .trail .variables ≡ n)
+Next limit n (Steps.Model k) w x = Unit {0}
+Next limit n (Steps.NoModel k) w x = Unit {0}
+Next limit n (Steps.GaveUp k) w x = Unit {0}
+
+-- the search is what the definition says
+pub record Results (limit n : ℕ) (w : List ℕ) (x : List Float) (goal : Sat.Search) (r : Step) (w′ : List ℕ) (x′ : List Float) : Type 0 where
+  pub is : stepOf n r w′ x′ ≡ goal
+  pub next : Next limit n r w′ x′
+  pub others : Others n x x′
+  pub frame : Unchanged solveRegions w w′
+
+-- what `assert_learned` asks: the clause can be learned, within the limit
+pub record Assertable (limit : ℕ) (s : State) (w : List ℕ) (x : List Float) (asserting count : ℕ) : Type 0 where
+  pub fits : Fits limit s w x
+  pub able : Learnable (s .store) (s .trail) w x asserting count
+  pub range : asserting < s .trail .variables * 2
+  pub within : s .learned + (count + 1) ≤ limit
+  pub size : length (learnedClause asserting count w) ≡ suc count

@@ -1,0 +1,155 @@
+// One round of the search: propagation, then the clause that a conflict teaches, or a decision.
+ghost use mathlib.Core.Path.{_≡_};
+ghost use mathlib.Core.List.{[]};
+ghost use Prim.Native.Nat.{_*_, _<_};
+ghost use Rattle.model.specs.Sat as Sat;
+ghost use Rattle.assignment.specs.State.{assignmentOf, column, enqueued, wordReason};
+ghost use Rattle.watches.specs.State.{Sound, UnitStep};
+ghost use Rattle.sat.specs.State.{stateOf, Assertable, Going, Stopped, Results};
+use crate::decide::decide;
+use crate::learn::learn;
+use crate::state::Decided;
+use crate::state::State;
+use crate::state::Step;
+use analysis::resolve::analyze;
+use assignment::scores::decay_activity;
+use assignment::state::Enqueued;
+use assignment::state::Trail;
+use assignment::state::Value;
+use assignment::trail::assign;
+use assignment::trail::value;
+use watches::propagate::negate;
+use watches::propagate::propagate;
+use watches::state::Propagation;
+use watches::state::Store;
+
+// A literal of the variables made true with its reason; not ok where it is false.
+fn assert_literal(words: &mut [u32], store: Store, t: Trail, l: u32, reason: u32) -> Enqueued
+    requires { ⌜ Sound store t (now words) [] × (l < t .variables * 2) ⌝ }
+    ensures { λ r. ⌜ UnitStep store t (now (words .entry)) r (now (words .exit))
+        × (enqueued (r .ok) (assignmentOf (r .trail) (now (words .exit))) ≡ Sat.enqueue (assignmentOf t (now (words .entry))) l (wordReason reason)) ⌝ }
+{
+    match value(words, t, l) {
+        Value::True => Enqueued { ok: true, trail: t },
+        Value::False => Enqueued {
+            ok: false,
+            trail: t,
+        },
+        Value::Unassigned => {
+            let next = assign(words, t, l, reason);
+            Enqueued {
+                ok: true,
+                trail: next,
+            }
+        }
+    }
+}
+
+// The clause of the asserting literal and the `count` learned ones added, and the asserting one made true by it.
+fn assert_learned(
+    words: &mut [u32],
+    scores: &mut [f64],
+    s: State,
+    asserting: u32,
+    count: usize,
+    limit: usize,
+) -> Step
+    requires { ⌜ Assertable limit s (now words) (now scores) asserting count ⌝ }
+    ensures { λ r. ⌜ Results limit (s .trail .variables) (now (words .entry)) (now (scores .entry))
+        (Sat.assertLearned (s .store .clauses) asserting (Sat.learn (stateOf s (now (words .entry)) (now (scores .entry))) (stateOf s (now (words .entry)) (now (scores .entry)) .scores) asserting (column count 1114112 (now (words .entry)))))
+        r (now (words .exit)) (now (scores .exit)) ⌝ }
+{
+    let before = s.store;
+    let t = s.trail;
+    let activity = s.activity;
+    let reason = (before.clauses + 1) as u32;
+    let total = s.learned + count + 1;
+    let l = learn(words, scores, before, t, asserting, count);
+    let store = l.store;
+    let back = l.trail;
+    let e = assert_literal(words, store, back, asserting, reason);
+    if !e.ok {
+        return Step::NoModel(total);
+    }
+    let trail = e.trail;
+    Step::Searching(State {
+        store,
+        trail,
+        activity,
+        inconsistent: s.inconsistent,
+        learned: total,
+    })
+}
+
+// The search after a conflict: no model at level 0; else the clause that it teaches is learned, unless the total would pass the limit.
+fn after_conflict(
+    words: &mut [u32],
+    scores: &mut [f64],
+    s: State,
+    conflict: usize,
+    limit: usize,
+) -> Step
+    requires { ⌜ Stopped limit s (now words) (now scores) conflict ⌝ }
+    ensures { λ r. ⌜ Results limit (s .trail .variables) (now (words .entry)) (now (scores .entry))
+        (Sat.afterConflict limit (stateOf s (now (words .entry)) (now (scores .entry))) conflict (Sat.decisionLevel (stateOf s (now (words .entry)) (now (scores .entry)) .assignment)))
+        r (now (words .exit)) (now (scores .exit)) ⌝ }
+{
+    let learned = s.learned;
+    let trail = s.trail;
+    if trail.level == 0 {
+        return Step::NoModel(learned);
+    }
+    let store = s.store;
+    let clauses = store.clauses;
+    let r = analyze(words, scores, trail, s.activity, clauses, conflict);
+    let analysis = r.analysis;
+    let count = analysis.learned;
+    let activity = decay_activity(analysis.activity);
+    if limit < learned + count + 1 {
+        return Step::GaveUp(learned);
+    }
+    let next = State {
+        store,
+        trail,
+        activity,
+        inconsistent: s.inconsistent,
+        learned,
+    };
+    assert_learned(words, scores, next, negate(r.pivot), count, limit)
+}
+
+// One round: propagation, then the clause that a conflict teaches, or a decision, or the model where every variable is assigned.
+// A propagation never ends unfinished.
+pub fn step(words: &mut [u32], scores: &mut [f64], s: State, limit: usize) -> Step
+    requires { ⌜ Going limit s (now words) (now scores) ⌝ }
+    ensures { λ r. ⌜ Results limit (s .trail .variables) (now (words .entry)) (now (scores .entry)) (Sat.step limit (stateOf s (now (words .entry)) (now (scores .entry))))
+        r (now (words .exit)) (now (scores .exit)) ⌝ }
+{
+    let store = s.store;
+    let activity = s.activity;
+    let inconsistent = s.inconsistent;
+    let learned = s.learned;
+    match propagate(words, store, s.trail) {
+        Propagation::Propagating(_) => Step::NoModel(learned),
+        Propagation::Complete(t) => match decide(words, scores, store, t) {
+            Decided::Nothing => Step::Model(learned),
+            Decided::Deeper(trail) => Step::Searching(State {
+                store,
+                trail,
+                activity,
+                inconsistent,
+                learned,
+            }),
+        },
+        Propagation::Conflict(id, trail) => {
+            let next = State {
+                store,
+                trail,
+                activity,
+                inconsistent,
+                learned,
+            };
+            after_conflict(words, scores, next, id, limit)
+        }
+    }
+}
