@@ -1,4 +1,4 @@
-// The public library: the calls on design records, for Rust and for C. No call requires anything of its arguments.
+// The public library: the calls on design records, for Rust and for C. Nothing is asked of any argument.
 use struo_ir::reader::Answer;
 use struo_ir::reader::Reading;
 use struo_ir::record::read_record;
