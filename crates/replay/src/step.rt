@@ -182,7 +182,7 @@ fn outcome(
     Stepped { position, yes }
 }
 
-// One cycle of both sides. Per side the old row of stored bits gives the new one, and the two are exchanged.
+// One cycle of both sides. Per side the old row of stored bits gives a new one, which takes its place.
 pub fn advance(
     gold: Side,
     gate: Side,
