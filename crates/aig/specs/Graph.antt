@@ -1,7 +1,7 @@
 -- The graph that two regions of lent words stand for. Definitions, with the laws of one node more. Assumes nothing.
 use mathlib.Core.Path.{_≡_, refl}
 use mathlib.Core.List.{List, []}
-use Prim.Native.Nat.{ℕ, zero, suc, _+_, _*_, _≤_, _<_}
+use Prim.Native.Nat.{ℕ, zero, suc, _+_, _*_, _/_, _≤_, _<_}
 use native.Mathlib.Omega.{arith}
 use native.Mathlib.Numerals.{add-one}
 use lib.ListN.{length, getD, set, length-append}
@@ -77,6 +77,10 @@ ordered-set n ls rs o a b i h k =
     let p : getD (set ls n a) i 0 ≡ getD ls i 0 = getD-set-other ls n i a 0 (λ e. omega arith) in
     let q : getD (set rs n b) i 0 ≡ getD rs i 0 = getD-set-other rs n i b 0 (λ e. omega arith) in
     rw (p, q) (o .at i h (omega arith))
+
+-- the operands of a conjunction: no constant, and the smaller node first
+abbrev pub Ascending : ℕ → ℕ → Type 0
+Ascending l r = (2 ≤ l) × (l / 2 < r / 2)
 
 -- ---- lists that read alike
 

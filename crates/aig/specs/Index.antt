@@ -12,7 +12,7 @@ use lib.Seq.{getD-set-other, getD-set-same}
 use borrow.Author.Tests.{eqb-true, eqb-false, eq-eqb, ne-eqb}
 use Rattle.model.specs.Lists.{snoc, position, nextPlace}
 use Rattle.model.specs.Aig.{isAnd}
-use Rattle.aig.specs.Graph.{nodeOf, nodeAt, nodesOf, length-nodes, Ordered, ordered-set}
+use Rattle.aig.specs.Graph.{nodeOf, nodeAt, nodesOf, length-nodes, Ordered, ordered-set, Ascending}
 
 -- the newest of the first n nodes whose larger literal is r; 0 where there is none
 unfoldable pub latest : List ℕ → ℕ → ℕ → ℕ
@@ -29,12 +29,13 @@ unfoldable pub place : ℕ → Option ℕ
 place zero = none
 place (suc i) = some (suc i)
 
--- The chains of a graph of n nodes: `hs` has the newest node of each larger literal, `ns` the node before it in its chain, and no pair stands twice.
+-- The chains of a graph of n nodes: `hs` has the newest node of each larger literal, `ns` the node before it in its chain, no pair stands twice, and each is ascending.
 pub record Indexed (n : ℕ) (ls rs ns hs : List ℕ) : Type 0 where
   pub heads : (r : ℕ) → 0 < r → r < 131072 → getD hs r 0 ≡ latest rs r n
   pub nexts : (i : ℕ) → i < n → 0 < getD rs i 0 → getD ns i 0 ≡ latest rs (getD rs i 0) i
   pub once : (i : ℕ) → i < n → 0 < getD rs i 0 → lastAnd ls rs (getD ls i 0) (getD rs i 0) i ≡ 0
   pub ordered : Ordered n ls rs
+  pub gates : (i : ℕ) → i < n → 0 < getD rs i 0 → Ascending (getD ls i 0) (getD rs i 0)
 
 -- ---- one node more
 
@@ -213,6 +214,12 @@ module _ (n : ℕ) (ls rs ns hs : List ℕ) (ix : Indexed n ls rs ns hs) (hl : n
       let q : getD (set rs n b) i 0 ≡ getD rs i 0 = getD-set-other rs n i b 0 (λ e. omega arith) in
       rw (latest-set rs (getD (set rs n b) i 0) i n b (omega arith), q) (ix .nexts i h (omega arith))
 
+  old-gates : (a b i : ℕ) → i < n → 0 < getD (set rs n b) i 0 → Ascending (getD (set ls n a) i 0) (getD (set rs n b) i 0)
+  old-gates a b i h k =
+      let p : getD (set ls n a) i 0 ≡ getD ls i 0 = getD-set-other ls n i a 0 (λ e. omega arith) in
+      let q : getD (set rs n b) i 0 ≡ getD rs i 0 = getD-set-other rs n i b 0 (λ e. omega arith) in
+      rw (p, q) (ix .gates i h (omega arith))
+
   -- a variable is in no chain
   pub indexed-variable : Indexed (n + 1) (set ls n 0) (set rs n 0) ns hs
   indexed-variable =
@@ -226,9 +233,13 @@ module _ (n : ℕ) (ls rs ns hs : List ℕ) (ix : Indexed n ls rs ns hs) (hl : n
               by-last i n (λ j. 0 < getD (set rs n 0) j 0 → (getD (set ls n 0) j 0 < j * 2) × (getD (set rs n 0) j 0 < j * 2))
               (ordered-set n ls rs (ix .ordered) 0 0 i) (λ m. absurd (omega arith)) h k;
         };
+        gates = λ i h k. by-last i n (λ j. 0 < getD (set rs n 0) j 0 → Ascending (getD (set ls n 0) j 0) (getD (set rs n 0) j 0)) (old-gates 0 0 i) (λ m. absurd (omega arith)) h k;
       }
 
-  module _ (l r : ℕ) (hn : n < length ns) (hh : r < length hs) (hm : length hs ≤ 131072) (h0 : 0 < r) where
+  module _ (l r : ℕ) (hn : n < length ns) (hh : r < length hs) (hm : length hs ≤ 131072) (up : Ascending l r) where
+    h0 : 0 < r
+    h0 = omega (arith, up .1)
+
     new-heads : (q : ℕ) → 0 < q → q < 131072 → getD (set hs r n) q 0 ≡ latest (set rs n r) q (n + 1)
     new-heads q h k = go (eqb q r) refl
       where
@@ -267,4 +278,7 @@ module _ (n : ℕ) (ls rs ns hs : List ℕ) (ix : Indexed n ls rs ns hs) (hl : n
                 (ordered-set n ls rs (ix .ordered) l r i)
                 (λ _. (omega (arith, getD-set-same ls n l 0 hl), omega (arith, getD-set-same rs n r 0 hr))) h k;
           };
+          gates = λ i h k.
+              by-last i n (λ j. 0 < getD (set rs n r) j 0 → Ascending (getD (set ls n l) j 0) (getD (set rs n r) j 0))
+              (old-gates l r i) (λ _. rw (getD-set-same ls n l 0 hl, getD-set-same rs n r 0 hr) up) h k;
         }

@@ -13,7 +13,7 @@ use Rattle.words.specs.Region.{region, apart, stored, cleared, stores, length-r
 use Rattle.words.specs.Fill.{filled, getD-filled, getD-filled-past}
 use Rattle.model.specs.Lists.{snoc}
 use Rattle.model.specs.Aig.{Node, Variable, And, Built, new, variable, andFound}
-use Rattle.aig.specs.Graph.{nodeOf, nodesOf, graphAt, graphOf, nodes-more, length-graph, ordered-le}
+use Rattle.aig.specs.Graph.{nodeOf, nodesOf, graphAt, graphOf, nodes-more, length-graph, ordered-le, Ascending}
 use Rattle.aig.specs.Index.{Indexed, latest, latest-suc-other, lastAnd, indexed-variable, indexed-and}
 
 -- ---- the frame
@@ -125,7 +125,10 @@ module _ (n : ℕ) (w : List ℕ) (ready : Ready n w) (room : n < 65536) where
         below = omega arith;
       }
 
-  module _ (l r : ℕ) (h0 : 0 < r) (hl : l < n * 2) (hr : r < n * 2) where
+  module _ (l r : ℕ) (up : Ascending l r) (hl : l < n * 2) (hr : r < n * 2) where
+    h0 : 0 < r
+    h0 = omega (arith, up .1)
+
     graph-and : graphOf (n + 1) (pushedAnd w n l r) ≡ snoc (graphOf n w) (And l r)
     unfolding graphAt
     graph-and =
@@ -139,7 +142,7 @@ module _ (n : ℕ) (w : List ℕ) (ready : Ready n w) (room : n < 65536) where
         record {
           positive = omega arith;
           long = simp length-stored (ready .long);
-          indexed = simp stores (indexed-and n _ _ _ _ (ready .indexed) (omega arith) (omega arith) l r (omega arith) (omega arith) (omega arith) h0 hl hr fresh);
+          indexed = simp stores (indexed-and n _ _ _ _ (ready .indexed) (omega arith) (omega arith) l r (omega arith) (omega arith) (omega arith) up hl hr fresh);
         }
 
     -- a new conjunction
@@ -210,6 +213,7 @@ module _ (used : ℕ) (w : List ℕ) (long : 8388608 ≤ length w) (clear : Head
         nexts = λ i h k. absurd (ground i h k);
         once = λ i h k. absurd (ground i h k);
         ordered = record { at = λ i h k. absurd (ground i h k) };
+        gates = λ i h k. absurd (ground i h k);
       }
     where
       ground : (i : ℕ) → i < 1 → 0 < getD rs i 0 → ⊥

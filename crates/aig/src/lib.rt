@@ -9,7 +9,7 @@ ghost use Rattle.model.specs.Lists.{position};
 ghost use Rattle.model.specs.Aig.{isAnd, new, variable, andFound, andShortcut, and, or, xorShortcut, xor, muxShortcut, mux, evaluate};
 ghost use mathlib.Core.Option.{none};
 ghost use Rattle.aig.specs.Shortcut.{shortcutOf};
-ghost use Rattle.aig.specs.Graph.{graphOf};
+ghost use Rattle.aig.specs.Graph.{graphOf, Ascending};
 ghost use Rattle.aig.specs.Index.{place};
 ghost use Rattle.aig.specs.Operations.{orOfAnds, isTrue};
 ghost use Rattle.aig.specs.Made.{Ready, Same, HeadsBelow, Made, outside};
@@ -119,7 +119,7 @@ impl Aig {
 
     // A new conjunction, which did not stand in the graph: it heads the chain of its larger literal.
     fn push(self, words: &mut [u32], lhs: Literal, rhs: Literal) -> Built
-        requires { ⌜ Ready (self .count) (now words) × (self .count + 1 ≤ 65536) × (0 < rhs .0) × (lhs .0 < self .count * 2) × (rhs .0 < self .count * 2) × (place 0 ≡ position (isAnd (lhs .0) (rhs .0)) (graphOf (self .count) (now words))) ⌝ }
+        requires { ⌜ Ready (self .count) (now words) × (self .count + 1 ≤ 65536) × Ascending (lhs .0) (rhs .0) × (lhs .0 < self .count * 2) × (rhs .0 < self .count * 2) × (place 0 ≡ position (isAnd (lhs .0) (rhs .0)) (graphOf (self .count) (now words))) ⌝ }
         ensures { λ r. ⌜ Made 1 (self .count) (now (words .entry)) (r .aig .count) (now (words .exit)) (r .literal .0) (andFound (graphOf (self .count) (now (words .entry))) (lhs .0) (rhs .0) none) ⌝ }
     {
         let count = self.count;
@@ -138,7 +138,7 @@ impl Aig {
 
     // The conjunction of an ordered pair: its earlier node, or a new one.
     fn pair(self, words: &mut [u32], lhs: Literal, rhs: Literal) -> Built
-        requires { ⌜ Ready (self .count) (now words) × (self .count + 1 ≤ 65536) × (0 < rhs .0) × (lhs .0 < self .count * 2) × (rhs .0 < self .count * 2) ⌝ }
+        requires { ⌜ Ready (self .count) (now words) × (self .count + 1 ≤ 65536) × Ascending (lhs .0) (rhs .0) × (lhs .0 < self .count * 2) × (rhs .0 < self .count * 2) ⌝ }
         ensures { λ r. ⌜ Made 1 (self .count) (now (words .entry)) (r .aig .count) (now (words .exit)) (r .literal .0) (andFound (graphOf (self .count) (now (words .entry))) (lhs .0) (rhs .0) (position (isAnd (lhs .0) (rhs .0)) (graphOf (self .count) (now (words .entry))))) ⌝ }
     {
         let at = self.earlier(words, lhs.0, rhs.0);

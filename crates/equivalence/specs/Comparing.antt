@@ -11,7 +11,7 @@ use Rattle.model.specs.Aig.{Aig, Built, xor, or}
 use Rattle.model.specs.Equivalence.{orMismatch, anyDifference, comparePairs}
 use Rattle.aig.specs.Graph.{graphOf}
 use Rattle.aig.specs.Made.{Ready, Same, Made, outside, made-none, same-trans}
-use Rattle.equivalence.specs.Firsts.{pairs, pairs-suc}
+use Rattle.transition.specs.Firsts.{pairs, pairs-suc}
 
 -- one operation after another
 pub made-then : (j k n c₀ : ℕ) (w₀ : List ℕ) (c : ℕ) (w : List ℕ) (m : ℕ) (b : Built) (c′ : ℕ) (w′ : List ℕ) (l : ℕ) (f : Built → Built) → j + k ≤ n

@@ -13,11 +13,12 @@ use Rattle.model.specs.Equivalence.{Problem, LiteralList, proofInputs, Frame, i
 use Rattle.aig.specs.Graph.{graphOf}
 use Rattle.aig.specs.Made.{Ready, Same, Made, same-trans}
 use Rattle.import.specs.Importing.{beyond, same-beyond}
-use Rattle.equivalence.specs.Firsts.{firsts, length-firsts, pairs, pairs-zip, Below, below-le}
+use Rattle.transition.specs.Firsts.{firsts, length-firsts, pairs, pairs-zip, Below, below-le}
 use Rattle.equivalence.specs.Variables.{Listed, grown, new-variables}
-use Rattle.equivalence.specs.Side.{conjunctionsOf, Formed, Stands, formed-same, stands-same, conjunctions-same}
+use Rattle.equivalence.specs.Side.{conjunctionsOf, Untouched, untouched-beyond, formed-kept, stands-kept, conjunctions-kept, formed-same, stands-same, conjunctions-same}
+use Rattle.transition.specs.Side.{Formed, Stands}
 use Rattle.equivalence.specs.Framing.{Framable, Framed}
-use Rattle.equivalence.specs.declared.system.System.{System}
+use Rattle.transition.specs.declared.system.System.{System}
 
 -- Both sides are in order, with as many inputs and outputs.
 pub record Paired (x y : System) (w : List ℕ) : Type 0 where
@@ -26,24 +27,33 @@ pub record Paired (x y : System) (w : List ℕ) : Type 0 where
   pub inputs : y .«input_count» ≡ x .«input_count»
   pub outputs : y .«output_count» ≡ x .«output_count»
 
+pub paired-kept : (x y : System) (w w′ : List ℕ) → Paired x y w → Untouched w w′ → Paired x y w′
+paired-kept x y w w′ p s =
+    record { gold = formed-kept x w w′ (p .gold) s; gate = formed-kept y w w′ (p .gate) s; inputs = p .inputs; outputs = p .outputs }
+
 pub paired-same : (x y : System) (w w′ : List ℕ) → Paired x y w → Same beyond w w′ → Paired x y w′
-paired-same x y w w′ p s =
-    record { gold = formed-same x w w′ (p .gold) s; gate = formed-same y w w′ (p .gate) s; inputs = p .inputs; outputs = p .outputs }
+paired-same x y w w′ p s = paired-kept x y w w′ p (untouched-beyond s)
 
 -- Both sides stand for those of a problem.
 pub record Standing (x y : System) (w : List ℕ) (p : Problem) : Type 0 where
   pub gold : Stands x w (p .gold)
   pub gate : Stands y w (p .gate)
 
+pub standing-kept : (x y : System) (w w′ : List ℕ) (p : Problem) → Paired x y w → Untouched w w′ → Standing x y w p → Standing x y w′ p
+standing-kept x y w w′ p q s t = record { gold = stands-kept x w w′ (q .gold) s (p .gold) (t .gold); gate = stands-kept y w w′ (q .gate) s (p .gate) (t .gate) }
+
 pub standing-same : (x y : System) (w w′ : List ℕ) (p : Problem) → Paired x y w → Same beyond w w′ → Standing x y w p → Standing x y w′ p
-standing-same x y w w′ p q s t = record { gold = stands-same x w w′ (q .gold) s (p .gold) (t .gold); gate = stands-same y w w′ (q .gate) s (p .gate) (t .gate) }
+standing-same x y w w′ p q s t = standing-kept x y w w′ p q (untouched-beyond s) t
 
 -- how many nodes both frames of a cycle make at most
 abbrev pub frameCost : System → System → List ℕ → ℕ
 frameCost x y w = x .«input_count» + (conjunctionsOf x w + conjunctionsOf y w)
 
+pub cost-kept : (x y : System) (w w′ : List ℕ) → Paired x y w → Untouched w w′ → frameCost x y w′ ≡ frameCost x y w
+cost-kept x y w w′ p s = rw (conjunctions-kept x w w′ (p .gold) s, conjunctions-kept y w w′ (p .gate) s)
+
 pub cost-same : (x y : System) (w w′ : List ℕ) → Paired x y w → Same beyond w w′ → frameCost x y w′ ≡ frameCost x y w
-cost-same x y w w′ p s = rw (conjunctions-same x w w′ (p .gold) s, conjunctions-same y w w′ (p .gate) s)
+cost-same x y w w′ p s = cost-kept x y w w′ p (untouched-beyond s)
 
 -- What a cycle asks, with room for r nodes: both sides in order, and their states' literals of the proof graph.
 pub record Startable (r : ℕ) (x y : System) (c : ℕ) (w gs ts : List ℕ) : Type 0 where

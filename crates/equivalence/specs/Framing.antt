@@ -16,10 +16,11 @@ use Rattle.aig.specs.Graph.{graphOf, graphAt}
 use Rattle.aig.specs.Made.{Ready, Same, same-trans}
 use Rattle.aig.specs.Shortcut.{negate-below}
 use Rattle.import.specs.Importing.{beyond, Importing, Sourced, Given, Inside, imported-is, remap-inside}
-use Rattle.equivalence.specs.Firsts.{firsts, pairs, pairs-zip, Below, Mapped, firsts-map}
-use Rattle.equivalence.specs.Side.{conjunctionsOf, Formed, Stands, lhs-same, rhs-same, graph-same, formed-same, stands-same, conjunctions-same}
+use Rattle.transition.specs.Firsts.{firsts, pairs, pairs-zip, Below, Mapped, firsts-map}
+use Rattle.equivalence.specs.Side.{conjunctionsOf, rhs-same, graph-same, formed-same, stands-same, conjunctions-same}
+use Rattle.transition.specs.Side.{Formed, Stands}
 use Rattle.equivalence.specs.Give.{given, given-same, given-ready, given-graph, given-at, given-append, lookup-covered, AllBelow, lookup-below, below-append, below-pairs, keys-pairs}
-use Rattle.equivalence.specs.declared.system.System.{System}
+use Rattle.transition.specs.declared.system.System.{System}
 
 -- What a frame asks: a side in order, room for its conjunctions, and literals of the proof graph.
 pub record Framable (y : System) (c : ℕ) (w ins sts : List ℕ) : Type 0 where

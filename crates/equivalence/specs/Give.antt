@@ -14,7 +14,7 @@ use Rattle.model.specs.Lists.{snoc, lookup, member}
 use Rattle.aig.specs.Graph.{graphOf}
 use Rattle.aig.specs.Made.{Ready, Same, same-refl, same-trans}
 use Rattle.import.specs.Importing.{beyond, ready-imported, graph-imported, same-imported}
-use Rattle.equivalence.specs.Firsts.{firsts, pairs, pairs-suc, map-snoc, Below}
+use Rattle.transition.specs.Firsts.{firsts, pairs, pairs-suc, map-snoc, Below}
 
 -- the words with the literal of each pair at its place; of equal places the first pair counts
 unfoldable pub given : List (ℕ × ℕ) → List ℕ → List ℕ

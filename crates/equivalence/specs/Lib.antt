@@ -1,4 +1,3 @@
-pub mod Firsts
 pub mod Variables
 pub mod Side
 pub mod Give
@@ -10,3 +9,6 @@ pub mod Cycling
 pub mod Inducing
 pub mod FreeState
 pub mod NamedState
+pub mod Frames
+pub mod Rows
+pub mod Counterexample

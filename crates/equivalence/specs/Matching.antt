@@ -14,20 +14,8 @@ use Rattle.model.specs.Lists.{snoc, position, nextPlace}
 use Rattle.model.specs.Aig.{Aig, Built, variable}
 use Rattle.model.specs.Transition.{StateBit}
 use Rattle.model.specs.Equivalence.{LiteralList, withBuilt, stateLiteral, consPair, namedPairs, gateVariable, matched, gateVariables}
-use Rattle.equivalence.specs.Firsts.{firsts, length-firsts, getD-firsts, Below}
-
--- a place as a match
-unfoldable pub matchOf : Option ℕ → ℕ
-matchOf none = 0
-matchOf (some i) = suc i
-
--- the match of a name among states
-unfoldable pub matchIn : List StateBit → StateBit → ℕ
-matchIn ts s = matchOf (position (λ (t : StateBit). sameName (s .name) (t .name)) ts)
-
--- the match of each state among the states of the other side
-unfoldable pub namesakes : List StateBit → List StateBit → List ℕ
-namesakes ss ts = map (matchIn ts) ss
+use Rattle.transition.specs.Firsts.{firsts, length-firsts, getD-firsts, Below}
+use Rattle.transition.specs.Namesakes.{matchOf, matchIn, namesakes}
 
 -- what stands at a match
 unfoldable pub atMatch : ℕ → List ℕ → Option ℕ

@@ -13,11 +13,11 @@ use Rattle.model.specs.Equivalence.{Problem, orMismatch, comparePairs, compareN
 use Rattle.aig.specs.Graph.{graphOf}
 use Rattle.aig.specs.Made.{Ready, Same, Made, HeadsBelow, outside, same-refl, same-trans}
 use Rattle.import.specs.Importing.{beyond, same-beyond}
-use Rattle.equivalence.specs.Firsts.{firsts, Below, below-le}
+use Rattle.transition.specs.Firsts.{firsts, Below, below-le}
 use Rattle.equivalence.specs.Matching.{named-is}
 use Rattle.equivalence.specs.Cycling.{Paired, paired-same, Standing, standing-same, frameCost, cost-same, Startable, startable-le, FramesMade}
 use Rattle.equivalence.specs.Inducing.{joinNamed, Matched, states-length}
-use Rattle.equivalence.specs.declared.system.System.{System}
+use Rattle.transition.specs.declared.system.System.{System}
 
 -- how many nodes a cycle of query 2 makes at most
 abbrev pub namedCost : System → System → List ℕ → ℕ

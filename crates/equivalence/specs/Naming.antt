@@ -12,7 +12,7 @@ use Rattle.model.specs.Aig.{Aig, Built, variable}
 use Rattle.model.specs.Equivalence.{comparePairs}
 use Rattle.aig.specs.Graph.{graphOf}
 use Rattle.aig.specs.Made.{Ready, Made}
-use Rattle.equivalence.specs.Firsts.{Below}
+use Rattle.transition.specs.Firsts.{Below}
 use Rattle.equivalence.specs.Comparing.{orDifference, compare-more, made-le}
 use Rattle.equivalence.specs.Comparing as Comparing
 use Rattle.equivalence.specs.Matching.{atMatch, addPair, namedBy, named-suc, gateBuilt, sharedMatch}

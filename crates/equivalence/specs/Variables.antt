@@ -14,7 +14,7 @@ use Rattle.model.specs.Aig.{Aig, Built, variable}
 use Rattle.model.specs.Equivalence.{LiteralList, withBuilt, newVariables}
 use Rattle.aig.specs.Graph.{graphOf}
 use Rattle.aig.specs.Made.{Ready, Same, Made, outside, same-refl, same-trans}
-use Rattle.equivalence.specs.Firsts.{firsts, firsts-more, Below, below-more}
+use Rattle.transition.specs.Firsts.{firsts, firsts-more, Below, below-more}
 
 -- From c nodes in w, n literals in xs were made, with c′ nodes in w′: the list l, and at most n nodes more.
 pub record Listed (n c : ℕ) (w : List ℕ) (c′ : ℕ) (w′ xs : List ℕ) (l : LiteralList) : Type 0 where

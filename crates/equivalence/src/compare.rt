@@ -5,7 +5,7 @@ ghost use lib.ListN.{length, getD};
 ghost use Rattle.model.specs.Equivalence.{comparePairs};
 ghost use Rattle.aig.specs.Graph.{graphOf};
 ghost use Rattle.aig.specs.Made.{Ready, Made};
-ghost use Rattle.equivalence.specs.Firsts.{pairs, Below};
+ghost use Rattle.transition.specs.Firsts.{pairs, Below};
 ghost use Rattle.equivalence.specs.Comparing.{orDifference};
 ghost use Rattle.equivalence.specs.Matching.{atMatch, namedBy};
 ghost use Rattle.equivalence.specs.Naming.{orNamed, MatchesBelow};

@@ -5,10 +5,10 @@ ghost use lib.ListN.{length};
 ghost use Rattle.equivalence.specs.Cycling.{frameCost, Startable, FramesMade, Compared};
 use crate::compare::compare_outputs;
 use crate::frame::import_frame;
-use crate::system::System;
 use crate::variables::new_variables;
 use aig::Aig;
 use aig::Literal;
+use transition::system::System;
 
 // A graph with the inputs of a cycle, and the outputs and next states of both sides.
 pub struct Frames {

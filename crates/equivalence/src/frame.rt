@@ -4,15 +4,15 @@ ghost use Prim.Native.Nat.{ℕ, _+_, _*_, _≤_, _<_};
 ghost use lib.ListN.{length};
 ghost use Rattle.words.specs.Region.{region};
 ghost use Rattle.model.specs.Equivalence.{remapLiteral};
-ghost use Rattle.equivalence.specs.Firsts.{pairs, Mapped};
+ghost use Rattle.transition.specs.Firsts.{pairs, Mapped};
 ghost use Rattle.equivalence.specs.Give.{given};
 ghost use Rattle.equivalence.specs.Framing.{Framable, Framed};
-use crate::system::System;
 use crate::variables::at;
 use aig::Aig;
 use aig::Literal;
 use import::import_aig;
 use import::remap_literal;
+use transition::system::System;
 use words::IMPORTED;
 use words::SMALL;
 use words::stash;
@@ -45,8 +45,9 @@ fn remap_literals(words: &[u32], literals: &[u32; 128], n: usize) -> [u32; 128]
     let mut mapped = [0u32; 128];
     let mut i: usize = 0;
     while i < n {
-        let literal = remap_literal(Literal(at(literals, i)), words);
-        mapped[i] = literal.0;
+        let source = at(literals, i);
+        let target = remap_literal(Literal(source), words);
+        mapped[i] = target.0;
         i += 1;
     }
     mapped

@@ -5,7 +5,7 @@ ghost use Prim.Native.Nat.{ℕ, _+_, _*_, _≤_, _<_};
 ghost use lib.ListN.{length, getD};
 ghost use Rattle.aig.specs.Graph.{graphOf};
 ghost use Rattle.aig.specs.Made.{Ready, Made};
-ghost use Rattle.equivalence.specs.Firsts.{Below};
+ghost use Rattle.transition.specs.Firsts.{Below};
 ghost use Rattle.equivalence.specs.Matching.{gateBuilt, sharedMatch, gateBy};
 ghost use Rattle.equivalence.specs.Naming.{MatchesBelow};
 ghost use Rattle.equivalence.specs.Variables.{Listed, grown};
@@ -14,7 +14,7 @@ use aig::Built;
 use aig::Literal;
 use words::wide;
 
-// A graph and literals of it, of which so many count as the caller knows.
+// A graph and literals of it; how many of them count, the caller knows.
 pub struct Literals {
     pub aig: Aig,
     pub literals: [u32; 128],

@@ -2,8 +2,8 @@ pub mod RunTables
 pub mod RunLaws
 pub mod RowLaws
 pub mod TableLaws
-pub mod PairChecks
-pub mod PairCheckLaws
+pub mod ClaimChecks
+pub mod ClaimLaws
 pub mod StepSides
 pub mod StepLaws
 pub mod StepRight

@@ -1,48 +1,47 @@
 -- The loop over the cycles is the replay, and its checks are the replay's. Assumes nothing.
-use Prim.Native.Nat.{ℕ, zero, suc, _+_, _*_, _<_, _≤_}
+use Prim.Native.Nat.{ℕ, _+_, _≤_}
 use mathlib.Core.Path.{_≡_, refl, sym, ap, ap₂, _∙_, subst}
-use mathlib.Core.Bool.{Bool, true, false, not, _||_}
-use mathlib.Core.List.{List, map}
+use mathlib.Core.Bool.{Bool, false, not, _||_}
+use mathlib.Core.List.{List}
 use mathlib.Core.Option.{Option, none, some}
 use native.Mathlib.Omega.{arith}
 use native.Mathlib.Numerals.{add-one}
 use borrow.Author.Tests.{ltb-false}
 use lib.Dec.{eqb, ltb}
-use lib.ListN.{length, take, drop, length-map}
-use Rattle.model.specs.Answers.{Refusal, accepted, ReplayAnswer}
+use lib.ListN.{length, take, length-map}
+use Rattle.model.specs.Answers.{Refusal, accepted}
 use Rattle.model.specs.Names.{Place}
-use Rattle.model.specs.Netlist.{Design, Register, inputName, outputName, portsFrom, inputs, outputs, inputCount, outputCount}
+use Rattle.model.specs.Netlist.{Design, Register, inputs, outputs, inputCount, outputCount}
 use Rattle.model.specs.Validate.{_otherwise_, refuseIf, readRecord}
-use Rattle.model.specs.Record.{Read, parsed, refusedRecord}
 use Rattle.model.specs.Run.{StoredBits, initialBit, initialBits}
 use Rattle.model.specs.Pair as Pair
-use Rattle.model.specs.Pair.{onGate, withGate, withGold, readPair, allBits, traceLength, badClaim, replayFault, initialFault, interfaceFault, resetsFault}
+use Rattle.model.specs.Pair.{onGate, withGate, withGold, readPair, allBits, traceLength, badClaim, replayFault, initialFault, interfaceFault}
 use Rattle.model.specs.Replay as Replay
 use Rattle.model.specs.Replay.{initialPosition, positionAfter, stepsReplay, replayPair, refusedReplay}
 use Rattle.laws.specs.Bools.{or-left}
-use Rattle.laws.specs.Record.Accepted.{otherwise-none, refuseIf-none, accepted-parsed}
+use Rattle.laws.specs.Record.Accepted.{otherwise-none, refuseIf-none}
 use Rattle.laws.specs.Replay.{steps-replay}
-use Rattle.laws.specs.Record.Limits.{Limits, parse-limits}
 use Rattle.struo_ir.specs.Decoded.{decoded}
 use Rattle.struo_ir.specs.OrderPlaces.{Formed, places}
-use Rattle.struo_ir.specs.OrderPorts.{count-places, length-sort}
+use Rattle.struo_ir.specs.OrderPorts.{count-places}
 use Rattle.struo_ir.specs.declared.netlist.Netlist.{Netlist}
-use Rattle.struo_ir.specs.Reading.{Padded, readOf, readBy, refusedAt}
+use Rattle.struo_ir.specs.Reading.{readOf}
 use Rattle.struo_ir.specs.declared.reader.Answer.the-variants as Reader
 use Rattle.struo_ir.specs.declared.reader.Reading.{Reading}
 use Rattle.struo_ir.specs.declared.order.Order.{Order}
 use Rattle.replay.specs.RunTables.{padded}
 use Rattle.replay.specs.RunLaws.{count-registers}
 use Rattle.replay.specs.StepLaws.{padded-taken}
-use Rattle.replay.specs.PairChecks.{Within, Ordered, claimBad, claimFault, laterFault}
-use Rattle.replay.specs.PairCheckLaws.{refusal}
-use Rattle.replay.specs.StepSides.{Sound, Ready, position, stepped, Rows, Paired, StepTaken}
-use Rattle.replay.specs.ReplayAnswers.{answerOf, refusalOn}
-use Rattle.replay.specs.declared.pair.Orders.{Orders}
+use Rattle.pair.specs.PairChecks.{Ordered, refusalOn}
+use Rattle.pair.specs.PairCheckLaws.{refusal}
+use Rattle.pair.specs.ReadingRight.{reading-accepted, reading-refused}
+use Rattle.pair.specs.declared.orders.Orders.{Orders}
+use Rattle.replay.specs.ClaimChecks.{claimBad, claimFault, laterFault}
+use Rattle.replay.specs.StepSides.{Sound, Ready, position, stepped, Paired, StepTaken}
+use Rattle.replay.specs.ReplayAnswers.{answerOf}
 use Rattle.replay.specs.declared.step.Side.{Side}
 use Rattle.replay.specs.declared.step.Position.{Position}
 use Rattle.replay.specs.declared.step.Stepped.{Stepped}
-use Rattle.replay.specs.declared.replay.Answer.{Answer}
 
 module _ (s t : List ℕ) (gold gate : Side) (cycle : ℕ) (claim : List ℕ) (start : Replay.Position) where
   -- the position after k steps
@@ -75,12 +74,6 @@ pub claim-of : (s : List ℕ) (x : Netlist) (a : Orders) (cycle : ℕ) (claim : 
 unfolding claimFault claimBad badClaim traceLength inputCount outputCount
 claim-of s x a cycle claim o =
     rw (count-places s (a .inputs) (o .formed-inputs), count-places s (a .outputs) (o .formed-outputs), o .inputs-are, o .outputs-are)
-
--- the resets by the orders are those of the designs
-pub initial-of : (s t : List ℕ) (x y : Netlist) (a b : Orders) → Ordered s x a → Ordered t y b
-    → (resetsFault 0 (decoded s x .registers) (places s (a .registers)) otherwise resetsFault 1 (decoded t y .registers) (places t (b .registers))) ≡ initialFault (decoded s x) (decoded t y)
-unfolding initialFault
-initial-of s t x y a b o q = rw (o .registers-are, q .registers-are)
 
 -- the first check refuses
 pub later-first : (gold gate : Design) (cycle : ℕ) (claim : List ℕ) (r : Refusal) → initialFault gold gate ≡ some r → some r ≡ laterFault gold gate cycle claim
@@ -171,27 +164,6 @@ answer-accepted gold gate cycle claim f b e g = rw (e, g)
 
 -- ---- from the bytes of both records
 
--- an accepted record's netlist is within the limits
-pub read-within : (s : List ℕ) (n : Netlist) → Padded n → readRecord s ≡ parsed (decoded s n) → Within s n
-unfolding inputCount outputCount inputs outputs
-read-within s n p e =
-    let l : Limits (decoded s n) = parse-limits s (decoded s n) (accepted-parsed s (decoded s n) e .0) in
-    record {
-      nodes = p .nodes-padded .fits;
-      registers = p .registers-padded .fits;
-      inputs = omega (arith, l .inputs, length-sort (portsFrom inputName 0 (decoded s n .nodes)));
-      outputs = omega (arith, l .outputs, length-sort (portsFrom outputName 0 (decoded s n .nodes)));
-    }
-
--- what a reading says
-reading-accepted : (s : List ℕ) (r : Reading) → readRecord s ≡ readOf s r → r .answer ≡ Reader.Accepted → readRecord s ≡ parsed (decoded s (r .netlist))
-unfolding readOf readBy
-reading-accepted s r e a = e ∙ ap (readBy s (r .netlist)) a
-
-reading-refused : (s : List ℕ) (r : Reading) (number place : ℕ) → readRecord s ≡ readOf s r → r .answer ≡ Reader.Refused number place → readRecord s ≡ refusedRecord (refusalOn 0 number place)
-unfolding readOf readBy refusedAt refusalOn
-reading-refused s r number place e a = e ∙ ap (readBy s (r .netlist)) a
-
 -- gate's record is refused
 pub gate-refused : (d : Design) (t : List ℕ) (r : Reading) (number place cycle : ℕ) (claim : List ℕ) → readRecord t ≡ readOf t r → r .answer ≡ Reader.Refused number place
     → refusedReplay (refusalOn 1 number place) ≡ Replay.replayRead (withGate d (readRecord t)) cycle claim
@@ -215,7 +187,3 @@ pub gold-accepted : (s t : List ℕ) (r : Reading) (cycle : ℕ) (claim : List �
     → Replay.replayRead (withGate (decoded s (r .netlist)) (readRecord t)) cycle claim ≡ Replay.replay s t cycle claim
 unfolding Replay.replay readPair withGold
 gold-accepted s t r cycle claim e a = rw (reading-accepted s r e a)
-
--- an accepted reading's netlist is within the limits
-pub reading-within : (s : List ℕ) (r : Reading) → readRecord s ≡ readOf s r → Padded (r .netlist) → r .answer ≡ Reader.Accepted → Within s (r .netlist)
-reading-within s r e p a = read-within s (r .netlist) p (reading-accepted s r e a)

@@ -1,25 +1,25 @@
 -- Laws of the rows that a cycle writes: next stored bits, initial bits and outputs. Assumes nothing.
 use Prim.Native.Nat.{ℕ, zero, suc, _+_, _-_, _<_, _≤_}
-use mathlib.Core.Path.{_≡_, refl, sym, ap, ap₂, _∙_}
-use mathlib.Core.Bool.{Bool, true, false, cond}
-use mathlib.Core.List.{List, [], _∷_, _++_, map, append-nil}
-use mathlib.Core.Option.{Option, none, some}
+use mathlib.Core.Path.{_≡_, refl, sym, ap, _∙_}
+use mathlib.Core.Bool.{Bool, false, cond}
+use mathlib.Core.List.{List, _∷_, _++_, map, append-nil}
+use mathlib.Core.Option.{none, some}
 use native.Mathlib.Omega.{arith}
 use native.Mathlib.Numerals.{add-one}
 use lib.Dec.{eqb}
-use borrow.Author.Tests.{eq-eqb, ne-eqb}
-use lib.ListN.{length, take, drop, getD, set, replicate, length-take, length-map, drop-of-length-le}
+use lib.ListN.{length, take, drop, getD, set, length-take, length-map, drop-of-length-le}
 use lib.Seq.{drop-set-lt, drop-drop, getD-take}
 use Rattle.model.specs.Names.{Place}
-use Rattle.model.specs.Netlist.{Enable, Reset, Register, Design}
+use Rattle.model.specs.Netlist.{Register}
 use Rattle.model.specs.Record.{bit, levelOf}
-use Rattle.model.specs.Run.{StoredBits, bitAt, asserted, enabledBit, resetBit, nextBit, nextFrom, nextStored, initialBit, initialBits}
+use Rattle.model.specs.Run.{bitAt, asserted, enabledBit, resetBit, nextBit, nextFrom, initialBit}
 use Rattle.struo_ir.specs.Decoded.{decodedEnable, decodedReset, decodedRegister, decoded}
-use Rattle.struo_ir.specs.OrderPlaces.{noCell, noEntry, placeOf, held, places, Formed}
+use Rattle.struo_ir.specs.OrderPlaces.{noCell, noEntry, placeOf, held, places}
 use Rattle.struo_ir.specs.OrderPorts.{decoded-cons}
 use Rattle.struo_ir.specs.declared.netlist.RegisterCell.{RegisterCell}
 use Rattle.struo_ir.specs.declared.netlist.Netlist.{Netlist}
 use Rattle.struo_ir.specs.declared.order.Order.{Order}
+use Rattle.pair.specs.ElementLaws.{decoded-register}
 use Rattle.replay.specs.RunTables.{enableOf, resetOf, nextOf}
 use Rattle.replay.specs.RunLaws.{some-reset, written-more}
 
@@ -81,12 +81,6 @@ kept-more new old k x e =
     rw drop-set-lt (sym (drop-drop 1 k new) ∙ ap (drop 1) e ∙ drop-drop 1 k old)
 
 -- ---- next stored bits
-
--- the register of a number, in front of those behind it
-pub decoded-register : (s : List ℕ) (n : Netlist) (k : ℕ) → k < n .«register_count» → n .«register_count» ≤ length (n .registers)
-    → drop k (decoded s n .registers) ≡ decodedRegister s (getD (n .registers) k noCell) ∷ drop (suc k) (decoded s n .registers)
-unfolding decoded
-decoded-register s n k h l = decoded-cons (decodedRegister s) (n .registers) (n .«register_count») k noCell h l
 
 stored-at : (old : List Bool) (m k : ℕ) → k < m → bitAt (take m old) k ≡ getD old k false
 unfolding bitAt

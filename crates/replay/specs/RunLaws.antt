@@ -1,26 +1,27 @@
 -- Laws of one cycle of the run on rows by value. Assumes nothing.
-use Prim.Native.Nat.{ℕ, zero, suc, _+_, _-_, _<_, _≤_}
-use mathlib.Core.Path.{_≡_, refl, sym, ap, ap₂, _∙_, subst}
+use Prim.Native.Nat.{ℕ, zero, suc, _+_, _-_, _<_, _≤_, _%_}
+use mathlib.Core.Path.{_≡_, refl, sym, ap, _∙_}
 use mathlib.Core.Bool.{Bool, true, false, cond, not, _&&_, _||_, xor}
-use mathlib.Core.List.{List, [], _∷_, _++_, map, append-assoc}
-use mathlib.Core.Logic.{_⊎_, inl, inr, ⊎-elim}
+use mathlib.Core.List.{List, [], _∷_, _++_, map}
 use mathlib.Core.Option.{Option, none, some}
 use native.Mathlib.Omega.{arith}
 use native.Mathlib.Numerals.{add-one}
-use lib.Dec.{eqb, ltb}
-use borrow.Author.Tests.{lt-ltb, le-ltb, eq-eqb, ne-eqb, eqb-true}
-use lib.ListN.{length, take, drop, getD, set, replicate, length-append, length-take, length-drop, length-set, length-replicate, getD-replicate, take-append-drop, drop-of-length-le, List·getD-eq-default, List·getD-append, List·getD-map, length-map}
-use lib.Seq.{drop-cons, take-suc, take-all, take-at, drop-at, take-suc-set, drop-set-lt, append-snoc, getD-take, length-take-le, getD-append-add}
+use lib.Dec.{eqb}
+use borrow.Author.Tests.{eq-eqb, ne-eqb, eqb-true}
+use lib.ListN.{length, take, drop, getD, set, replicate, length-take, take-append-drop, drop-of-length-le, length-map}
+use lib.Seq.{drop-cons, take-suc-set, drop-set-lt, append-snoc, getD-take, length-take-le}
 use Rattle.model.specs.Names.{Name, Place, rank}
-use Rattle.model.specs.Netlist.{Reset, Register, Design, Input, Constant, RegisterOutput, Not, Output, And, Or, Xor, Mux}
+use Rattle.model.specs.Netlist.{Reset, Register, Input, Constant, RegisterOutput, Not, Output, And, Or, Xor, Mux}
 use Rattle.model.specs.Record.{bit, levelOf, nodeOf}
-use Rattle.model.specs.Validate.{Driver, driver, driverFrom}
+use Rattle.model.specs.Validate.{driver}
 use Rattle.model.specs.Replay.{claimBit}
-use Rattle.model.specs.Run.{InputBits, StoredBits, bitAt, asserted, shownBit, shown, nodeValue, valuesFrom, nodeValues}
+use Rattle.model.specs.Run.{InputBits, StoredBits, bitAt, asserted, shownBit, shown, nodeValue, valuesFrom}
+use Rattle.struo_ir.specs.Checks.{driverBy, Drivers}
 use Rattle.struo_ir.specs.Decoded.{nameAt, decodedReset, decodedNode, decodedRegister, decoded}
 use Rattle.struo_ir.specs.OrderPlaces.{noNode, noCell}
+use Rattle.struo_ir.specs.Registers.{noRegister, registersTo}
 use Rattle.struo_ir.specs.OrderPorts.{decoded-cons}
-use Rattle.replay.specs.RunTables.{resetOf, gateOf, valueOf, nodeBy, shownBy, inputRank, Ranked, driverNumber, Driven, rowInputs, padded}
+use Rattle.replay.specs.RunTables.{resetOf, gateOf, valueOf, nodeBy, shownBy, inputRank, Ranked, rowInputs, padded}
 use Rattle.struo_ir.specs.declared.netlist.Node.{Node}
 use Rattle.struo_ir.specs.declared.netlist.RegisterCell.{RegisterCell}
 use Rattle.struo_ir.specs.declared.netlist.Netlist.{Netlist}
@@ -88,6 +89,11 @@ bitAt-append [] (suc m) (suc k) = bitAt-append [] m k
 bitAt-append (b ∷ bits) m zero = refl
 bitAt-append (b ∷ bits) m (suc k) = bitAt-append bits m k
 
+-- the first bits of a row read as the row
+pub bitAt-taken : (row : List Bool) (m k : ℕ) → k < m → bitAt row k ≡ bitAt (take m row) k
+unfolding bitAt
+bitAt-taken row m k h = sym (getD-take m row k false h)
+
 -- two rows read alike
 abbrev pub Alike : List Bool → List Bool → Type 0
 Alike u v = (k : ℕ) → bitAt u k ≡ bitAt v k
@@ -148,59 +154,29 @@ shown-alike u v b (some r) h = rw (h (r .signal))
 
 -- ---- the driver of a node
 
--- a driver that was found: its register is the one of its number
-pub record Found (k : ℕ) (rs : List Register) (d : Driver) : Type 0 where
-  pub at : ℕ
-  pub place : d .number ≡ k + at
-  pub below : at < length rs
-  pub is : (z : Register) → getD rs at z ≡ d .register
+-- what a RegisterOutput shows is what the register that the table names shows
+shown-driver : (values : List Bool) (row : StoredBits) (s : List ℕ) (registers : List RegisterCell) (n k : ℕ) (cell : RegisterCell) → k ≤ n → k ≤ 128
+    → cell ≡ getD registers ((k + 127) % 128) noCell → shownBy values row k cell ≡ shown values (take n row) (driverBy s registers k)
+unfolding shownBy shown driverBy resetOf decodedRegister noRegister
+shown-driver values row s registers n zero cell h l q = refl
+shown-driver values row s registers n (suc k) cell h l q =
+    let e : (suc k + 127) % 128 ≡ k = omega arith in
+    rw (q, e, bitAt-taken row n k (omega arith))
 
-found : (k net : ℕ) (rs : List Register) (d : Driver) → driverFrom k net rs ≡ some d → Found k rs d
-unfolding driverFrom
-found k net [] d e = absurd (let z : _≡_ {A = ℕ} 0 1 = cc in omega arith)
-found k net (r ∷ rs) d e = go (eqb (r .output) net) (found (suc k) net rs d) e
-  where
-    later : Found (suc k) rs d → Found k (r ∷ rs) d
-    later f = record { at = suc (f .at); place = omega (arith, f .place); below = omega (arith, f .below); is = f .is }
-
-    here : record { number = k; register = r } ≡ d → Found k (r ∷ rs) d
-    here q = record { at = 0; place = sym (ap (λ (x : Driver). x .number) q) ∙ omega arith; below = omega arith; is = λ z. ap (λ (x : Driver). x .register) q }
-
-    go : (b : Bool) → (driverFrom (suc k) net rs ≡ some d → Found (suc k) rs d) → cond b (some (record { number = k; register = r })) (driverFrom (suc k) net rs) ≡ some d → Found k (r ∷ rs) d
-    go true f p = here (cc)
-    go false f p = later (f p)
-
--- what a RegisterOutput shows is what the register of its driver's number shows
-shown-driver : (values : List Bool) (stored row : StoredBits) (rs : List Register) (o : Option Driver) (net : ℕ) (cell : RegisterCell) (z : Register) → driver rs net ≡ o → length rs ≤ 128
-    → (driverNumber o < length rs → bitAt row (driverNumber o) ≡ bitAt stored (driverNumber o)) → (driverNumber o < length rs → resetOf cell ≡ getD rs (driverNumber o) z .reset)
-    → shownBy values row (driverNumber o) cell ≡ shown values stored o
-unfolding shownBy shown driverNumber
-shown-driver values stored row rs none net cell z e l p q = refl
-shown-driver values stored row rs (some d) net cell z e l p q =
-    let f : Found 0 rs d = found 0 net rs d (unfold driver in e) in
-    let m : d .number ≡ f .at = omega (arith, f .place) in
-    let b : d .number < length rs = omega (arith, f .below) in
-    let g : resetOf cell ≡ d .register .reset = q b ∙ ap (λ (x : Register). x .reset) (ap (λ (j : ℕ). getD rs j z) m ∙ f .is z) in
-    rw (lt-ltb (d .number) 128 (omega arith), p b, g)
+-- the driver that the table names is the node's
+driver-named : (s : List ℕ) (n : Netlist) (table : List ℕ) (i : ℕ) → i < 1024 → Drivers (n .registers) (n .«register_count») table → driverBy s (n .registers) (getD table i 0) ≡ driver (decoded s n .registers) i
+unfolding decoded registersTo
+driver-named s n table i h d = d .drives s i h
 
 shown-by-alike : (u v : List Bool) (row : StoredBits) (k : ℕ) (cell : RegisterCell) → Alike u v → shownBy u row k cell ≡ shownBy v row k cell
 unfolding shownBy
-shown-by-alike u v row k cell h = ap (λ (b : Bool). cond (ltb k 128) b false) (shown-alike u v (bitAt row k) (resetOf cell) h)
-
--- the reset of a decoded register
-reset-at : (s : List ℕ) (n : Netlist) (k : ℕ) → k < n .«register_count» → resetOf (getD (n .registers) k noCell) ≡ getD (decoded s n .registers) k (decodedRegister s noCell) .reset
-unfolding resetOf decoded decodedRegister
-reset-at s n k h = rw (List·getD-map (decodedRegister s) (take (n .«register_count») (n .registers)) k noCell, getD-take)
+shown-by-alike u v row zero cell h = refl
+shown-by-alike u v row (suc k) cell h = shown-alike u v (bitAt row k) (resetOf cell) h
 
 -- a decoded design has as many registers as are counted
 pub count-registers : (s : List ℕ) (n : Netlist) → n .«register_count» ≤ length (n .registers) → length (decoded s n .registers) ≡ n .«register_count»
 unfolding decoded
 count-registers s n w = length-map (take (n .«register_count») (n .registers)) (decodedRegister s) ∙ length-take-le (n .«register_count») (n .registers) w
-
--- the first bits of a row read as the row
-pub bitAt-taken : (row : List Bool) (m k : ℕ) → k < m → bitAt row k ≡ bitAt (take m row) k
-unfolding bitAt
-bitAt-taken row m k h = sym (getD-take m row k false h)
 
 -- the bit of an Input by its rank
 input-right : (s : List ℕ) (ins : List Place) (claim : List ℕ) (at : ℕ) (nd : Node) (k : ℕ) → k ≡ inputRank s ins nd → nd .kind ≡ 0 → claimBit claim (at + k) ≡ rowInputs claim at ins (nameAt s (nd .detail))
@@ -211,25 +187,19 @@ input-right s ins claim at nd k e h = ap (λ (j : ℕ). claimBit claim (at + j))
 
 -- the value that the tables give a node is the one that the run gives it
 pub value-right : (s : List ℕ) (ins : List Place) (n : Netlist) (ranks drivers claim : List ℕ) (at : ℕ) (row : List Bool) (values : List Bool) (i m : ℕ)
-    → i < n .«node_count» → i < 1024 → n .«register_count» ≤ 128 → n .«register_count» ≤ length (n .registers)
-    → drop i values ≡ replicate m false → Ranked s ins n ranks → Driven (decoded s n .registers) drivers
-    → (cell : RegisterCell) → (getD drivers i 0 < 128 → cell ≡ getD (n .registers) (getD drivers i 0) noCell)
+    → i < n .«node_count» → i < 1024 → Ranked s ins n ranks → Drivers (n .registers) (n .«register_count») drivers
+    → drop i values ≡ replicate m false → (cell : RegisterCell) → cell ≡ getD (n .registers) ((getD drivers i 0 + 127) % 128) noCell
     → nodeBy values (getD (n .nodes) i noNode) (claimBit claim (at + getD ranks i 0)) (shownBy values row (getD drivers i 0) cell)
     ≡ nodeValue (decoded s n .registers) (rowInputs claim at ins) (take (n .«register_count») row) (take i values) i (decodedNode s (getD (n .nodes) i noNode))
-value-right s ins n ranks drivers claim at row values i m h b l w e r d cell q =
+value-right s ins n ranks drivers claim at row values i m h b r d e cell q =
     let nd = getD (n .nodes) i noNode in
     let rs = decoded s n .registers in
     let st = take (n .«register_count») row in
     let a : Alike values (take i values) = alike-taken values i m e in
-    let c : length rs ≡ n .«register_count» = count-registers s n w in
-    let z = decodedRegister s noCell in
-    let f : driverNumber (driver rs i) < length rs → bitAt row (driverNumber (driver rs i)) ≡ bitAt st (driverNumber (driver rs i)) =
-    λ k. bitAt-taken row (n .«register_count») (driverNumber (driver rs i)) (omega arith) in
-    let g : driverNumber (driver rs i) < length rs → resetOf cell ≡ getD rs (driverNumber (driver rs i)) z .reset =
-    λ k. ap resetOf (q (omega (arith, d i b)) ∙ ap (λ (j : ℕ). getD (n .registers) j noCell) (d i b)) ∙ reset-at s n (driverNumber (driver rs i)) (omega arith) in
-    let y : shownBy values row (getD drivers i 0) cell ≡ shown (take i values) st (driver rs i) =
-    ap (λ (j : ℕ). shownBy values row j cell) (d i b) ∙ shown-by-alike values (take i values) row (driverNumber (driver rs i)) cell a
-    ∙ shown-driver (take i values) st row rs (driver rs i) i cell z refl (omega arith) f g in
+    let k = getD drivers i 0 in
+    let y : shownBy values row k cell ≡ shown (take i values) st (driver rs i) =
+    shown-by-alike values (take i values) row k cell a ∙ shown-driver (take i values) row s (n .registers) (n .«register_count») k cell (d .below i) (d .small i) q
+    ∙ ap (shown (take i values) st) (driver-named s n drivers i b d) in
     node-alike values (take i values) nd _ _ a
     ∙ input-alike (take i values) nd _ (rowInputs claim at ins (nameAt s (nd .detail))) _ (input-right s ins claim at nd (getD ranks i 0) (r i h))
     ∙ ap (nodeBy (take i values) nd (rowInputs claim at ins (nameAt s (nd .detail)))) y

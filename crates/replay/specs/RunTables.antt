@@ -1,18 +1,17 @@
 -- What the tables of a run hold, and the value of a node by its kind byte. Definitions only.
-use Prim.Native.Nat.{ℕ, zero, suc, _+_, _-_, _<_, _≤_}
+use Prim.Native.Nat.{ℕ, zero, suc, _+_, _-_, _<_}
 use mathlib.Core.Path.{_≡_}
-use mathlib.Core.Bool.{Bool, true, false, cond, not, _&&_, _||_, xor}
-use mathlib.Core.List.{List, _++_, map}
-use mathlib.Core.Option.{Option, none, some}
-use lib.Dec.{eqb, ltb}
-use lib.ListN.{length, getD, take, replicate}
-use Rattle.model.specs.Names.{Name, Place, rank}
-use Rattle.model.specs.Netlist.{Enable, Reset, Register, Design}
-use Rattle.model.specs.Validate.{Driver, driver}
+use mathlib.Core.Bool.{Bool, false, cond, not, _&&_, _||_, xor}
+use mathlib.Core.List.{List, _++_}
+use mathlib.Core.Option.{Option}
+use lib.Dec.{eqb}
+use lib.ListN.{length, getD, replicate}
+use Rattle.model.specs.Names.{Place, rank}
+use Rattle.model.specs.Netlist.{Enable, Reset}
 use Rattle.model.specs.Run.{InputBits, StoredBits, bitAt, shownBit, enabledBit, resetBit}
 use Rattle.model.specs.Replay.{claimBit}
-use Rattle.struo_ir.specs.Decoded.{nameAt, decodedEnable, decodedReset, decodedRegister, decoded}
-use Rattle.struo_ir.specs.OrderPlaces.{noNode, noCell}
+use Rattle.struo_ir.specs.Decoded.{nameAt, decodedEnable, decodedReset}
+use Rattle.struo_ir.specs.OrderPlaces.{noNode}
 use Rattle.struo_ir.specs.declared.netlist.Node.{Node}
 use Rattle.struo_ir.specs.declared.netlist.RegisterCell.{RegisterCell}
 use Rattle.struo_ir.specs.declared.netlist.Netlist.{Netlist}
@@ -48,9 +47,10 @@ unfoldable pub nodeBy : List Bool → Node → Bool → Bool → Bool
 nodeBy values n input shown =
     valueOf (n .kind) (n .detail) input shown (bitAt values (n .first)) (bitAt values (n .second)) (bitAt values (n .third))
 
--- what the register of a number shows, given its fields; false where there is no register of that number
+-- what the register of a number shows, the number given plus one, from its fields; false for 0, where there is no register
 unfoldable pub shownBy : List Bool → StoredBits → ℕ → RegisterCell → Bool
-shownBy values stored k r = cond (ltb k 128) (shownBit values (bitAt stored k) (resetOf r)) false
+shownBy values stored zero r = false
+shownBy values stored (suc k) r = shownBit values (bitAt stored k) (resetOf r)
 
 -- the rank of an Input's name among the inputs; 0 for another node
 unfoldable pub inputRank : List ℕ → List Place → Node → ℕ
@@ -59,15 +59,6 @@ inputRank s ins n = cond (eqb (n .kind) 0x00) (rank (nameAt s (n .detail)) ins) 
 -- a table has the rank of each node
 abbrev pub Ranked : List ℕ → List Place → Netlist → List ℕ → Type 0
 Ranked s ins n ranks = (k : ℕ) → k < n .«node_count» → getD ranks k 0 ≡ inputRank s ins (getD (n .nodes) k noNode)
-
--- the number of a driver; 128 where there is none
-unfoldable pub driverNumber : Option Driver → ℕ
-driverNumber none = 128
-driverNumber (some d) = d .number
-
--- a table has the number of each node's driver
-abbrev pub Driven : List Register → List ℕ → Type 0
-Driven rs drivers = (k : ℕ) → k < 1024 → getD drivers k 0 ≡ driverNumber (driver rs k)
 
 -- the input bits that a row of the claim gives by the ranks of names
 unfoldable pub rowInputs : List ℕ → ℕ → List Place → InputBits

@@ -1,20 +1,18 @@
 -- Laws of one step of a replay. Assumes nothing.
-use Prim.Native.Nat.{ℕ, zero, suc, _+_, _-_, _*_, _<_, _≤_}
+use Prim.Native.Nat.{ℕ, suc, _+_, _-_, _*_, _<_, _≤_}
 use mathlib.Core.Path.{_≡_, refl, sym, ap, ap₂, _∙_}
-use mathlib.Core.Bool.{Bool, true, false, cond, not, _&&_, _||_, xor}
-use mathlib.Core.List.{List, [], _∷_, _++_, map}
+use mathlib.Core.Bool.{Bool, true, false, not, _&&_, xor}
+use mathlib.Core.List.{List, [], _∷_, map}
 use mathlib.Core.Option.{Option, none, some}
-use native.Mathlib.Nat.{add-zero, add-suc, suc-add}
-use native.Mathlib.Omega.{arith}
+use native.Mathlib.Nat.{add-suc}
 use native.Mathlib.Numerals.{add-one}
 use lib.ListN.{length, take, drop, getD, drop-of-length-le, length-map}
 use lib.Seq.{drop-cons, take-at}
-use lib.Dec.{eqb, ltb}
-use borrow.Author.Tests.{lt-ltb, le-ltb}
+use lib.Dec.{eqb}
 use Rattle.model.specs.Names.{Place}
 use Rattle.model.specs.Netlist.{Enable, Reset, Register, Design, inputs, outputs, inputCount}
 use Rattle.model.specs.Run.{InputBits, StoredBits, nodeValues, bitAt, enabledBit, resetBit, nextBit, nextFrom, nextStored, outputBits}
-use Rattle.model.specs.Replay.{Position, Stepped, claimBit, claimInputs, bitsDiffer, differAsMarked, differAsClaimed, advance, stepIf, step}
+use Rattle.model.specs.Replay.{Position, Stepped, claimBit, claimInputs, bitsDiffer, differAsMarked, differAsClaimed, advance, step}
 use Rattle.replay.specs.RunTables.{rowInputs, padded}
 use Rattle.replay.specs.RunLaws.{Alike, bitAt-append}
 

@@ -4,14 +4,16 @@ use mathlib.Core.Path.{_≡_}
 use mathlib.Core.Bool.{Bool, not, _&&_}
 use lib.Dec.{eqb}
 use mathlib.Core.List.{List}
-use lib.ListN.{length, take, drop}
+use lib.ListN.{take, drop}
 use Rattle.model.specs.Names.{Place}
-use Rattle.model.specs.Netlist.{Design, inputs, outputs, inputCount}
+use Rattle.model.specs.Netlist.{inputs, outputs, inputCount}
 use Rattle.model.specs.Run.{nodeValues, nextStored, outputBits}
 use Rattle.model.specs.Replay as Replay
+use Rattle.struo_ir.specs.Checks.{Drivers}
 use Rattle.struo_ir.specs.Decoded.{decoded}
 use Rattle.struo_ir.specs.OrderPlaces.{Formed, places}
-use Rattle.replay.specs.RunTables.{Ranked, Driven, rowInputs, padded}
+use Rattle.replay.specs.RunTables.{Ranked, rowInputs, padded}
+use Rattle.replay.specs.declared.run.Rows.{Rows}
 use Rattle.replay.specs.declared.step.Side.{Side}
 use Rattle.replay.specs.declared.step.Position.{Position}
 use Rattle.replay.specs.declared.step.Stepped.{Stepped}
@@ -25,31 +27,38 @@ pub record Sound (side : Side) : Type 0 where
 -- the tables of a side are those of its record, with ranks among the given inputs
 pub record Ready (s : List ℕ) (ins : List Place) (side : Side) : Type 0 where
   pub ranked : Ranked s ins (side .netlist) (side .ranks)
-  pub driven : Driven (decoded s (side .netlist) .registers) (side .drivers)
+  pub driven : Drivers (side .netlist .registers) (side .netlist .«register_count») (side .drivers)
 
--- what a cycle of a side gives: outputs by name, next stored bits, and stored bits past the register count as they were
-pub record Cycled (s : List ℕ) (ins : List Place) (side : Side) (claim : List ℕ) (at : ℕ) (old out new : List Bool) : Type 0 where
+-- what a cycle of a side gives: outputs by name, and the rows exchanged: the one written has the next stored bits, and past the register count it is as it was
+pub record Cycled (s : List ℕ) (ins : List Place) (side : Side) (claim : List ℕ) (at : ℕ) (rows : Rows) (out : List Bool) (after : Rows) : Type 0 where
   pub shown : places s (side .outputs) ≡ outputs (decoded s (side .netlist))
-      → out ≡ padded 128 (outputBits (decoded s (side .netlist)) (nodeValues (decoded s (side .netlist)) (rowInputs claim at ins) (take (side .netlist .«register_count») old)))
-  pub stored : take (side .netlist .«register_count») new
-      ≡ nextStored (decoded s (side .netlist)) (nodeValues (decoded s (side .netlist)) (rowInputs claim at ins) (take (side .netlist .«register_count») old)) (take (side .netlist .«register_count») old)
-  pub kept : drop (side .netlist .«register_count») new ≡ drop (side .netlist .«register_count») old
+      → out ≡ padded 128 (outputBits (decoded s (side .netlist)) (nodeValues (decoded s (side .netlist)) (rowInputs claim at ins) (take (side .netlist .«register_count») (rows .old))))
+  pub stored : take (side .netlist .«register_count») (after .old)
+      ≡ nextStored (decoded s (side .netlist)) (nodeValues (decoded s (side .netlist)) (rowInputs claim at ins) (take (side .netlist .«register_count») (rows .old)))
+      (take (side .netlist .«register_count») (rows .old))
+  pub kept : drop (side .netlist .«register_count») (after .old) ≡ drop (side .netlist .«register_count») (rows .new)
+  pub exchanged : after .new ≡ rows .old
 
--- the position that rows stand for, given the register counts of both sides
+-- the position that rows stand for, given the register counts of both sides: the stored bits are the first ones of the old rows
 unfoldable pub position : ℕ → ℕ → Position → Replay.Position
-position n m p = record { cycle = p .cycle; agreed = p .agreed; gold = take n (p .gold); gate = take m (p .gate) }
+position n m p = record { cycle = p .cycle; agreed = p .agreed; gold = take n (p .gold .old); gate = take m (p .gate .old) }
 
 -- what a step gives, given the register counts of both sides
 unfoldable pub stepped : ℕ → ℕ → Stepped → Replay.Stepped
 stepped n m r = record { position = position n m (r .position); yes = r .yes }
 
--- the rows past the register counts are as they were
-pub record Rows (n m : ℕ) (old new : Position) : Type 0 where
-  pub gold : drop n (new .gold) ≡ drop n (old .gold)
-  pub gate : drop m (new .gate) ≡ drop m (old .gate)
+-- two rows that were alike past the register count have there what they had
+pub record Kept (n : ℕ) (before after : Rows) : Type 0 where
+  pub old : drop n (before .new) ≡ drop n (before .old) → drop n (after .old) ≡ drop n (before .old)
+  pub new : drop n (before .new) ≡ drop n (before .old) → drop n (after .new) ≡ drop n (before .old)
 
--- what a step gives from a position, the claimed cycle, whether outputs differ and are so marked, and the new rows
-unfoldable pub outcomeOf : Position → ℕ → Bool → Bool → List Bool → List Bool → Stepped
+-- the same of the rows of both sides
+pub record BothKept (n m : ℕ) (before after : Position) : Type 0 where
+  pub gold : Kept n (before .gold) (after .gold)
+  pub gate : Kept m (before .gate) (after .gate)
+
+-- what a step gives from a position, the claimed cycle, whether outputs differ and are so marked, and the rows after it
+unfoldable pub outcomeOf : Position → ℕ → Bool → Bool → Rows → Rows → Stepped
 outcomeOf p cycle differ marked gold gate =
     record {
       position = record { cycle = p .cycle + 1; agreed = p .agreed && not differ; gold = gold; gate = gate };
@@ -68,10 +77,10 @@ pub record Paired (s t : List ℕ) (count : ℕ) (gold gate : Side) : Type 0 whe
 pub record Advanced (s t : List ℕ) (gold gate : Side) (cycle : ℕ) (claim : List ℕ) (p : Position) (r : Stepped) : Type 0 where
   pub equal : stepped (gold .netlist .«register_count») (gate .netlist .«register_count») r
       ≡ Replay.advance (decoded s (gold .netlist)) (decoded t (gate .netlist)) cycle claim (position (gold .netlist .«register_count») (gate .netlist .«register_count») p)
-  pub rows : Rows (gold .netlist .«register_count») (gate .netlist .«register_count») p (r .position)
+  pub rows : BothKept (gold .netlist .«register_count») (gate .netlist .«register_count») p (r .position)
 
 -- the same of a step that stands still past the claimed cycle
 pub record StepTaken (s t : List ℕ) (gold gate : Side) (cycle : ℕ) (claim : List ℕ) (p : Position) (r : Stepped) : Type 0 where
   pub equal : stepped (gold .netlist .«register_count») (gate .netlist .«register_count») r
       ≡ Replay.step (decoded s (gold .netlist)) (decoded t (gate .netlist)) cycle claim (position (gold .netlist .«register_count») (gate .netlist .«register_count») p)
-  pub rows : Rows (gold .netlist .«register_count») (gate .netlist .«register_count») p (r .position)
+  pub rows : BothKept (gold .netlist .«register_count») (gate .netlist .«register_count») p (r .position)

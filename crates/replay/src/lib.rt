@@ -1,5 +1,5 @@
-// The plain run of two decoded designs, the checks of a pair, and the replay of a claimed trace.
-pub mod pair;
+// The plain run of two decoded designs, and the replay of a claimed trace.
+pub mod claim;
 pub mod replay;
 pub mod run;
 pub mod step;

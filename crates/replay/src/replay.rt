@@ -2,27 +2,29 @@
 ghost use mathlib.Core.Path.{_≡_};
 ghost use mathlib.Core.List.{List};
 ghost use Prim.Native.Nat.{ℕ, _≤_};
-ghost use lib.ListN.{length, take};
+ghost use lib.ListN.{take};
 ghost use Rattle.model.specs.Pair.{replayFault, withGate};
 ghost use Rattle.model.specs.Validate.{readRecord};
 ghost use Rattle.model.specs.Run.{initialBits};
 ghost use Rattle.model.specs.Replay as Model;
 ghost use Rattle.struo_ir.specs.Decoded.{decoded};
-ghost use Rattle.struo_ir.specs.OrderPlaces.{Formed, places};
-ghost use Rattle.replay.specs.PairChecks.{faultOf, Within, Ordered, claimFault, laterFault};
+ghost use Rattle.struo_ir.specs.OrderPlaces.{Formed};
+ghost use Rattle.pair.specs.PairChecks.{faultOf, Within, Ordered, refusalOn};
+ghost use Rattle.replay.specs.ClaimChecks.{laterFault};
 ghost use Rattle.replay.specs.StepSides.{Sound, Paired};
-ghost use Rattle.replay.specs.ReplayAnswers.{answerOf, refusalOn};
-use crate::pair::Fault;
-use crate::pair::Orders;
-use crate::pair::bad_claim;
-use crate::pair::by_name;
-use crate::pair::initial_fault;
-use crate::pair::interface_fault;
+ghost use Rattle.replay.specs.ReplayAnswers.{answerOf};
+use crate::claim::claim_fault;
+use crate::run::Rows;
 use crate::run::initial_row;
 use crate::step::Position;
 use crate::step::Side;
 use crate::step::side_of;
 use crate::step::step;
+use pair::checks::Fault;
+use pair::checks::initial_fault;
+use pair::checks::interface_fault;
+use pair::orders::Orders;
+use pair::orders::by_name;
 use struo_ir::netlist::Netlist;
 use struo_ir::record::read_record;
 
@@ -34,7 +36,8 @@ pub struct Answer {
     pub yes: bool,
 }
 
-// The yes or no of a replay from the given rows of stored bits: a step for each cycle before the claimed one, then that one's answer.
+// The yes or no of a replay from the given stored bits: a step for each cycle before the claimed one, then that one's answer. They stand in
+// both rows of their side at first; what the new row holds before a cycle does not count.
 pub fn replays(
     gold: Side,
     gate: Side,
@@ -51,8 +54,14 @@ pub fn replays(
     let mut position = Position {
         cycle: 0,
         agreed: true,
-        gold: first,
-        gate: second,
+        gold: Rows {
+            old: first,
+            new: first,
+        },
+        gate: Rows {
+            old: second,
+            new: second,
+        },
     };
     let mut k: usize = 0;
     while k < cycle {
@@ -63,18 +72,6 @@ pub fn replays(
     }
     let last = step(gold, gate, inputs, cycle, claim, position);
     last.yes
-}
-
-// 25.
-fn claim_fault(inputs: usize, outputs: usize, cycle: u64, claim: &[u8]) -> Fault
-    requires { ⌜ (inputs ≤ 128) × (outputs ≤ 128) ⌝ }
-    ensures { λ r. ⌜ faultOf r ≡ claimFault inputs outputs cycle (now (claim .entry)) ⌝ }
-{
-    if bad_claim(inputs, outputs, cycle, claim) {
-        Fault::Refused(25, 0, 0)
-    } else {
-        Fault::Nothing
-    }
 }
 
 // 22 and 25.

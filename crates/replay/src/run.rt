@@ -1,22 +1,22 @@
 // One cycle of the run of a decoded design: node values in an array by value, next stored bits, outputs by name.
 ghost use mathlib.Core.Path.{_≡_};
-ghost use mathlib.Core.Bool.{Bool, true, false, _&&_, _||_, not, xor};
+ghost use mathlib.Core.Bool.{true, false, not};
 ghost use mathlib.Core.List.{List, map};
-ghost use Prim.Native.Nat.{ℕ, _+_, _<_, _≤_};
-ghost use lib.ListN.{length, take, drop, getD, set, replicate};
+ghost use Prim.Native.Nat.{ℕ, _+_, _<_, _≤_, _%_};
+ghost use lib.ListN.{take, drop};
 ghost use Rattle.model.specs.Names.{Place, rank};
 ghost use Rattle.model.specs.Record.{levelOf};
-ghost use Rattle.model.specs.Run.{bitAt, shownBit, enabledBit, resetBit, nextBit, nodeValues, nextStored, initialBits, initialBit};
+ghost use Rattle.model.specs.Run.{bitAt, shownBit, enabledBit, resetBit, nodeValues, nextStored, initialBits, initialBit};
 ghost use Rattle.model.specs.Run as Run;
 ghost use Rattle.model.specs.Replay.{claimBit};
-ghost use Rattle.struo_ir.specs.Decoded.{nameAt, decodedEnable, decodedReset, decodedRegister, decoded};
-ghost use Rattle.struo_ir.specs.OrderPlaces.{Formed, held, places};
-ghost use Rattle.replay.specs.RunTables.{enableOf, resetOf, nextOf, valueOf, gateOf, nodeBy, shownBy, inputRank, Ranked, Driven, rowInputs, padded};
+ghost use Rattle.struo_ir.specs.Checks.{Drivers};
+ghost use Rattle.struo_ir.specs.Decoded.{decoded};
+ghost use Rattle.struo_ir.specs.OrderPlaces.{Formed, places};
+ghost use Rattle.replay.specs.RunTables.{enableOf, resetOf, nextOf, valueOf, gateOf, nodeBy, shownBy, Ranked, rowInputs, padded};
 use struo_ir::netlist::Netlist;
 use struo_ir::netlist::Node;
 use struo_ir::netlist::RegisterCell;
 use struo_ir::order::Order;
-use struo_ir::order::same_name;
 use struo_ir::order::wide;
 
 // The bit at a number; false past the end.
@@ -61,14 +61,14 @@ fn shown_bit(values: &[bool], stored: bool, cell: RegisterCell) -> bool
     }
 }
 
-// What the register of a number shows; false where there is no register of that number.
+// What the register of a number shows, the number given plus one; false for 0, where there is no register.
 fn shown_by(values: &[bool], stored: &[bool], driver: usize, cell: RegisterCell) -> bool
     ensures { λ r. ⌜ r ≡ shownBy (now (values .entry)) (now (stored .entry)) driver cell ⌝ }
 {
-    if driver < 128 {
-        shown_bit(values, bit_at(stored, driver), cell)
-    } else {
+    if driver == 0 {
         false
+    } else {
+        shown_bit(values, bit_at(stored, driver - 1), cell)
     }
 }
 
@@ -121,11 +121,11 @@ fn node_value(values: &[bool], node: Node, input: bool, shown: bool) -> bool
     value_of(node, input, shown, a, b, c)
 }
 
-// A register number that is below 128: the number itself, or 0 in the place of a larger one.
-pub fn within(k: usize) -> usize
-    ensures { λ r. ⌜ (r < 128) × (k < 128 → r ≡ k) ⌝ }
+// The register that a driver's entry names: one less than the entry; 127 for 0, which names none.
+fn register_of(driver: u16) -> usize
+    ensures { λ r. ⌜ (r < 128) × (r ≡ (driver + 127) % 128) ⌝ }
 {
-    if k < 128 { k } else { 0 }
+    (driver as usize + 127) % 128
 }
 
 // The bit of a rank in the row of the claim from `at` on.
@@ -146,7 +146,7 @@ pub fn node_values(
     stored: [bool; 128],
 ) -> [bool; 1024]
     requires { ⌜ (netlist .«node_count» ≤ 1024) × (netlist .«register_count» ≤ 128) × (at ≤ 65536) ⌝ }
-    ensures { λ r. ⌜ ((s : List ℕ) (ins : List Place) → Ranked s ins netlist ranks → Driven (decoded s netlist .registers) drivers
+    ensures { λ r. ⌜ ((s : List ℕ) (ins : List Place) → Ranked s ins netlist ranks → Drivers (netlist .registers) (netlist .«register_count») drivers
         → r ≡ padded 1024 (nodeValues (decoded s netlist) (rowInputs (now (claim .entry)) at ins) (take (netlist .«register_count») stored))) ⌝ }
 {
     let count = netlist.node_count;
@@ -155,9 +155,9 @@ pub fn node_values(
     while i < count {
         let node = netlist.nodes[i];
         let input = input_bit(claim, at, ranks[i]);
-        let driver = wide(drivers[i]);
-        let cell = netlist.registers[within(driver)];
-        let shown = shown_by(&values, &stored, driver, cell);
+        let driver = drivers[i];
+        let cell = netlist.registers[register_of(driver)];
+        let shown = shown_by(&values, &stored, wide(driver), cell);
         let value = node_value(&values, node, input, shown);
         values[i] = value;
         i += 1;
@@ -202,14 +202,21 @@ fn next_bit(values: &[bool], stored: bool, cell: RegisterCell) -> bool
     reset_bit(values, enabled, cell)
 }
 
-// The next row of stored bits from the old one; past the register count it stays.
-pub fn next_stored(netlist: Netlist, values: &[bool], old: [bool; 128]) -> [bool; 128]
+// The two rows of stored bits of a side: the old one has the bits before a cycle, the new one is written in it.
+pub struct Rows {
+    pub old: [bool; 128],
+    pub new: [bool; 128],
+}
+
+// The next stored bits, from the old row, written into the new one; past the register count the new row stays.
+pub fn next_stored(netlist: Netlist, values: &[bool], rows: Rows) -> Rows
     requires { ⌜ netlist .«register_count» ≤ 128 ⌝ }
-    ensures { λ r. ⌜ (drop (netlist .«register_count») r ≡ drop (netlist .«register_count») old)
-        × ((s : List ℕ) → take (netlist .«register_count») r ≡ nextStored (decoded s netlist) (now (values .entry)) (take (netlist .«register_count») old)) ⌝ }
+    ensures { λ r. ⌜ (r .old ≡ rows .old) × (drop (netlist .«register_count») (r .new) ≡ drop (netlist .«register_count») (rows .new))
+        × ((s : List ℕ) → take (netlist .«register_count») (r .new) ≡ nextStored (decoded s netlist) (now (values .entry)) (take (netlist .«register_count») (rows .old))) ⌝ }
 {
     let count = netlist.register_count;
-    let mut new = old;
+    let old = rows.old;
+    let mut new = rows.new;
     let mut k: usize = 0;
     while k < count {
         let cell = netlist.registers[k];
@@ -217,7 +224,16 @@ pub fn next_stored(netlist: Netlist, values: &[bool], old: [bool; 128]) -> [bool
         new[k] = bit;
         k += 1;
     }
-    new
+    Rows { old, new }
+}
+
+// The two rows exchanged, as after each cycle: the bits that were written come next, the row before them is free for the bits after them.
+pub fn exchange(rows: Rows) -> Rows
+    ensures { λ r. ⌜ (r .old ≡ rows .new) × (r .new ≡ rows .old) ⌝ }
+{
+    let old = rows.new;
+    let new = rows.old;
+    Rows { old, new }
 }
 
 // The initial bit of a register: its reset value, or false where it has no reset.

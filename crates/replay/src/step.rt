@@ -1,24 +1,25 @@
 // One step of a replay: both sides, one cycle, from any stored bits.
 ghost use mathlib.Core.Path.{_≡_};
-ghost use mathlib.Core.Bool.{Bool, _&&_, xor};
+ghost use mathlib.Core.Bool.{_&&_, xor};
 ghost use mathlib.Core.List.{List};
-ghost use Prim.Native.Nat.{ℕ, suc, _+_, _*_, _<_, _≤_};
-ghost use lib.ListN.{length, take, drop};
+ghost use Prim.Native.Nat.{ℕ, _+_, _*_, _<_, _≤_};
+ghost use lib.ListN.{take};
 ghost use Rattle.model.specs.Names.{Place};
 ghost use Rattle.model.specs.Netlist.{inputs};
 ghost use Rattle.model.specs.Replay.{bitsDiffer, differAsMarked};
 ghost use Rattle.model.specs.Replay as Replay;
-ghost use Rattle.struo_ir.specs.Decoded.{decoded};
 ghost use Rattle.struo_ir.specs.OrderPlaces.{Formed, places};
 ghost use Rattle.replay.specs.StepSides.{Sound, Ready, Cycled, outcomeOf, Paired, Advanced, StepTaken};
+use crate::run::Rows;
 use crate::run::claim_bit;
+use crate::run::exchange;
 use crate::run::next_stored;
 use crate::run::node_values;
 use crate::run::output_row;
-use crate::tables::drivers;
 use crate::tables::input_ranks;
 use struo_ir::netlist::Netlist;
 use struo_ir::order::Order;
+use struo_ir::validate::drivers;
 
 // A side of a replay, ready to run: its netlist, the rank of each Input among gold's inputs, the register of each node, and its outputs by name.
 pub struct Side {
@@ -28,12 +29,12 @@ pub struct Side {
     pub outputs: Order,
 }
 
-// A replay position: the next cycle, whether the outputs agreed before it, and the rows of stored bits.
+// A replay position: the next cycle, whether the outputs agreed before it, and per side two rows, of which the old one has the stored bits.
 pub struct Position {
     pub cycle: usize,
     pub agreed: bool,
-    pub gold: [bool; 128],
-    pub gate: [bool; 128],
+    pub gold: Rows,
+    pub gate: Rows,
 }
 
 // What a step gives: the position after it, and yes or no.
@@ -42,10 +43,10 @@ pub struct Stepped {
     pub yes: bool,
 }
 
-// What one cycle of a side gives: its outputs by name, and the new row of stored bits.
+// What one cycle of a side gives: its outputs by name, and its two rows, exchanged.
 struct Cycle {
     outputs: [bool; 128],
-    stored: [bool; 128],
+    rows: Rows,
 }
 
 // Whether outputs differ, and whether they differ exactly where the claim marks them.
@@ -60,7 +61,8 @@ pub fn side_of(bytes: &[u8], netlist: Netlist, outputs: Order, gold: &[u8], inpu
     ensures { λ r. ⌜ (r .netlist ≡ netlist) × (r .outputs ≡ outputs) × (Ready (now (bytes .entry)) (places (now (gold .entry)) inputs) r) ⌝ }
 {
     let ranks = input_ranks(bytes, netlist, gold, inputs);
-    let table = drivers(netlist);
+    let registers = netlist.registers;
+    let table = drivers(registers, netlist.register_count);
     Side {
         netlist,
         ranks,
@@ -69,19 +71,21 @@ pub fn side_of(bytes: &[u8], netlist: Netlist, outputs: Order, gold: &[u8], inpu
     }
 }
 
-// One cycle of a side, from the old row of stored bits to the new one.
-fn cycle_of(side: Side, claim: &[u8], at: usize, old: [bool; 128]) -> Cycle
+// One cycle of a side: the old row gives node values, outputs and the new row; then the two rows are exchanged.
+fn cycle_of(side: Side, claim: &[u8], at: usize, rows: Rows) -> Cycle
     requires { ⌜ (Sound side) × (at ≤ 65536) ⌝ }
-    ensures { λ r. ⌜ ((s : List ℕ) (ins : List Place) → Ready s ins side → Cycled s ins side (now (claim .entry)) at old (r .outputs) (r .stored)) ⌝ }
+    ensures { λ r. ⌜ ((s : List ℕ) (ins : List Place) → Ready s ins side → Cycled s ins side (now (claim .entry)) at rows (r .outputs) (r .rows)) ⌝ }
 {
     let netlist = side.netlist;
     let ranks = side.ranks;
     let table = side.drivers;
     let order = side.outputs;
+    let old = rows.old;
     let values = node_values(netlist, ranks, table, claim, at, old);
     let outputs = output_row(&values, order);
-    let stored = next_stored(netlist, &values, old);
-    Cycle { outputs, stored }
+    let written = next_stored(netlist, &values, rows);
+    let rows = exchange(written);
+    Cycle { outputs, rows }
 }
 
 // The exclusive or of two bits.
@@ -158,14 +162,8 @@ fn both(a: bool, b: bool) -> bool
     if a { b } else { false }
 }
 
-// The step's outcome from a cycle's comparison. The new rows take the place of the old ones.
-fn outcome(
-    p: Position,
-    cycle: usize,
-    c: Comparison,
-    gold: [bool; 128],
-    gate: [bool; 128],
-) -> Stepped
+// The step's outcome from a cycle's comparison and the rows after it.
+fn outcome(p: Position, cycle: usize, c: Comparison, gold: Rows, gate: Rows) -> Stepped
     requires { ⌜ p .cycle ≤ 64 ⌝ }
     ensures { λ r. ⌜ r ≡ outcomeOf p cycle (c .differ) (c .marked) gold gate ⌝ }
 {
@@ -182,7 +180,7 @@ fn outcome(
     Stepped { position, yes }
 }
 
-// One cycle of both sides. Per side the old row of stored bits gives a new one, which takes its place.
+// One cycle of both sides. Per side the new row is written from the old one, and the two are exchanged.
 pub fn advance(
     gold: Side,
     gate: Side,
@@ -196,18 +194,18 @@ pub fn advance(
 {
     let at = p.cycle * inputs;
     let place = (cycle + 1) * inputs;
-    let old = p.gold;
-    let a = cycle_of(gold, claim, at, old);
-    let old = p.gate;
-    let b = cycle_of(gate, claim, at, old);
+    let rows = p.gold;
+    let a = cycle_of(gold, claim, at, rows);
+    let rows = p.gate;
+    let b = cycle_of(gate, claim, at, rows);
     let first = gold.outputs;
     let second = gate.outputs;
     let xs = a.outputs;
     let ys = b.outputs;
     let c = compare(claim, place, xs, first.count, ys, second.count);
-    let new = a.stored;
-    let other = b.stored;
-    outcome(p, cycle, c, new, other)
+    let left = a.rows;
+    let right = b.rows;
+    outcome(p, cycle, c, left, right)
 }
 
 // One step of a replay from a position: past the claimed cycle nothing changes and the answer is no.

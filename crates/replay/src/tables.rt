@@ -1,15 +1,12 @@
-// Tables that are made once for a netlist: the rank of each Input's name, and the register that drives each node.
+// The table that is made once for a netlist: the rank of each Input's name.
 ghost use mathlib.Core.Path.{_≡_};
-ghost use mathlib.Core.List.{List};
-ghost use Prim.Native.Nat.{ℕ, _<_, _≤_};
-ghost use lib.ListN.{set};
+ghost use Prim.Native.Nat.{_<_, _≤_};
 ghost use Rattle.model.specs.Names.{rank};
-ghost use Rattle.struo_ir.specs.Decoded.{nameAt, decoded};
+ghost use Rattle.struo_ir.specs.Decoded.{nameAt};
 ghost use Rattle.struo_ir.specs.OrderPlaces.{Formed, places};
-ghost use Rattle.replay.specs.RunTables.{inputRank, Ranked, Driven};
+ghost use Rattle.replay.specs.RunTables.{inputRank, Ranked};
 use struo_ir::netlist::Netlist;
 use struo_ir::netlist::Node;
-use struo_ir::netlist::RegisterCell;
 use struo_ir::order::Order;
 use struo_ir::order::same_name;
 use struo_ir::order::wide;
@@ -58,31 +55,4 @@ pub fn input_ranks(bytes: &[u8], netlist: Netlist, gold: &[u8], order: Order) ->
         i += 1;
     }
     ranks
-}
-
-// The table with a register as the driver of a node; unchanged where there is no node of that number.
-fn with_driver(table: [u16; 1024], node: usize, register: u16) -> [u16; 1024]
-    ensures { λ r. ⌜ r ≡ set table node register ⌝ }
-{
-    let mut changed = table;
-    if node < 1024 {
-        changed[node] = register;
-    }
-    changed
-}
-
-// The number of the first register that drives each node; 128 where there is none. From the last register to the first, so that the first one stays.
-pub fn drivers(netlist: Netlist) -> [u16; 1024]
-    requires { ⌜ netlist .«register_count» ≤ 128 ⌝ }
-    ensures { λ r. ⌜ ((s : List ℕ) → Driven (decoded s netlist .registers) r) ⌝ }
-{
-    let mut table = [128u16; 1024];
-    let mut k = netlist.register_count;
-    while k > 0 {
-        k -= 1;
-        let cell = netlist.registers[k];
-        let next = with_driver(table, wide(cell.output), k as u16);
-        table = next;
-    }
-    table
 }

@@ -10,3 +10,4 @@ pub mod ConflictLaws
 pub mod StepLaws
 pub mod SolveLaws
 pub mod StartLaws
+pub mod GraphLaws

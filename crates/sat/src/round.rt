@@ -1,10 +1,6 @@
 // One round of the search: propagation, then the clause that a conflict teaches, or a decision.
-ghost use mathlib.Core.Path.{_≡_};
-ghost use mathlib.Core.List.{[]};
-ghost use Prim.Native.Nat.{_*_, _<_};
 ghost use Rattle.model.specs.Sat as Sat;
-ghost use Rattle.assignment.specs.State.{assignmentOf, column, enqueued, wordReason};
-ghost use Rattle.watches.specs.State.{Sound, UnitStep};
+ghost use Rattle.assignment.specs.State.{column};
 ghost use Rattle.sat.specs.State.{stateOf, Assertable, Going, Stopped, Results};
 use crate::decide::decide;
 use crate::learn::learn;
@@ -13,37 +9,10 @@ use crate::state::State;
 use crate::state::Step;
 use analysis::resolve::analyze;
 use assignment::scores::decay_activity;
-use assignment::state::Enqueued;
-use assignment::state::Trail;
-use assignment::state::Value;
-use assignment::trail::assign;
-use assignment::trail::value;
 use watches::propagate::negate;
 use watches::propagate::propagate;
 use watches::state::Propagation;
-use watches::state::Store;
-
-// A literal of the variables made true with its reason; not ok where it is false.
-fn assert_literal(words: &mut [u32], store: Store, t: Trail, l: u32, reason: u32) -> Enqueued
-    requires { ⌜ Sound store t (now words) [] × (l < t .variables * 2) ⌝ }
-    ensures { λ r. ⌜ UnitStep store t (now (words .entry)) r (now (words .exit))
-        × (enqueued (r .ok) (assignmentOf (r .trail) (now (words .exit))) ≡ Sat.enqueue (assignmentOf t (now (words .entry))) l (wordReason reason)) ⌝ }
-{
-    match value(words, t, l) {
-        Value::True => Enqueued { ok: true, trail: t },
-        Value::False => Enqueued {
-            ok: false,
-            trail: t,
-        },
-        Value::Unassigned => {
-            let next = assign(words, t, l, reason);
-            Enqueued {
-                ok: true,
-                trail: next,
-            }
-        }
-    }
-}
+use watches::units::enqueue;
 
 // The clause of the asserting literal and the `count` learned ones added, and the asserting one made true by it.
 fn assert_learned(
@@ -67,7 +36,7 @@ fn assert_learned(
     let l = learn(words, scores, before, t, asserting, count);
     let store = l.store;
     let back = l.trail;
-    let e = assert_literal(words, store, back, asserting, reason);
+    let e = enqueue(words, store, back, asserting, reason);
     if !e.ok {
         return Step::NoModel(total);
     }

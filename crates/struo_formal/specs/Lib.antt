@@ -1,2 +1,3 @@
+pub mod CheckAnswers
 pub mod ReadAnswers
 pub mod ReplayAnswers

@@ -5,6 +5,8 @@ use struo_ir::record::read_record;
 ghost use mathlib.Core.Path.{_≡_};
 ghost use Rattle.model.specs.Validate as Validate;
 ghost use Rattle.model.specs.Replay as Replay;
+ghost use Rattle.model.specs.Check as Check;
+ghost use Rattle.struo_formal.specs.CheckAnswers.{checkedOf};
 ghost use Rattle.struo_formal.specs.ReadAnswers.{refusalOf};
 ghost use Rattle.struo_formal.specs.ReplayAnswers.{replayOf};
 
@@ -73,4 +75,58 @@ pub extern "C" fn struo_replay(gold: &[u8], gate: &[u8], cycle: u64, claim: &[u8
     ensures { λ r. ⌜ replayOf r ≡ Replay.replay (now (gold .entry)) (now (gate .entry)) cycle (now (claim .entry)) ⌝ }
 {
     replay(gold, gate, cycle, claim)
+}
+
+// What a check answers: 0 or the refusal's number, the side and the place; of an accepted check the status (0 Equivalent, 1 NotEquivalent,
+// 2 Inconclusive, 3 GaveUp), the depth, for NotEquivalent the first mismatching cycle and for GaveUp the query. Unused numbers are 0.
+#[repr(C)]
+pub struct CheckAnswer {
+    pub number: u32,
+    pub side: u32,
+    pub place: u32,
+    pub status: u32,
+    pub depth: u32,
+    pub mismatch: u32,
+    pub query: u32,
+}
+
+// Check two records of any content and length to a maximum depth, in lent memory of any content and length: a refusal of 1 to 24, which leaves
+// everything lent as it was, or a verdict. The trace is written for NotEquivalent only; words and scores are all zero after an accepted check.
+pub fn check(
+    gold: &[u8],
+    gate: &[u8],
+    depth: u64,
+    trace: &mut [u8],
+    words: &mut [u32],
+    scores: &mut [f64],
+) -> CheckAnswer
+    ensures { λ r. ⌜ checkedOf r (now (trace .exit)) (now (words .exit)) (now (scores .exit))
+        ≡ Check.check (now (gold .entry)) (now (gate .entry)) depth (now (trace .entry)) (now (words .entry)) (now (scores .entry)) ⌝ }
+{
+    let answer = checker::call::check(gold, gate, depth, trace, words, scores);
+    CheckAnswer {
+        number: answer.number,
+        side: answer.side,
+        place: answer.place,
+        status: answer.status,
+        depth: answer.depth,
+        mismatch: answer.mismatch,
+        query: answer.query,
+    }
+}
+
+// The same for C.
+#[no_mangle]
+pub extern "C" fn struo_check(
+    gold: &[u8],
+    gate: &[u8],
+    depth: u64,
+    trace: &mut [u8],
+    words: &mut [u32],
+    scores: &mut [f64],
+) -> CheckAnswer
+    ensures { λ r. ⌜ checkedOf r (now (trace .exit)) (now (words .exit)) (now (scores .exit))
+        ≡ Check.check (now (gold .entry)) (now (gate .entry)) depth (now (trace .entry)) (now (words .entry)) (now (scores .entry)) ⌝ }
+{
+    check(gold, gate, depth, trace, words, scores)
 }

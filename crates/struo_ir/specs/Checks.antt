@@ -51,6 +51,7 @@ lateCell (suc k) r i = lateReset i (decodedReset (r .reset) (r .«reset_signal»
 pub record Drivers (registers : List RegisterCell) (count : ℕ) (table : List ℕ) : Type 0 where
   pub size : length table ≡ 1024
   pub small : (net : ℕ) → getD table net 0 ≤ 128
+  pub below : (net : ℕ) → getD table net 0 ≤ count
   pub drives : (s : List ℕ) (net : ℕ) → net < 1024 → driverBy s registers (getD table net 0) ≡ driver (registersTo s registers count) net
 
 -- the walk over the nodes after i of them, with so many ports: what is left to check gives the whole

@@ -30,6 +30,7 @@ pub record DriversSoFar (registers : List RegisterCell) (count : ℕ) (table : L
   pub bound : k ≤ count
   pub size : length table ≡ 1024
   pub small : (net : ℕ) → getD table net 0 ≤ 128
+  pub below : (net : ℕ) → getD table net 0 ≤ count
   pub drives : (s : List ℕ) (net : ℕ) → net < 1024 → driverBy s registers (getD table net 0) ≡ driverFrom k net (drop k (registersTo s registers count))
 
 pub no-drivers : (registers : List RegisterCell) (count : ℕ) → DriversSoFar registers count (replicate 1024 0) count
@@ -39,19 +40,20 @@ no-drivers registers count =
       bound = omega arith;
       size = length-replicate {A = ℕ} 1024 0;
       small = λ net. omega (arith, getD-repeat {A = ℕ} 1024 net 0);
+      below = λ net. omega (arith, getD-repeat {A = ℕ} 1024 net 0);
       drives = λ s net l. rw (getD-repeat {A = ℕ} 1024 net 0, drop-map-all (decodedRegister s) registers count count (omega arith));
     }
 
 -- the first of the rest
-opening : (registers : List RegisterCell) (count : ℕ) → RegistersPadded count registers → (j : ℕ) → j < count → (s : List ℕ) (net : ℕ) → driverFrom j net (drop j (registersTo s registers count)) ≡ cond (eqb (getD registers j noRegister .output) net) (some (record { number = j; register = decodedRegister s (getD registers j noRegister) })) (driverFrom (suc j) net (drop (j + 1) (registersTo s registers count)))
+opening : (registers : List RegisterCell) (count : ℕ) → count ≤ length registers → (j : ℕ) → j < count → (s : List ℕ) (net : ℕ) → driverFrom j net (drop j (registersTo s registers count)) ≡ cond (eqb (getD registers j noRegister .output) net) (some (record { number = j; register = decodedRegister s (getD registers j noRegister) })) (driverFrom (suc j) net (drop (j + 1) (registersTo s registers count)))
 unfolding driverFrom registersTo decodedRegister
-opening registers count pad j l s net = rw (drop-map-take (decodedRegister s) registers count j noRegister l (omega (arith, pad .size, pad .fits)))
+opening registers count w j l s net = rw (drop-map-take (decodedRegister s) registers count j noRegister l w)
 
-module _ (registers : List RegisterCell) (count : ℕ) (pad : RegistersPadded count registers) (table : List ℕ) (k j : ℕ) (e : k ≡ suc j) (so : DriversSoFar registers count table k) where
+module _ (registers : List RegisterCell) (count : ℕ) (size : length registers ≡ 128) (fits : count ≤ 128) (table : List ℕ) (k j : ℕ) (e : k ≡ suc j) (so : DriversSoFar registers count table k) where
   opened : (s : List ℕ) (net : ℕ) → driverFrom j net (drop j (registersTo s registers count)) ≡ cond (eqb (getD registers j noRegister .output) net) (some (record { number = j; register = decodedRegister s (getD registers j noRegister) })) (driverFrom k net (drop k (registersTo s registers count)))
   opened s net =
       let f : j + 1 ≡ k = add-one j ∙ sym e in
-      opening registers count pad j (omega (arith, so .bound)) s net
+      opening registers count (omega (arith, size, fits)) j (omega (arith, so .bound)) s net
       ∙ ap (λ (n : ℕ). cond (eqb (getD registers j noRegister .output) net) (some (record { number = j; register = decodedRegister s (getD registers j noRegister) })) (driverFrom (suc j) net (drop n (registersTo s registers count)))) f
       ∙ ap (λ (n : ℕ). cond (eqb (getD registers j noRegister .output) net) (some (record { number = j; register = decodedRegister s (getD registers j noRegister) })) (driverFrom n net (drop k (registersTo s registers count)))) (sym e)
 
@@ -76,7 +78,8 @@ module _ (registers : List RegisterCell) (count : ℕ) (pad : RegistersPadded co
       record {
         bound = omega (arith, so .bound);
         size = length-set table (getD registers j noRegister .output) k ∙ so .size;
-        small = getD-set-all (λ (n : ℕ). n ≤ 128) table (getD registers j noRegister .output) k 0 (so .small) (omega (arith, so .bound, pad .fits));
+        small = getD-set-all (λ (n : ℕ). n ≤ 128) table (getD registers j noRegister .output) k 0 (so .small) (omega (arith, so .bound, fits));
+        below = getD-set-all (λ (n : ℕ). n ≤ count) table (getD registers j noRegister .output) k 0 (so .below) (so .bound);
         drives = stored-at;
       }
 
@@ -86,13 +89,14 @@ module _ (registers : List RegisterCell) (count : ℕ) (pad : RegistersPadded co
         bound = omega (arith, so .bound);
         size = so .size;
         small = so .small;
+        below = so .below;
         drives = λ s net l. so .drives s net l ∙ other s net (ne-eqb (getD registers j noRegister .output) net (λ (g : getD registers j noRegister .output ≡ net). omega (arith, h, l, g)));
       }
 
 pub all-drivers : (registers : List RegisterCell) (count : ℕ) (table : List ℕ) (k : ℕ) → DriversSoFar registers count table k → k ≡ 0 → Drivers registers count table
 unfolding driver
 all-drivers registers count table k so e =
-    record { size = so .size; small = so .small; drives = λ s net l. so .drives s net l ∙ ap (λ (n : ℕ). driverFrom n net (drop n (registersTo s registers count))) e }
+    record { size = so .size; small = so .small; below = so .below; drives = λ s net l. so .drives s net l ∙ ap (λ (n : ℕ). driverFrom n net (drop n (registersTo s registers count))) e }
 
 -- ---- 13 and 14, by node
 

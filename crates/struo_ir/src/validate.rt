@@ -167,9 +167,9 @@ fn registers_fault(
     Answer::Accepted
 }
 
-// The table of the registers that drive the nets.
+// The table of the registers that drive the nets: the number plus one of the first one, 0 where there is none.
 pub fn drivers(registers: [RegisterCell; 128], count: usize) -> [u16; 1024]
-    requires { ⌜ RegistersPadded count registers ⌝ }
+    requires { ⌜ count ≤ 128 ⌝ }
     ensures { λ r. ⌜ Drivers registers count r ⌝ }
 {
     let mut table = [0u16; 1024];

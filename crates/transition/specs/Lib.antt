@@ -1,3 +1,6 @@
+pub mod Firsts
+pub mod Side
+pub mod Namesakes
 pub mod Gate
 pub mod Walk
 pub mod Step
@@ -5,4 +8,9 @@ pub mod Driver
 pub mod Nodes
 pub mod Registers
 pub mod System
-pub mod Ports
+pub mod Named
+pub mod Gather
+pub mod Start
+pub mod Match
+pub mod Variables
+pub mod Sorted

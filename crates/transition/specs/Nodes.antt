@@ -1,6 +1,6 @@
 -- The walk over all nodes of a decoded design. Assumes nothing.
 use mathlib.Core.Path.{_≡_, refl, ap, _∙_}
-use mathlib.Core.Bool.{Bool, true, false, cond}
+use mathlib.Core.Bool.{false}
 use mathlib.Core.List.{List, [], _∷_, _++_, map}
 use Prim.Native.Nat.{ℕ, suc, _+_, _*_, _≤_, _<_}
 use native.Mathlib.Omega.{arith}
@@ -17,12 +17,13 @@ use Rattle.model.specs.Netlist as Model
 use Rattle.model.specs.Record.{nodeOf}
 use Rattle.model.specs.Validate.{driver}
 use Rattle.model.specs.Transition.{Lowering, driverReset, shown, lowerNode, lowerNodes, noNodes}
+use Rattle.laws.specs.Bools.{by-cond}
 use Rattle.struo_ir.specs.Decoded.{decodedNode, nameAt}
 use Rattle.struo_ir.specs.declared.netlist.Node.{Node}
 use Rattle.struo_ir.specs.declared.netlist.RegisterCell.{RegisterCell}
 use Rattle.aig.specs.Graph.{graphOf}
 use Rattle.aig.specs.Made.{Same, same-refl, same-trans}
-use Rattle.transition.specs.declared.ResetCell.{ResetCell}
+use Rattle.transition.specs.declared.resets.ResetCell.{ResetCell}
 use Rattle.transition.specs.Gate.{gateBy, gate-of, Netted}
 use Rattle.transition.specs.Walk.{Walked, elsewhere}
 use Rattle.transition.specs.Step.{Entered, resetOf, walked-gate, walked-register}
@@ -41,22 +42,18 @@ pub record Taken (node : Node) (rc : ℕ) (rs : List RegisterCell) (net c : ℕ)
   pub within : c′ ≤ c + 4
   pub walked : (s : List ℕ) (l : Lowering) → Walked l net c w → Walked (lowerNode (registersOf s rc rs) l net (decodedNode s node)) (net + 1) c′ w′
 
-by-cond : {A : Type 0} (P : A → Type 0) (t : Bool) (x y : A) → P x → P y → P (cond t x y)
-by-cond P true x y p q = p
-by-cond P false x y p q = q
-
 no-register : (k : ℕ) (n : Name) (v : ℕ) (ins : List ℕ) → (k ≡ 2 → ⊥) → isRegisterOutput (nodeOf k n v ins) ≡ false
 unfolding nodeOf isRegisterOutput
 no-register k n v ins e =
     let P : Model.Node → Type 0 = λ x. isRegisterOutput x ≡ false in
     rw (ne-eqb k 2 e)
-    (by-cond P (eqb k 0x00) _ _ refl
-    (by-cond P (eqb k 0x01) _ _ refl
-    (by-cond P (eqb k 0x10) _ _ refl
-    (by-cond P (eqb k 0x11) _ _ refl
-    (by-cond P (eqb k 0x20) _ _ refl
-    (by-cond P (eqb k 0x21) _ _ refl
-    (by-cond P (eqb k 0x22) _ _ refl refl)))))))
+    (by-cond P {t = eqb k 0x00} (λ e. refl) (λ e.
+    by-cond P {t = eqb k 0x01} (λ e. refl) (λ e.
+    by-cond P {t = eqb k 0x10} (λ e. refl) (λ e.
+    by-cond P {t = eqb k 0x11} (λ e. refl) (λ e.
+    by-cond P {t = eqb k 0x20} (λ e. refl) (λ e.
+    by-cond P {t = eqb k 0x21} (λ e. refl) (λ e.
+    by-cond P {t = eqb k 0x22} (λ e. refl) (λ e. refl))))))))
 
 a-register : (k : ℕ) (n : Name) (v : ℕ) (ins : List ℕ) → k ≡ 2 → nodeOf k n v ins ≡ RegisterOutput
 unfolding nodeOf

@@ -2,13 +2,14 @@
 use mathlib.Core.Path.{_≡_, refl, ap, ap₂, sym, _∙_}
 use mathlib.Core.List.{List, [], _∷_, _++_, map}
 use mathlib.Core.Option.{Option, none, some}
-use Prim.Native.Nat.{ℕ, zero, suc, _+_, _*_, _≤_, _<_}
+use Prim.Native.Nat.{ℕ, _+_, _*_, _≤_, _<_}
 use native.Mathlib.Omega.{arith}
 use native.Mathlib.Numerals.{add-one}
+use lib.Dec.{eqb}
 use lib.ListN.{length, getD, take, set, length-take, length-map, List·getD-map}
 use lib.Seq.{take-suc, take-suc-set, getD-take}
 use Rattle.words.specs.Region.{region}
-use Rattle.model.specs.Literal.{Literal, FALSE, node}
+use Rattle.model.specs.Literal.{Literal, FALSE, node, constantLiteral}
 use Rattle.model.specs.Lists.{snoc, lookup}
 use Rattle.model.specs.Aig.{Aig, Built, mux}
 use Rattle.model.specs.Netlist.{Enable, Reset, Register}
@@ -18,10 +19,11 @@ use Rattle.struo_ir.specs.Decoded.{decodedRegister, decodedEnable, decodedReset
 use Rattle.struo_ir.specs.declared.netlist.RegisterCell.{RegisterCell}
 use Rattle.aig.specs.Graph.{graphOf}
 use Rattle.aig.specs.Made.{Same, Made, outside, same-refl, same-trans}
-use Rattle.transition.specs.declared.ResetCell.{ResetCell}
+use Rattle.transition.specs.declared.resets.ResetCell.{ResetCell}
+use Rattle.transition.specs.Firsts.{map-snoc}
 use Rattle.transition.specs.Gate.{Netted, Alike}
 use Rattle.transition.specs.Walk.{Walked, set-below}
-use Rattle.transition.specs.Step.{resetOf, resetMuxBy, reset-alike, netted-made}
+use Rattle.transition.specs.Step.{resetOf, resetMuxBy, reset-alike, netted-made, by-code}
 use Rattle.transition.specs.Driver.{registersOf}
 
 -- ---- the enable and the reset, by their fields
@@ -35,30 +37,23 @@ module _ (g : Aig) (nets : List Literal) (r : RegisterCell) (l state : Literal) 
   unfolding enabled decodedEnable
   enabled-always e = rw e
 
-  by-code : (c : ℕ) (o : Option Enable → Built) (x : Built) → 0 < c → x ≡ o (some (record { signal = r .«enable_signal»; active = levelOf c })) → x ≡ o (decodedEnable c (r .«enable_signal»))
-  unfolding decodedEnable
-  by-code zero o x h e = absurd (omega arith)
-  by-code (suc c) o x h e = e
-
   pub enabled-when : 0 < r .enable → mux g (assertedLiteral (netLiteral nets (r .«enable_signal»)) (levelOf (r .enable))) l state ≡ enabled g nets (enableOf r) l state
-  unfolding enabled
-  enabled-when h = by-code (r .enable) (λ (o : Option Enable). enabled g nets o l state) _ h refl
+  unfolding enabled decodedEnable
+  enabled-when h =
+      by-code (λ (c : ℕ). mux g (assertedLiteral (netLiteral nets (r .«enable_signal»)) (levelOf c)) l state ≡ enabled g nets (decodedEnable c (r .«enable_signal»)) l state) (r .enable) h (λ k. refl)
 
 module _ (g : Aig) (nets : List Literal) (r : ResetCell) (l : Literal) where
   pub reset-never : r .code ≡ 0 → record { aig = g; literal = l } ≡ resetNext (record { aig = g; literal = l }) nets (resetOf r)
   unfolding resetNext decodedReset
   reset-never e = rw e
 
-  reset-by-code : (c : ℕ) (o : Option Reset → Built) (x : Built) → 0 < c
-      → x ≡ o (some (record { signal = r .signal; active = levelOf c; asynchronous = bit (r .kind); value = bit (r .value) }))
-      → x ≡ o (decodedReset c (r .signal) (r .kind) (r .value))
-  unfolding decodedReset
-  reset-by-code zero o x h e = absurd (omega arith)
-  reset-by-code (suc c) o x h e = e
-
   pub reset-when : 0 < r .code → resetMuxBy g nets r l ≡ resetNext (record { aig = g; literal = l }) nets (resetOf r)
-  unfolding resetNext resetMux bit
-  reset-when h = reset-by-code (r .code) (λ (o : Option Reset). resetNext (record { aig = g; literal = l }) nets o) _ h refl
+  unfolding resetNext resetMux bit decodedReset
+  reset-when h =
+      by-code
+      (λ (c : ℕ). mux g (assertedLiteral (netLiteral nets (r .signal)) (levelOf c)) (constantLiteral (eqb (r .value) 1)) l
+      ≡ resetNext (record { aig = g; literal = l }) nets (decodedReset c (r .signal) (r .kind) (r .value)))
+      (r .code) h (λ k. refl)
 
 -- ---- one register
 
@@ -111,14 +106,10 @@ unfolding lowerRegisters
 lower-more l g [] r = refl
 lower-more l g (x ∷ rs) r = lower-more l (lowerRegister (l .nets) g x (lookup FALSE (l .stateVariables) (x .output))) rs r
 
-map-snoc : {A B : Type 0} (f : A → B) (xs : List A) (x : A) → map f (snoc xs x) ≡ map f xs ++ (f x ∷ [])
-unfolding snoc
-map-snoc f [] x = refl
-map-snoc f (y ∷ xs) x = ap (λ ys. f y ∷ ys) (map-snoc f xs x)
-
 -- one state more
 pushed : (f : StateBit → ℕ) (xs : List ℕ) (i v : ℕ) (states : List StateBit) (b : StateBit) → i < length xs → take i xs ≡ map f states → v ≡ f b
     → take (i + 1) (set xs i v) ≡ map f (snoc states b)
+unfolding snoc
 pushed f xs i v states b h e q =
     rw add-one (take-suc-set xs i v h) ∙ ap₂ (λ (ys : List ℕ) (y : ℕ). ys ++ (y ∷ [])) e q ∙ sym (map-snoc f states b)
 

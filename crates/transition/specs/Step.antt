@@ -22,7 +22,7 @@ use Rattle.aig.specs.Shortcut.{negate-below}
 use Rattle.aig.specs.Made.{Ready, Same, Made, outside, both, same-trans}
 use Rattle.transition.specs.Gate.{gateOf, gate-alike, Alike, Netted, made-as}
 use Rattle.transition.specs.Walk.{Walked, elsewhere, alike-more, length-more, set-below, states-more, fresh-more}
-use Rattle.transition.specs.declared.ResetCell.{ResetCell}
+use Rattle.transition.specs.declared.resets.ResetCell.{ResetCell}
 
 -- the reset that the fields say
 abbrev pub resetOf : ResetCell → Option Reset
@@ -147,28 +147,31 @@ abbrev pub resetMuxBy : Aig → List Literal → ResetCell → Literal → Built
 resetMuxBy g nets r value =
     mux g (assertedLiteral (netLiteral nets (r .signal)) (levelOf (r .code))) (constantLiteral (eqb (r .value) 1)) value
 
+-- a code that is not 0 is one more than some number
+pub by-code : (P : ℕ → Type 0) (c : ℕ) → 0 < c → ((k : ℕ) → P (suc k)) → P c
+by-code P zero h f = absurd (omega arith)
+by-code P (suc c) h f = f c
+
 module _ (g : Aig) (nets : List Literal) (r : ResetCell) (state : Literal) where
   -- without a reset, its state
   pub shown-plain : r .code ≡ 0 → record { aig = g; literal = state } ≡ shown g nets (resetOf r) state
   unfolding shown decodedReset
   shown-plain e = rw e
 
-  by-code : (c : ℕ) (o : Option Reset → Built) (x : Built) → 0 < c
-      → x ≡ o (some (record { signal = r .signal; active = levelOf c; asynchronous = bit (r .kind); value = bit (r .value) }))
-      → x ≡ o (decodedReset c (r .signal) (r .kind) (r .value))
-  unfolding decodedReset
-  by-code zero o x h e = absurd (omega arith)
-  by-code (suc c) o x h e = e
-
   -- with a synchronous one too
   pub shown-synchronous : 0 < r .code → (r .kind ≡ 1 → ⊥) → record { aig = g; literal = state } ≡ shown g nets (resetOf r) state
-  unfolding shown bit
-  shown-synchronous h e = by-code (r .code) (λ (o : Option Reset). shown g nets o state) _ h (rw (ne-eqb (r .kind) 1 e))
+  unfolding shown bit decodedReset
+  shown-synchronous h e =
+      let m : Built = record { aig = g; literal = state } in
+      by-code (λ (c : ℕ). m ≡ shown g nets (decodedReset c (r .signal) (r .kind) (r .value)) state) (r .code) h (λ k. rw (ne-eqb (r .kind) 1 e))
 
   -- with an asynchronous one, the reset's mux
   pub shown-asynchronous : 0 < r .code → r .kind ≡ 1 → resetMuxBy g nets r state ≡ shown g nets (resetOf r) state
-  unfolding shown bit resetMux
-  shown-asynchronous h e = by-code (r .code) (λ (o : Option Reset). shown g nets o state) _ h (rw (eq-eqb (r .kind) 1 e))
+  unfolding shown bit resetMux decodedReset
+  shown-asynchronous h e =
+      by-code
+      (λ (c : ℕ). mux g (assertedLiteral (netLiteral nets (r .signal)) (levelOf c)) (constantLiteral (eqb (r .value) 1)) state ≡ shown g nets (decodedReset c (r .signal) (r .kind) (r .value)) state)
+      (r .code) h (λ k. rw (eq-eqb (r .kind) 1 e))
 
 pub reset-alike : (g : Aig) (xs ys : List Literal) (r : Reset) (value : Literal) → Alike xs ys → resetMux g xs r value ≡ resetMux g ys r value
 unfolding resetMux

@@ -49,7 +49,7 @@ pub fn clear_watches(words: &mut [u32]) -> Store
 }
 
 // A literal of the variables made true with its reason; not ok where it is false.
-fn enqueue_unit(words: &mut [u32], store: Store, t: Trail, l: u32, reason: u32) -> Enqueued
+pub fn enqueue(words: &mut [u32], store: Store, t: Trail, l: u32, reason: u32) -> Enqueued
     requires { ⌜ Sound store t (now words) [] × (l < t .variables * 2) ⌝ }
     ensures { λ r. ⌜ UnitStep store t (now (words .entry)) r (now (words .exit))
         × (enqueued (r .ok) (assignmentOf (r .trail) (now (words .exit))) ≡ Sat.enqueue (assignmentOf t (now (words .entry))) l (wordReason reason)) ⌝ }
@@ -79,7 +79,7 @@ fn initialize_unit(words: &mut [u32], store: Store, t: Trail, id: usize) -> Enqu
     let c = clause(words, id);
     if wide(c.start) + 1 == wide(c.end) {
         let l = literal_at(words, c, 0);
-        return enqueue_unit(words, store, t, l, (id + 1) as u32);
+        return enqueue(words, store, t, l, (id + 1) as u32);
     }
     Enqueued { ok: true, trail: t }
 }

@@ -3,7 +3,7 @@ use mathlib.Core.Path.{_≡_, ap, sym, _∙_}
 use mathlib.Core.Option.{none}
 use native.Mathlib.Omega.{arith}
 use Rattle.model.specs.Aig.{andShortcut}
-use Rattle.aig.specs.Shortcut.{shortcutOf, and-nonzero}
+use Rattle.aig.specs.Shortcut.{shortcutOf, and-ascending, and-descending}
 use Rattle.aig.specs.Operations.{made-is, made-known, and-lower, and-upper}
 use borrow.Author.Needs.{needs}
 use Rattle.aig.proofs.Aig.and.Statement.{statement}
@@ -25,13 +25,13 @@ pair-requires : tie.Need-pair-requires
 pair-requires c κs =
     let f = c .before .before .before .before in
     let a = f .before .before .before .before in
-    (a .pre .0, a .pre .1, and-nonzero _ _ (sym (unknown f)) .1, a .pre .2, a .pre .3)
+    (a .pre .0, a .pre .1, and-ascending _ _ (sym (unknown f)) (c .before .if1 .taken), a .pre .2, a .pre .3)
 
 pair-requires-2 : tie.Need-pair-requires-2
 pair-requires-2 c κs =
     let f = c .before .before .before .before in
     let a = f .before .before .before .before in
-    (a .pre .0, a .pre .1, and-nonzero _ _ (sym (unknown f)) .0, a .pre .3, a .pre .2)
+    (a .pre .0, a .pre .1, and-descending _ _ (sym (unknown f)) (omega (arith, c .before .if1 .left)), a .pre .3, a .pre .2)
 
 returns-2 : tie.Need-returns-2
 returns-2 c =

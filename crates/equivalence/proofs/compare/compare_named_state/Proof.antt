@@ -6,7 +6,7 @@ use lib.ListN.{length}
 use Rattle.model.specs.Equivalence.{comparePairs}
 use Rattle.aig.specs.Graph.{graphOf}
 use Rattle.aig.specs.Made.{Ready, Made}
-use Rattle.equivalence.specs.Firsts.{Below, below-le}
+use Rattle.transition.specs.Firsts.{Below, below-le}
 use Rattle.equivalence.specs.Comparing.{compare-none}
 use Rattle.equivalence.specs.Matching.{namedBy}
 use Rattle.equivalence.specs.Naming.{named-more}

@@ -6,7 +6,7 @@ use lib.ListN.{length}
 use Rattle.model.specs.Equivalence.{comparePairs}
 use Rattle.aig.specs.Graph.{graphOf}
 use Rattle.aig.specs.Made.{Ready, Made}
-use Rattle.equivalence.specs.Firsts.{pairs, pairs-suc, Below}
+use Rattle.transition.specs.Firsts.{pairs, pairs-suc, Below}
 use Rattle.equivalence.specs.Comparing.{compare-none, compare-more}
 use borrow.Author.Needs.{needs}
 use Rattle.equivalence.proofs.compare.compare_outputs.Statement.{statement}

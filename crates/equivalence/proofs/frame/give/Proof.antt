@@ -4,7 +4,7 @@ use mathlib.Core.List.{List, []}
 use Prim.Native.Nat.{ℕ, _+_, _-_, _<_, _≤_}
 use native.Mathlib.Omega.{arith}
 use lib.ListN.{length, length-set, getD}
-use Rattle.equivalence.specs.Firsts.{pairs}
+use Rattle.transition.specs.Firsts.{pairs}
 use Rattle.equivalence.specs.Give.{given, given-last}
 use borrow.Author.Needs.{needs}
 use Rattle.equivalence.proofs.frame.give.Statement.{statement}

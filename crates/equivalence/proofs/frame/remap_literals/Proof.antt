@@ -6,7 +6,7 @@ use native.Mathlib.Omega.{arith}
 use lib.ListN.{length, length-set}
 use Rattle.words.specs.Region.{region}
 use Rattle.model.specs.Equivalence.{remapLiteral}
-use Rattle.equivalence.specs.Firsts.{Mapped, mapped-none, mapped-more}
+use Rattle.transition.specs.Firsts.{Mapped, mapped-none, mapped-more}
 use borrow.Author.Needs.{needs}
 use Rattle.equivalence.proofs.frame.remap_literals.Statement.{statement}
 use Rattle.equivalence.proofs.frame.remap_literals.Tie as tie

@@ -3,7 +3,7 @@ use mathlib.Core.Path.{_≡_, refl, ap, sym, _∙_}
 use Prim.Native.Nat.{ℕ, _+_, _-_, _*_, _<_, _≤_}
 use native.Mathlib.Omega.{arith}
 use lib.ListN.{length, length-set}
-use Rattle.equivalence.specs.Firsts.{Below, below-le}
+use Rattle.transition.specs.Firsts.{Below, below-le}
 use Rattle.equivalence.specs.Naming.{matches-below}
 use Rattle.equivalence.specs.Inducing.{cycled}
 use borrow.Author.Needs.{needs}

@@ -6,7 +6,7 @@ use mathlib.Core.List.{List, []}
 use lib.ListN.{length, length-set, getD}
 use Rattle.aig.specs.Graph.{graphOf}
 use Rattle.aig.specs.Made.{Ready, Made}
-use Rattle.equivalence.specs.Firsts.{Below, below-le}
+use Rattle.transition.specs.Firsts.{Below, below-le}
 use Rattle.equivalence.specs.Variables.{Listed, listed-none, listed-more}
 use Rattle.equivalence.specs.Matching.{gateBy, gate-suc, gateBuilt, sharedMatch}
 use Rattle.equivalence.specs.Naming.{shared-le}

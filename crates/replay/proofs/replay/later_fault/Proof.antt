@@ -1,15 +1,16 @@
 -- `later_fault` takes the initial fault, or the claim's where there is none. Assumes nothing.
-use mathlib.Core.Path.{_≡_, refl, sym, ap, ap₂, _∙_}
+use mathlib.Core.Path.{sym, ap, _∙_}
 use Rattle.struo_ir.specs.Decoded.{decoded}
-use Rattle.replay.specs.PairChecks.{faultOf}
-use Rattle.replay.specs.ReplayRight.{claim-of, initial-of, later-first, later-second}
+use Rattle.pair.specs.PairChecks.{faultOf}
+use Rattle.pair.specs.PairCheckLaws.{initial-of}
+use Rattle.replay.specs.ReplayRight.{claim-of, later-first, later-second}
 use borrow.Author.Needs.{needs}
 use Rattle.replay.proofs.replay.later_fault.Statement.{statement}
 use Rattle.replay.proofs.replay.later_fault.Tie as tie
 use Rattle.replay.proofs.replay.later_fault.Reads as reads
 use Rattle.replay.proofs.replay.later_fault.Lts as lts
-use Rattle.replay.proofs.pair.initial_fault.Reads as initial-fault-reads
-use Rattle.replay.proofs.replay.claim_fault.Reads as claim-fault-reads
+use Rattle.pair.proofs.checks.initial_fault.Reads as initial-fault-reads
+use Rattle.replay.proofs.claim.claim_fault.Reads as claim-fault-reads
 
 returns : tie.Need-returns
 unfolding faultOf

@@ -1,7 +1,8 @@
 -- `refused` has the three numbers of a refusal, and no. Assumes nothing.
 use mathlib.Core.Path.{refl}
 use Rattle.model.specs.Replay.{refusedReplay}
-use Rattle.replay.specs.ReplayAnswers.{answerOf, refusalOn}
+use Rattle.replay.specs.ReplayAnswers.{answerOf}
+use Rattle.pair.specs.PairChecks.{refusalOn}
 use Rattle.replay.proofs.replay.refused.Statement.{statement}
 use Rattle.replay.proofs.replay.refused.Tie as tie
 

@@ -1,6 +1,7 @@
 -- `replay` answers gold's refusal, or goes on with gate's record. Assumes nothing.
-use mathlib.Core.Path.{_≡_, refl, sym, ap, ap₂, _∙_}
-use Rattle.replay.specs.ReplayRight.{gold-refused, gold-accepted, reading-within}
+use mathlib.Core.Path.{_∙_}
+use Rattle.pair.specs.ReadingRight.{reading-within}
+use Rattle.replay.specs.ReplayRight.{gold-refused, gold-accepted}
 use borrow.Author.Needs.{needs}
 use Rattle.replay.proofs.replay.replay.Statement.{statement}
 use Rattle.replay.proofs.replay.replay.Tie as tie

@@ -1,14 +1,14 @@
 -- `replay_fault` takes the interface's fault, or the later ones where there is none. Assumes nothing.
-use mathlib.Core.Path.{_≡_, refl, sym, ap, ap₂, _∙_}
+use mathlib.Core.Path.{sym, ap, _∙_}
 use Rattle.struo_ir.specs.Decoded.{decoded}
-use Rattle.replay.specs.PairChecks.{faultOf}
+use Rattle.pair.specs.PairChecks.{faultOf}
 use Rattle.replay.specs.ReplayRight.{replay-first, replay-second}
 use borrow.Author.Needs.{needs}
 use Rattle.replay.proofs.replay.replay_fault.Statement.{statement}
 use Rattle.replay.proofs.replay.replay_fault.Tie as tie
 use Rattle.replay.proofs.replay.replay_fault.Reads as reads
 use Rattle.replay.proofs.replay.replay_fault.Lts as lts
-use Rattle.replay.proofs.pair.interface_fault.Reads as interface-fault-reads
+use Rattle.pair.proofs.checks.interface_fault.Reads as interface-fault-reads
 use Rattle.replay.proofs.replay.later_fault.Reads as later-fault-reads
 
 returns : tie.Need-returns

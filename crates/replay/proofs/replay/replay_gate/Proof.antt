@@ -1,7 +1,8 @@
 -- `replay_gate` answers gate's refusal, or replays the pair. Assumes nothing.
-use mathlib.Core.Path.{_≡_, refl, sym, ap, ap₂, _∙_}
+use mathlib.Core.Path.{_∙_}
 use Rattle.struo_ir.specs.Decoded.{decoded}
-use Rattle.replay.specs.ReplayRight.{gate-refused, gate-accepted, reading-within}
+use Rattle.pair.specs.ReadingRight.{reading-within}
+use Rattle.replay.specs.ReplayRight.{gate-refused, gate-accepted}
 use borrow.Author.Needs.{needs}
 use Rattle.replay.proofs.replay.replay_gate.Statement.{statement}
 use Rattle.replay.proofs.replay.replay_gate.Tie as tie

@@ -1,14 +1,14 @@
 -- `replay_pair` answers the first refusal, or yes or no. Assumes nothing.
-use mathlib.Core.Path.{_≡_, refl, sym, ap, ap₂, _∙_}
+use mathlib.Core.Path.{sym, ap, _∙_}
 use Rattle.struo_ir.specs.Decoded.{decoded}
-use Rattle.replay.specs.PairChecks.{faultOf, Within}
+use Rattle.pair.specs.PairChecks.{faultOf}
 use Rattle.replay.specs.ReplayRight.{accepted-cycle, answer-refused, answer-accepted}
 use borrow.Author.Needs.{needs}
 use Rattle.replay.proofs.replay.replay_pair.Statement.{statement}
 use Rattle.replay.proofs.replay.replay_pair.Tie as tie
 use Rattle.replay.proofs.replay.replay_pair.Reads as reads
 use Rattle.replay.proofs.replay.replay_pair.Lts as lts
-use Rattle.replay.proofs.pair.by_name.Reads as by-name-reads
+use Rattle.pair.proofs.orders.by_name.Reads as by-name-reads
 use Rattle.replay.proofs.replay.replay_fault.Reads as replay-fault-reads
 use Rattle.replay.proofs.replay.replays_from_reset.Reads as replays-from-reset-reads
 

@@ -1,13 +1,12 @@
 -- `replays` goes a step for each cycle: the position is that after `k` steps. Assumes nothing.
-use mathlib.Core.Path.{_≡_, refl, sym, ap, ap₂, _∙_}
-use Prim.Native.Nat.{ℕ, suc, _+_, _-_, _*_, _≤_, _<_}
+use mathlib.Core.Path.{_≡_, refl, _∙_}
+use Prim.Native.Nat.{ℕ, _-_, _≤_}
 use native.Mathlib.Omega.{arith}
-use mathlib.Core.Bool.{true}
 use mathlib.Core.List.{List}
 use lib.ListN.{take}
 use Rattle.model.specs.Replay.{initialPosition, positionAfter}
 use Rattle.struo_ir.specs.Decoded.{decoded}
-use Rattle.replay.specs.StepSides.{Paired, StepTaken}
+use Rattle.replay.specs.StepSides.{Paired}
 use Rattle.replay.specs.StepSides as Sides
 use Rattle.replay.specs.ReplayRight.{position-more, answer-after, replay-steps}
 use borrow.Author.Needs.{needs}
@@ -22,7 +21,7 @@ Inv-loop gold gate inputs cycle claim position₀ k₀ position k =
     (k ≤ cycle) ×
     ((s t : List ℕ) → Paired s t inputs gold gate
     → Sides.position (gold .netlist .«register_count») (gate .netlist .«register_count») position
-    ≡ positionAfter (decoded s (gold .netlist)) (decoded t (gate .netlist)) cycle claim k (initialPosition (take (gold .netlist .«register_count») (position₀ .gold)) (take (gate .netlist .«register_count») (position₀ .gate))))
+    ≡ positionAfter (decoded s (gold .netlist)) (decoded t (gate .netlist)) cycle claim k (initialPosition (take (gold .netlist .«register_count») (position₀ .gold .old)) (take (gate .netlist .«register_count») (position₀ .gate .old))))
 
 abbrev μ-loop : tie.MeasureT-loop
 μ-loop gold gate inputs cycle claim position₀ k₀ position k = cycle - k

@@ -1,9 +1,8 @@
 -- `replays_from_reset` makes both sides ready and starts at the initial bits. Assumes nothing.
-use mathlib.Core.Path.{_≡_, refl, sym, ap, ap₂, _∙_}
-use Prim.Native.Nat.{ℕ, suc, _+_, _-_, _*_, _≤_, _<_}
+use mathlib.Core.Path.{_≡_}
+use Prim.Native.Nat.{_-_}
 use native.Mathlib.Omega.{arith}
 use lib.ListN.{length, length-map}
-use Rattle.replay.specs.PairChecks.{Within, Ordered}
 use Rattle.replay.specs.ReplayRight.{sound-of, from-reset}
 use borrow.Author.Needs.{needs}
 use Rattle.replay.proofs.replay.replays_from_reset.Statement.{statement}

@@ -1,9 +1,7 @@
 -- `asserted` goes by the level code. Assumes nothing.
-use mathlib.Core.Path.{_≡_, refl, sym, ap, _∙_}
-use borrow.Author.Tests.{lt-ltb, le-ltb, eq-eqb, ne-eqb}
+use borrow.Author.Tests.{eq-eqb, ne-eqb}
 use Rattle.model.specs.Record.{levelOf}
 use Rattle.model.specs.Run.{asserted}
-use borrow.Author.Needs.{needs}
 use Rattle.replay.proofs.run.asserted.Statement.{statement}
 use Rattle.replay.proofs.run.asserted.Tie as tie
 use Rattle.replay.proofs.run.asserted.Reads as reads

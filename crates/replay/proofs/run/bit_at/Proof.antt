@@ -1,6 +1,5 @@
 -- `bit_at` reads a bit, or false past the end. Assumes nothing.
-use mathlib.Core.Path.{_≡_, refl, sym, ap, _∙_}
-use native.Mathlib.Omega.{arith}
+use mathlib.Core.Path.{refl, sym}
 use lib.ListN.{List·getD-eq-default}
 use Rattle.model.specs.Run.{bitAt}
 use borrow.Author.Needs.{needs}

@@ -1,6 +1,5 @@
 -- `claim_bit` reads a bit, or false past the end. Assumes nothing.
-use mathlib.Core.Path.{_≡_, refl, sym, ap, _∙_}
-use native.Mathlib.Omega.{arith}
+use mathlib.Core.Path.{refl}
 use lib.ListN.{List·getD-eq-default}
 use Rattle.model.specs.Record.{bit}
 use Rattle.model.specs.Replay.{claimBit}

@@ -1,5 +1,5 @@
 -- `enabled_bit` goes by the enable's code and its signal. Assumes nothing.
-use mathlib.Core.Path.{_≡_, refl, sym, ap, _∙_}
+use mathlib.Core.Path.{_≡_, sym, _∙_}
 use Rattle.model.specs.Record.{levelOf}
 use Rattle.model.specs.Run.{bitAt, asserted}
 use Rattle.replay.specs.RowLaws.{enabled-none, enabled-some}

@@ -1,9 +1,7 @@
 -- `gate_value` goes by the kind. Assumes nothing.
-use mathlib.Core.Path.{_≡_, refl, sym, ap, _∙_}
-use borrow.Author.Tests.{lt-ltb, le-ltb, eq-eqb, ne-eqb}
+use borrow.Author.Tests.{eq-eqb, ne-eqb}
 use Rattle.replay.specs.RunTables.{gateOf}
 use Rattle.replay.specs.RunLaws.{xor-true, xor-false}
-use borrow.Author.Needs.{needs}
 use Rattle.replay.proofs.run.gate_value.Statement.{statement}
 use Rattle.replay.proofs.run.gate_value.Tie as tie
 use Rattle.replay.proofs.run.gate_value.Reads as reads

@@ -1,7 +1,6 @@
 -- `initial_bit` goes by the reset's code. Assumes nothing.
-use mathlib.Core.Path.{_≡_, refl, sym, ap, _∙_}
+use mathlib.Core.Path.{sym}
 use Rattle.replay.specs.RowLaws.{initial-none, initial-some}
-use borrow.Author.Needs.{needs}
 use Rattle.replay.proofs.run.initial_bit.Statement.{statement}
 use Rattle.replay.proofs.run.initial_bit.Tie as tie
 use Rattle.replay.proofs.run.initial_bit.Reads as reads

@@ -1,13 +1,13 @@
 -- `initial_row` writes the initial bits in order: those written, then those of the registers left, and false past them. Assumes nothing.
-use mathlib.Core.Path.{_≡_, refl, sym, ap, _∙_}
+use mathlib.Core.Path.{_≡_, refl, _∙_}
 use mathlib.Core.Bool.{false}
 use mathlib.Core.List.{List, _++_, map}
 use Prim.Native.Nat.{ℕ, _+_, _-_, _≤_, _<_}
 use native.Mathlib.Omega.{arith}
-use lib.ListN.{length, take, drop, getD, replicate, length-map, length-take, length-set, length-replicate, drop-of-length-le}
+use lib.ListN.{length, take, drop, replicate, length-map, length-take, length-set, length-replicate}
 use Rattle.model.specs.Netlist.{Register}
 use Rattle.model.specs.Run.{initialBit, initialBits}
-use Rattle.struo_ir.specs.Decoded.{decoded, decodedRegister}
+use Rattle.struo_ir.specs.Decoded.{decoded}
 use Rattle.replay.specs.RunLaws.{rest-more, padded-row}
 use Rattle.replay.specs.RowLaws.{initial-more, mapped-done}
 use borrow.Author.Needs.{needs}

@@ -1,5 +1,4 @@
 -- `next_bit` takes the enable, then the reset. Assumes nothing.
-use mathlib.Core.Path.{_≡_, refl, sym, ap, _∙_}
 use Rattle.replay.specs.RunTables.{nextOf}
 use borrow.Author.Needs.{needs}
 use Rattle.replay.proofs.run.next_bit.Statement.{statement}

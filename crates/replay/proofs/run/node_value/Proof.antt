@@ -1,5 +1,4 @@
 -- `node_value` reads the node's inputs. Assumes nothing.
-use mathlib.Core.Path.{_≡_, refl, sym, ap, _∙_}
 use Rattle.replay.specs.RunTables.{nodeBy}
 use borrow.Author.Needs.{needs}
 use Rattle.replay.proofs.run.node_value.Statement.{statement}

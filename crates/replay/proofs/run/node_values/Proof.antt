@@ -1,16 +1,17 @@
 -- `node_values` evaluates the nodes in order: the values so far, the nodes left, and false past the values. Assumes nothing.
-use mathlib.Core.Path.{_≡_, refl, sym, ap, ap₂, _∙_}
+use mathlib.Core.Path.{_≡_, refl, ap, ap₂, _∙_}
 use mathlib.Core.Bool.{false}
-use mathlib.Core.List.{List, [], _++_}
-use Prim.Native.Nat.{ℕ, _+_, _-_, _≤_, _<_}
+use mathlib.Core.List.{List}
+use Prim.Native.Nat.{ℕ, _+_, _-_, _%_, _≤_, _<_}
 use native.Mathlib.Omega.{arith}
-use lib.ListN.{length, take, drop, getD, set, replicate, length-map, length-take, length-set, length-replicate, drop-of-length-le, take-append-drop}
+use lib.ListN.{length, take, drop, getD, replicate, length-map, length-set, length-replicate}
 use Rattle.model.specs.Names.{Place}
 use Rattle.model.specs.Replay.{claimBit}
 use Rattle.model.specs.Run.{valuesFrom, nodeValues}
+use Rattle.struo_ir.specs.Checks.{Drivers}
 use Rattle.struo_ir.specs.Decoded.{decoded}
 use Rattle.struo_ir.specs.OrderPlaces.{noNode, noCell}
-use Rattle.replay.specs.RunTables.{Ranked, Driven, rowInputs, nodeBy, shownBy, padded}
+use Rattle.replay.specs.RunTables.{Ranked, rowInputs, nodeBy, shownBy}
 use Rattle.replay.specs.RunLaws.{rest-more, value-right, values-more, padded-row, values-done}
 use borrow.Author.Needs.{needs}
 use Rattle.replay.proofs.run.node_values.Statement.{statement}
@@ -19,14 +20,14 @@ use Rattle.replay.proofs.run.node_values.Reads as reads
 use Rattle.replay.proofs.run.node_values.Lts as lts
 use Rattle.replay.proofs.run.input_bit.Reads as input-bit-reads
 use Rattle.replay.proofs.run.node_value.Reads as node-value-reads
+use Rattle.replay.proofs.run.register_of.Reads as register-of-reads
 use Rattle.replay.proofs.run.shown_by.Reads as shown-by-reads
-use Rattle.replay.proofs.run.within.Reads as within-reads
 use Rattle.struo_ir.proofs.order.wide.Reads as wide-reads
 
 abbrev Inv-loop : tie.InvT-loop
 Inv-loop claim at netlist ranks drivers stored count values₀ i₀ values i =
     (count ≡ netlist .«node_count») × (i ≤ count) × (length values ≡ 1024) × (drop i values ≡ replicate (1024 - i) false) ×
-    ((s : List ℕ) (ins : List Place) → Ranked s ins netlist ranks → Driven (decoded s netlist .registers) drivers
+    ((s : List ℕ) (ins : List Place) → Ranked s ins netlist ranks → Drivers (netlist .registers) (netlist .«register_count») drivers
     → nodeValues (decoded s netlist) (rowInputs claim at ins) (take (netlist .«register_count») stored)
     ≡ valuesFrom (decoded s netlist .registers) (rowInputs claim at ins) (take (netlist .«register_count») stored) i (drop i (decoded s netlist .nodes)) (take i values))
 
@@ -44,25 +45,22 @@ loop-again c =
     let n = a .t1 in
     let i = t .i in
     let x = c .node-value .result in
-    let p = c .before .before .before .before .before .before .before .before .before .before .before .before .before .pre in
-    let cell = getD (n .registers) (c .before .before .before .before .before .before .within .result) noCell in
+    let cell = getD (n .registers) (c .before .before .before .before .before .before .before .register-of .result) noCell in
     let ln : length (n .nodes) ≡ 1024 = simp length-map at (c .before .before .before .before .before .before .before .before .before .before .before .before .before .good .0 .1 .1 .1 .1 .0 .1 .0 .1) in
     let lr : length (n .registers) ≡ 128 = simp length-map at (c .before .before .before .before .before .before .before .before .before .before .before .before .before .good .0 .1 .1 .1 .1 .1 .0 .1 .0 .1) in
     let h : i < n .«node_count» = omega arith in
     let k : i < length (t .values) = omega arith in
-    let w : c .before .before .before .before .before .before .before .wide .result ≡ getD (a .t3) i 0 = c .before .before .before .before .before .before .before .wide .ensures in
-    let q : getD (a .t3) i 0 < 128 → cell ≡ getD (n .registers) (getD (a .t3) i 0) noCell =
-    λ g. ap (λ (j : ℕ). getD (n .registers) j noCell) (c .before .before .before .before .before .before .within .ensures .1 (rw w g) ∙ w) in
+    let q : cell ≡ getD (n .registers) ((getD (a .t3) i 0 + 127) % 128) noCell = ap (λ (j : ℕ). getD (n .registers) j noCell) (c .before .before .before .before .before .before .before .register-of .ensures .1) in
     let e : x ≡ nodeBy (t .values) (getD (n .nodes) i noNode) (claimBit (a .claim .now) (a .at + getD (a .t2) i 0)) (shownBy (t .values) (a .t6) (getD (a .t3) i 0) cell) =
     c .node-value .ensures
-    ∙ ap₂ (nodeBy (t .values) (getD (n .nodes) i noNode)) (c .before .before .before .before .before .before .before .before .input-bit .ensures) (c .before .before .shown-by .ensures ∙ ap (λ (j : ℕ). shownBy (t .values) (a .t6) j cell) w) in (
+    ∙ ap₂ (nodeBy (t .values) (getD (n .nodes) i noNode)) (c .before .before .before .before .before .before .before .before .input-bit .ensures) (c .before .before .shown-by .ensures ∙ ap (λ (j : ℕ). shownBy (t .values) (a .t6) j cell) (c .before .before .before .wide .ensures)) in (
       refl,
       omega arith,
       length-set (t .values) i x ∙ t .inv .2,
       rest-more (t .values) i 1024 x false k (omega arith) (t .inv .3),
       λ s ins r d. t .inv .4 s ins r d
           ∙ values-more s n (rowInputs (a .claim .now) (a .at) ins) (take (n .«register_count») (a .t6)) (t .values) i x h (omega arith) k
-          (e ∙ value-right s ins n (a .t2) (a .t3) (a .claim .now) (a .at) (a .t6) (t .values) i (1024 - i) h (omega arith) (p .1) (omega arith) (t .inv .3) r d cell q),
+          (e ∙ value-right s ins n (a .t2) (a .t3) (a .claim .now) (a .at) (a .t6) (t .values) i (1024 - i) h (omega arith) r d (t .inv .3) cell q),
     )
 
 returns : tie.Need-returns Inv-loop μ-loop
@@ -76,4 +74,4 @@ returns c =
 pub node-values-spec : {M : Type 1} → statement M
 node-values-spec =
     tie.close
-    (tie.spec Inv-loop μ-loop loop-holds (λ c. search needs) (λ c. search needs) (λ c. search needs) (λ c. search needs) (λ c κs. search needs) (λ c. search needs) (λ c. search needs) (λ c κs. search needs) (λ c κs. search needs) (λ c. search needs) (λ c. search needs) (λ c. search needs) (λ c. search needs) (λ c κs. search needs) (λ c. search needs) (λ c κs. search needs) (λ c. search needs) (λ c. search needs) (λ c. search needs) loop-again returns)
+    (tie.spec Inv-loop μ-loop loop-holds (λ c. search needs) (λ c. search needs) (λ c. search needs) (λ c. search needs) (λ c κs. search needs) (λ c. search needs) (λ c. search needs) (λ c κs. search needs) (λ c. search needs) (λ c. search needs) (λ c. search needs) (λ c. search needs) (λ c κs. search needs) (λ c κs. search needs) (λ c. search needs) (λ c κs. search needs) (λ c. search needs) (λ c. search needs) (λ c. search needs) loop-again returns)

@@ -1,13 +1,13 @@
 -- `output_row` writes the outputs in order: those written, then those left, and false past them. Assumes nothing.
-use mathlib.Core.Path.{_≡_, refl, sym, ap, _∙_}
+use mathlib.Core.Path.{_≡_, refl, ap, _∙_}
 use mathlib.Core.Bool.{false}
 use mathlib.Core.List.{List, _++_, map}
 use Prim.Native.Nat.{ℕ, _+_, _-_, _≤_, _<_}
 use native.Mathlib.Omega.{arith}
-use lib.ListN.{length, take, drop, getD, replicate, length-map, length-take, length-set, length-replicate, drop-of-length-le}
+use lib.ListN.{length, take, drop, getD, replicate, length-set, length-replicate}
 use Rattle.model.specs.Names.{Place}
 use Rattle.model.specs.Run.{bitAt}
-use Rattle.struo_ir.specs.OrderPlaces.{noEntry, places, Formed}
+use Rattle.struo_ir.specs.OrderPlaces.{noEntry, places}
 use Rattle.struo_ir.specs.OrderPorts.{count-places}
 use Rattle.replay.specs.RunLaws.{rest-more, padded-row}
 use Rattle.replay.specs.RowLaws.{output-more, mapped-done}

@@ -1,6 +1,5 @@
 -- `shown_bit` goes by the reset's code, its kind and its signal. Assumes nothing.
-use mathlib.Core.Path.{_≡_, refl, sym, ap, _∙_}
-use borrow.Author.Tests.{lt-ltb, le-ltb, eq-eqb, ne-eqb}
+use mathlib.Core.Path.{_≡_, sym, _∙_}
 use Rattle.model.specs.Record.{levelOf}
 use Rattle.model.specs.Run.{bitAt, asserted}
 use Rattle.replay.specs.RunLaws.{shown-none, shown-synchronous, shown-asynchronous}

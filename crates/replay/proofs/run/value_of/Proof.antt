@@ -1,6 +1,5 @@
 -- `value_of` goes by the kind. Assumes nothing.
-use mathlib.Core.Path.{_≡_, refl, sym, ap, _∙_}
-use borrow.Author.Tests.{lt-ltb, le-ltb, eq-eqb, ne-eqb}
+use borrow.Author.Tests.{eq-eqb, ne-eqb}
 use Rattle.replay.specs.RunTables.{valueOf}
 use borrow.Author.Needs.{needs}
 use Rattle.replay.proofs.run.value_of.Statement.{statement}

@@ -1,10 +1,9 @@
 -- `advance` runs both sides and compares their outputs. Assumes nothing.
-use mathlib.Core.Path.{_≡_, refl, sym, ap, ap₂, _∙_}
-use Prim.Native.Nat.{ℕ, suc, _+_, _-_, _*_, _≤_, _<_}
+use mathlib.Core.Path.{refl}
+use Prim.Native.Nat.{_+_, _-_}
 use native.Mathlib.Omega.{arith}
-use Rattle.replay.specs.StepSides.{Sound, Paired}
 use Rattle.replay.specs.StepRight.{advanced}
-use Rattle.replay.specs.PairCheckLaws.{rows-small}
+use Rattle.replay.specs.ClaimLaws.{rows-small}
 use borrow.Author.Needs.{needs}
 use Rattle.replay.proofs.step.advance.Statement.{statement}
 use Rattle.replay.proofs.step.advance.Tie as tie
@@ -35,7 +34,7 @@ returns c =
     let p = c .before .before .before .before .before .before .before .before .before .before .before .before .before .before .pre in
     let x = c .before .before .before .before .before .before .before .before .before .before .cycle-of .result in
     let y = c .before .before .before .before .before .before .before .before .cycle-of2 .result in
-    λ s t q. advanced s t (a .inputs) (a .gold) (a .gate) (a .cycle) (a .claim .now) (a .p) (p .0) (p .1) q _ _ (x .outputs) (x .stored) (y .outputs) (y .stored) (c .before .before .before .compare .result .differ) (c .before .before .before .compare .result .marked) (c .outcome .result) refl refl
+    λ s t q. advanced s t (a .inputs) (a .gold) (a .gate) (a .cycle) (a .claim .now) (a .p) (p .0) (p .1) q _ _ (x .outputs) (y .outputs) (x .rows) (y .rows) (c .before .before .before .compare .result .differ) (c .before .before .before .compare .result .marked) (c .outcome .result) refl refl
     (c .before .before .before .before .before .before .before .before .before .before .cycle-of .ensures s _ (q .gold-ready)) (c .before .before .before .before .before .before .before .before .cycle-of2 .ensures t _ (q .gate-ready)) (c .before .before .before .compare .ensures .0) (c .before .before .before .compare .ensures .1) (c .outcome .ensures)
 
 pub advance-spec : {M : Type 1} → statement M

@@ -1,8 +1,8 @@
 -- `as_marked` passes every pair of bits that differs as marked. Assumes nothing.
-use mathlib.Core.Path.{_≡_, refl, sym, ap, ap₂, _∙_}
-use Prim.Native.Nat.{ℕ, suc, _+_, _-_, _*_, _≤_, _<_}
+use mathlib.Core.Path.{_≡_, sym, ap, _∙_}
+use Prim.Native.Nat.{_+_, _-_, _≤_}
 use native.Mathlib.Omega.{arith}
-use mathlib.Core.Bool.{Bool, xor, false}
+use mathlib.Core.Bool.{xor, false}
 use native.Mathlib.Nat.{add-zero}
 use lib.ListN.{length, drop, getD}
 use Rattle.model.specs.Replay.{claimBit, differAsMarked}

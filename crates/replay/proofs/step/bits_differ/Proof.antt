@@ -1,9 +1,8 @@
 -- `bits_differ` passes every pair of equal bits. Assumes nothing.
-use mathlib.Core.Path.{_≡_, refl, sym, ap, ap₂, _∙_}
-use Prim.Native.Nat.{ℕ, suc, _+_, _-_, _*_, _≤_, _<_}
+use mathlib.Core.Path.{_≡_, refl, sym, _∙_}
+use Prim.Native.Nat.{_-_, _≤_}
 use native.Mathlib.Omega.{arith}
-use mathlib.Core.Bool.{xor, false}
-use lib.ListN.{length, drop, getD}
+use lib.ListN.{length, drop}
 use Rattle.model.specs.Replay.{bitsDiffer}
 use Rattle.replay.specs.StepLaws.{differ-longer, differ-here, differ-more, differ-end}
 use borrow.Author.Needs.{needs}

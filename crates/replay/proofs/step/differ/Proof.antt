@@ -1,6 +1,5 @@
 -- `differ` goes by the first bit. Assumes nothing.
 use Rattle.replay.specs.RunLaws.{xor-true, xor-false}
-use borrow.Author.Needs.{needs}
 use Rattle.replay.proofs.step.differ.Statement.{statement}
 use Rattle.replay.proofs.step.differ.Tie as tie
 use Rattle.replay.proofs.step.differ.Reads as reads

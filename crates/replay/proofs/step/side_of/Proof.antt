@@ -5,11 +5,11 @@ use Rattle.replay.proofs.step.side_of.Statement.{statement}
 use Rattle.replay.proofs.step.side_of.Tie as tie
 use Rattle.replay.proofs.step.side_of.Reads as reads
 use Rattle.replay.proofs.step.side_of.Lts as lts
-use Rattle.replay.proofs.tables.drivers.Reads as drivers-reads
+use Rattle.struo_ir.proofs.validate.drivers.Reads as drivers-reads
 use Rattle.replay.proofs.tables.input_ranks.Reads as input-ranks-reads
 
 returns : tie.Need-returns
-returns c = (refl, refl, record { ranked = c .before .input-ranks .ensures; driven = c .drivers .ensures _ })
+returns c = (refl, refl, record { ranked = c .before .before .input-ranks .ensures; driven = c .drivers .ensures })
 
 pub side-of-spec : {M : Type 1} → statement M
 side-of-spec = tie.close (tie.spec (λ c κs. search needs) (λ c κs. search needs) returns)

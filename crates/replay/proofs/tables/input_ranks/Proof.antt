@@ -1,9 +1,9 @@
 -- `input_ranks` fills the table in order: every entry below `i` is its node's rank. Assumes nothing.
-use mathlib.Core.Path.{_≡_, refl, sym, ap, _∙_}
-use Prim.Native.Nat.{ℕ, _+_, _-_, _≤_, _<_}
+use mathlib.Core.Path.{_≡_, refl, _∙_}
+use Prim.Native.Nat.{ℕ, _-_, _≤_, _<_}
 use native.Mathlib.Omega.{arith}
 use lib.ListN.{length, getD, length-set, length-replicate}
-use Rattle.struo_ir.specs.OrderPlaces.{noNode, places, Formed}
+use Rattle.struo_ir.specs.OrderPlaces.{noNode, places}
 use Rattle.replay.specs.RunTables.{inputRank}
 use Rattle.replay.specs.TableLaws.{filled-more}
 use borrow.Author.Needs.{needs}

@@ -1,11 +1,11 @@
 -- `rank_in` passes every other name. Assumes nothing.
 use mathlib.Core.Path.{_≡_, refl, sym, ap, _∙_}
-use Prim.Native.Nat.{ℕ, _+_, _-_, _≤_, _<_}
+use Prim.Native.Nat.{ℕ, _+_, _-_, _≤_}
 use native.Mathlib.Omega.{arith}
 use lib.ListN.{getD, drop}
 use Rattle.model.specs.Names.{sameName, rank}
 use Rattle.struo_ir.specs.Decoded.{nameAt}
-use Rattle.struo_ir.specs.OrderPlaces.{noEntry, places, Formed}
+use Rattle.struo_ir.specs.OrderPlaces.{noEntry, places}
 use Rattle.replay.specs.TableLaws.{rank-passed, rank-here, rank-none}
 use borrow.Author.Needs.{needs}
 use Rattle.replay.proofs.tables.rank_in.Statement.{statement}

@@ -11,14 +11,14 @@ returns c =
     let e = c .before .before .before .before in
     let l = e .before .before .before .before .before .before .before .before in
     let s = l .before .before .before .before .before .before .before .before .before .before in
-    asserts-not _ _ _ _ _ _ (s .pre) _ _ _ (l .learn .ensures) _ refl _ _ (e .assert-literal .ensures .0) (e .assert-literal .ensures .1) _ refl (not-true _ (c .if1 .taken))
+    asserts-not _ _ _ _ _ _ (s .pre) _ _ _ (l .learn .ensures) _ refl _ _ (e .enqueue .ensures .0) (e .enqueue .ensures .1) _ refl (not-true _ (c .if1 .taken))
 
 returns-2 : tie.Need-returns-2
 returns-2 c =
     let e = c .before .before .before .before .before in
     let l = e .before .before .before .before .before .before .before .before in
     let s = l .before .before .before .before .before .before .before .before .before .before in
-    asserts _ _ _ _ _ _ (s .pre) _ _ _ (l .learn .ensures) _ refl _ _ (e .assert-literal .ensures .0) (e .assert-literal .ensures .1) _ refl (not-false _ (c .before .if1 .left))
+    asserts _ _ _ _ _ _ (s .pre) _ _ _ (l .learn .ensures) _ refl _ _ (e .enqueue .ensures .0) (e .enqueue .ensures .1) _ refl (not-false _ (c .before .if1 .left))
 
 pub assert-learned-spec : {M : Type 1} → statement M
 assert-learned-spec =

@@ -1,8 +1,8 @@
 -- `struo_ir::names::repeated` meets its contract: the names that are left give the whole answer. Assumes nothing.
-use Prim.Native.Nat.{_≤_}
-use mathlib.Core.Path.{_≡_, refl, sym, _∙_}
+use Prim.Native.Nat.{ℕ, _≤_}
+use mathlib.Core.Path.{_≡_, refl, sym, ap, _∙_}
 use native.Mathlib.Omega.{arith}
-use Rattle.model.specs.Names.{memberName}
+use Rattle.model.specs.Names.{sameName, memberName}
 use Rattle.struo_ir.specs.Decoded.{nameAt}
 use Rattle.struo_ir.specs.Checks.{namesBefore}
 use Rattle.struo_ir.specs.NameLaws.{name-found, name-passed}
@@ -20,10 +20,10 @@ loop-holds : tie.Need-loop-holds Inv-loop μ-loop
 loop-holds c = (c .before .pre, refl)
 
 returns : tie.Need-returns Inv-loop μ-loop
-returns c = let a = c .before .before .before .before .before .before .args in let l = c .before .before .before .before .loop in name-found (a .bytes .now) (nameAt (a .bytes .now) (a .place)) _ (l .k) (c .before .before .before .loop-test .taken) (sym (c .before .same-name .ensures) ∙ c .if1 .taken) ∙ l .inv .1
+returns c = let a = c .before .before .before .before .before .before .before .args in let l = c .before .before .before .before .before .loop in let e = c .before .same-name .ensures ∙ ap (λ (j : ℕ). sameName (nameAt (a .bytes .now) (a .place)) (nameAt (a .bytes .now) j)) (c .before .before .wide .ensures) in name-found (a .bytes .now) (nameAt (a .bytes .now) (a .place)) _ (l .k) (c .before .before .before .before .loop-test .taken) (sym e ∙ c .if1 .taken) ∙ l .inv .1
 
 loop-again : tie.Need-loop-again Inv-loop μ-loop
-loop-again c = let a = c .before .before .before .before .before .before .args in let l = c .before .before .before .before .loop in (omega arith, name-passed (a .bytes .now) (nameAt (a .bytes .now) (a .place)) _ (l .k) (c .before .before .before .loop-test .taken) (sym (c .before .same-name .ensures) ∙ c .if1 .left) ∙ l .inv .1)
+loop-again c = let a = c .before .before .before .before .before .before .before .args in let l = c .before .before .before .before .before .loop in let e = c .before .same-name .ensures ∙ ap (λ (j : ℕ). sameName (nameAt (a .bytes .now) (a .place)) (nameAt (a .bytes .now) j)) (c .before .before .wide .ensures) in (omega arith, name-passed (a .bytes .now) (nameAt (a .bytes .now) (a .place)) _ (l .k) (c .before .before .before .before .loop-test .taken) (sym e ∙ c .if1 .left) ∙ l .inv .1)
 
 returns-2 : tie.Need-returns-2 Inv-loop μ-loop
 unfolding namesBefore memberName
@@ -32,4 +32,4 @@ returns-2 c = let l = c .before .loop in let e : l .k ≡ 0 = omega arith in rw 
 pub repeated-spec : {M : Type 1} → statement M
 repeated-spec =
     tie.close
-    (tie.spec Inv-loop μ-loop loop-holds (λ c. search needs) (λ c. search needs) (λ c. search needs) (λ c κs. search needs) returns (λ c. search needs) loop-again returns-2)
+    (tie.spec Inv-loop μ-loop loop-holds (λ c. search needs) (λ c. search needs) (λ c. search needs) (λ c κs. search needs) (λ c κs. search needs) returns (λ c. search needs) loop-again returns-2)

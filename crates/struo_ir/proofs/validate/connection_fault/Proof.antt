@@ -42,4 +42,4 @@ returns-2 c = λ s. let p = c .before .before .before .pre in let d = c .before 
 pub connection-fault-spec : {M : Type 1} → statement M
 connection-fault-spec =
     tie.close
-    (tie.spec Inv-loop μ-loop (λ c κs. c .pre .1) loop-holds (λ c. omega (arith, small c)) (λ c. omega (arith, small c)) (λ c. omega (arith, small (c .before))) (λ c. omega (arith, small (c .before))) (λ c κs. search needs) (λ c. omega (arith, small (c .before .before .before))) returns (λ c. omega (arith, small (c .before .before .before))) (λ c. search needs) loop-again returns-2)
+    (tie.spec Inv-loop μ-loop (λ c κs. c .pre .1 .fits) loop-holds (λ c. omega (arith, small c)) (λ c. omega (arith, small c)) (λ c. omega (arith, small (c .before))) (λ c. omega (arith, small (c .before))) (λ c κs. search needs) (λ c. omega (arith, small (c .before .before .before))) returns (λ c. omega (arith, small (c .before .before .before))) (λ c. search needs) loop-again returns-2)

@@ -1,5 +1,7 @@
 -- `struo_ir::validate::drivers` meets its contract: the table is right for the registers from k on, so at 0 for all. Assumes nothing.
 use Prim.Native.Nat.{_≤_}
+use mathlib.Core.Path.{_≡_}
+use lib.ListN.{length}
 use native.Mathlib.Omega.{arith}
 use Rattle.struo_ir.specs.Registers.{noRegister}
 use Rattle.struo_ir.specs.DriverLaws.{DriversSoFar, no-drivers, driver-stored, driver-skipped, all-drivers}
@@ -18,15 +20,21 @@ loop-holds c = no-drivers _ _
 
 -- the register's number is at most 128
 small : (c : tie.In-loop Inv-loop μ-loop) → c .before .loop .k ≤ 128
-small c = omega (arith, c .before .loop .inv .bound, c .before .before .pre .fits)
+small c = omega (arith, c .before .loop .inv .bound, c .before .before .pre)
 
 loop-again : tie.Need-loop-again Inv-loop μ-loop
 unfolding noRegister
-loop-again c = driver-stored _ _ (c .before .before .before .before .before .pre) _ _ _ (omega arith) (c .before .before .before .before .loop .inv)
+loop-again c =
+    let b = c .before .before .before .before .before in
+    let l : length (b .args .t1) ≡ 128 = b .good .0 .1 .0 .1 in
+    driver-stored _ _ l (b .pre) _ _ _ (omega arith) (c .before .before .before .before .loop .inv)
 
 loop-again-2 : tie.Need-loop-again-2 Inv-loop μ-loop
 unfolding noRegister
-loop-again-2 c = driver-skipped _ _ (c .before .before .before .before .before .pre) _ (c .before .before .before .before .loop .k) _ (omega arith) (c .before .before .before .before .loop .inv) (c .if1 .left)
+loop-again-2 c =
+    let b = c .before .before .before .before .before in
+    let l : length (b .args .t1) ≡ 128 = b .good .0 .1 .0 .1 in
+    driver-skipped _ _ l (b .pre) _ (c .before .before .before .before .loop .k) _ (omega arith) (c .before .before .before .before .loop .inv) (c .if1 .left)
 
 returns : tie.Need-returns Inv-loop μ-loop
 returns c = all-drivers _ _ _ _ (c .before .loop .inv) (omega arith)

@@ -45,4 +45,4 @@ driver-small c = c .before .before .before .drivers .ensures .small (c .before .
 pub reset-fault-spec : {M : Type 1} → statement M
 reset-fault-spec =
     tie.close
-    (tie.spec Inv-loop μ-loop (λ c κs. c .pre .1) loop-holds (λ c. omega (arith, small c)) (λ c. omega (arith, small c)) (λ c. omega (arith, small (c .before))) (λ c. omega (arith, small (c .before))) (λ c. omega (arith, driver-small c)) (λ c. omega (arith, driver-small c)) (λ c. search needs) (λ c. search needs) (λ c κs. search needs) (λ c. omega (arith, small (c .before .before .before .before))) returns (λ c. omega (arith, small (c .before .before .before .before))) (λ c. search needs) loop-again returns-2)
+    (tie.spec Inv-loop μ-loop (λ c κs. c .pre .1 .fits) loop-holds (λ c. omega (arith, small c)) (λ c. omega (arith, small c)) (λ c. omega (arith, small (c .before))) (λ c. omega (arith, small (c .before))) (λ c. omega (arith, driver-small c)) (λ c. omega (arith, driver-small c)) (λ c. search needs) (λ c. search needs) (λ c κs. search needs) (λ c. omega (arith, small (c .before .before .before .before))) returns (λ c. omega (arith, small (c .before .before .before .before))) (λ c. search needs) loop-again returns-2)

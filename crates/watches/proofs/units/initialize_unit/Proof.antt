@@ -7,8 +7,8 @@ use borrow.Author.Needs.{needs}
 use Rattle.watches.proofs.units.initialize_unit.Statement.{statement}
 use Rattle.watches.proofs.units.initialize_unit.Tie as tie
 
-enqueue-unit-requires : tie.Need-enqueue-unit-requires
-enqueue-unit-requires c κs =
+enqueue-requires : tie.Need-enqueue-requires
+enqueue-requires c κs =
     let k = c .before .before .before .before .before .before in
     let s = k .before .before .before in
     let a = s .args in
@@ -23,7 +23,7 @@ returns c =
     let s = k .before .before .before in
     let a = s .args in
     let z : k .clause .result .start + 1 ≡ k .clause .result .end = omega (arith, i .if1 .taken, i .before .wide2 .ensures, i .before .before .wide .ensures) in
-    unit-clause (a .store) (a .t) (a .words .now) (a .id) (s .pre .0) (s .pre .1) (k .clause .result) (k .clause .ensures .0) (k .clause .ensures .1) _ (l .literal-at .ensures) z _ _ _ refl (e .enqueue-unit .ensures)
+    unit-clause (a .store) (a .t) (a .words .now) (a .id) (s .pre .0) (s .pre .1) (k .clause .result) (k .clause .ensures .0) (k .clause .ensures .1) _ (l .literal-at .ensures) z _ _ _ refl (e .enqueue .ensures)
 
 returns-2 : tie.Need-returns-2
 returns-2 c =
@@ -35,4 +35,4 @@ returns-2 c =
 pub initialize-unit-spec : {M : Type 1} → statement M
 initialize-unit-spec =
     tie.close
-    (tie.spec (λ c κs. search needs) (λ c κs. search needs) (λ c. search needs) (λ c κs. search needs) (λ c κs. search needs) (λ c. search needs) (λ c. search needs) enqueue-unit-requires (λ c. search needs) returns (λ c. search needs) returns-2)
+    (tie.spec (λ c κs. search needs) (λ c κs. search needs) (λ c. search needs) (λ c κs. search needs) (λ c κs. search needs) (λ c. search needs) (λ c. search needs) enqueue-requires (λ c. search needs) returns (λ c. search needs) returns-2)

@@ -1,0 +1,186 @@
+-- A cycle's comparison put into its row of FRAMES: the row reads as the comparison, the rows before it and the other regions stay. Assumes nothing.
+use mathlib.Core.Path.{_≡_, refl, ap₂, _∙_}
+use mathlib.Core.Bool.{Bool, true, false, _&&_}
+use mathlib.Core.List.{List}
+use Prim.Native.Nat.{ℕ, zero, suc, _+_, _*_, _≤_, _<_}
+use native.Mathlib.Omega.{arith}
+use native.Mathlib.Numerals.{add-one}
+use lib.Dec.{eqb}
+use borrow.Author.Tests.{eqb-true, eqb-false}
+use lib.ListN.{length, getD}
+use lib.Seq.{getD-set-same, getD-set-other}
+use Rattle.words.specs.Region.{region, apart, stored, stores, length-region, length-stored}
+use Rattle.model.specs.Lists.{snoc}
+use Rattle.model.specs.Equivalence.{FrameComparison}
+use Rattle.aig.specs.Graph.{graphOf, graphAt, nodesOf}
+use Rattle.aig.specs.Made.{Ready, Same, both, same-refl, same-trans}
+use Rattle.aig.specs.Side.{side-under}
+use Rattle.import.specs.Importing.{beyond, side-beyond}
+use Rattle.transition.specs.Firsts.{firsts, pairs, Below}
+use Rattle.equivalence.specs.Side.{Untouched}
+use Rattle.equivalence.specs.Frames.{wordsFrom, pairsFrom, comparisonAt, comparisonsOf, RowsBelow, beyondFrames}
+
+-- the region at b shares no word with FRAMES
+abbrev pub offFrames : ℕ → Bool
+offFrames b = apart b 524288
+
+-- ---- what stays
+
+pub off-beyond : {w w′ : List ℕ} → Same offFrames w w′ → Same beyondFrames w w′
+off-beyond s = record { at = λ b e. s .at b (both (beyond b) (apart b 524288) e .1) }
+
+pub beyond-frames : {w w′ : List ℕ} → Same beyond w w′ → Same beyondFrames w w′
+beyond-frames s = record { at = λ b e. s .at b (both (beyond b) (apart b 524288) e .0) }
+
+pub untouched-frames : {w w′ : List ℕ} → Same beyondFrames w w′ → Untouched w w′
+untouched-frames s = record { at = λ b lo hi. s .at b (joined (beyond b) (apart b 524288) (side-beyond b lo hi) (side-under b lo hi 524288 (omega arith))) }
+  where
+    joined : (p q : Bool) → p ≡ true → q ≡ true → (p && q) ≡ true
+    joined p q a b = rw (a, b)
+
+-- the graph's words stay
+pub off-graph : (c : ℕ) (w w′ : List ℕ) → Same offFrames w w′ → graphOf c w′ ≡ graphOf c w
+unfolding graphAt
+off-graph c w w′ s = ap₂ (λ (ls rs : List ℕ). nodesOf c ls rs) (s .at 0 refl) (s .at 65536 refl)
+
+pub off-ready : (c : ℕ) (w w′ : List ℕ) → 8388608 ≤ length w′ → Same offFrames w w′ → Ready c w → Ready c w′
+off-ready c w w′ h s r =
+    record { positive = r .positive; long = h; indexed = rw (s .at 0 refl, s .at 65536 refl, s .at 131072 refl, s .at 1572864 refl) (r .indexed) }
+
+-- ---- literals one after another
+
+-- The first n of ls stand in FRAMES from `place` on; the words before that place and the other regions are as they were.
+pub record KeptRow (place n : ℕ) (ls w w′ : List ℕ) : Type 0 where
+  pub long : 8388608 ≤ length w′
+  pub same : Same offFrames w w′
+  pub row : (i : ℕ) → i < n → getD (region 524288 w′) (place + i) 0 ≡ getD ls i 0
+  pub before : (j : ℕ) → j < place → getD (region 524288 w′) j 0 ≡ getD (region 524288 w) j 0
+
+pub kept-none : (place : ℕ) (ls w : List ℕ) → 8388608 ≤ length w → KeptRow place 0 ls w w
+kept-none place ls w h = record { long = h; same = same-refl offFrames w; row = λ i k. absurd (omega arith); before = λ j k. refl }
+
+same-stored : (w : List ℕ) (i v : ℕ) → Same offFrames w (stored 524288 w i v)
+same-stored w i v = record { at = λ b e. let q : apart b 524288 ≡ true = e in simp (stores, q) }
+
+-- one literal more
+pub kept-more : (place n : ℕ) (ls w₀ w : List ℕ) (v : ℕ) → place + n < 65536 → v ≡ getD ls n 0 → KeptRow place n ls w₀ w → KeptRow place (n + 1) ls w₀ (stored 524288 w (place + n) v)
+kept-more place n ls w₀ w v h e k =
+    record {
+      long = simp length-stored (k .long);
+      same = same-trans (k .same) (same-stored w (place + n) v);
+      row = λ i l. go i l (eqb i n) refl;
+      before = λ j l. simp stores (getD-set-other (region 524288 w) (place + n) j v 0 (λ x. omega arith) ∙ k .before j l);
+    }
+  where
+    go : (i : ℕ) → i < n + 1 → (t : Bool) → eqb i n ≡ t → getD (region 524288 (stored 524288 w (place + n) v)) (place + i) 0 ≡ getD ls i 0
+    go i l true q =
+        let s : length (region 524288 w) ≡ 65536 = length-region 524288 w (omega (arith, k .long)) in
+        simp stores (rw (eqb-true i n q) (getD-set-same (region 524288 w) (place + n) v 0 (omega arith) ∙ e))
+    go i l false q =
+        let d : i ≡ n → ⊥ = eqb-false i n q in
+        simp stores (getD-set-other (region 524288 w) (place + n) (place + i) v 0 (λ x. d (omega arith)) ∙ k .row i (omega (arith, d)))
+
+-- ---- a row
+
+-- The comparison of cycle c stands in its row; the rows before it and the other regions are as they were.
+pub record KeptComparison (I O c : ℕ) (ins go to : List ℕ) (m : ℕ) (w w′ : List ℕ) : Type 0 where
+  pub long : 8388608 ≤ length w′
+  pub same : Same offFrames w w′
+  pub inputs : (i : ℕ) → i < I → getD (region 524288 w′) (512 * c + i) 0 ≡ getD ins i 0
+  pub gold-outputs : (i : ℕ) → i < O → getD (region 524288 w′) (512 * c + 128 + i) 0 ≡ getD go i 0
+  pub gate-outputs : (i : ℕ) → i < O → getD (region 524288 w′) (512 * c + 256 + i) 0 ≡ getD to i 0
+  pub mismatch : getD (region 524288 w′) (512 * c + 384) 0 ≡ m
+  pub before : (j : ℕ) → j < 512 * c → getD (region 524288 w′) j 0 ≡ getD (region 524288 w) j 0
+
+-- the three rows of literals, and the mismatch after them
+pub kept-comparison : (I O c : ℕ) (ins go to : List ℕ) (m : ℕ) (w w₁ w₂ w₃ : List ℕ) → I ≤ 128 → O ≤ 128 → c ≤ 64
+    → KeptRow (512 * c) I ins w w₁ → KeptRow (512 * c + 128) O go w₁ w₂ → KeptRow (512 * c + 256) O to w₂ w₃
+    → KeptComparison I O c ins go to m w (stored 524288 w₃ (512 * c + 384) m)
+kept-comparison I O c ins go to m w w₁ w₂ w₃ hi ho hc r₁ r₂ r₃ =
+    record {
+      long = simp length-stored (r₃ .long);
+      same = same-trans (r₁ .same) (same-trans (r₂ .same) (same-trans (r₃ .same) (same-stored w₃ (512 * c + 384) m)));
+      inputs = λ i h. last (512 * c + i) (omega arith) ∙ r₃ .before (512 * c + i) (omega arith) ∙ r₂ .before (512 * c + i) (omega arith) ∙ r₁ .row i h;
+      gold-outputs = λ i h. last (512 * c + 128 + i) (omega arith) ∙ r₃ .before (512 * c + 128 + i) (omega arith) ∙ r₂ .row i h;
+      gate-outputs = λ i h. last (512 * c + 256 + i) (omega arith) ∙ r₃ .row i h;
+      mismatch =
+          let s : length (region 524288 w₃) ≡ 65536 = length-region 524288 w₃ (omega (arith, r₃ .long)) in
+          simp stores (getD-set-same (region 524288 w₃) (512 * c + 384) m 0 (omega arith));
+      before = λ j h. last j (omega arith) ∙ r₃ .before j (omega arith) ∙ r₂ .before j (omega arith) ∙ r₁ .before j (omega arith);
+    }
+  where
+    last : (j : ℕ) → j < 512 * c + 384 → getD (region 524288 (stored 524288 w₃ (512 * c + 384) m)) j 0 ≡ getD (region 524288 w₃) j 0
+    last j h = simp stores (getD-set-other (region 524288 w₃) (512 * c + 384) j m 0 (λ x. omega arith))
+
+-- ---- what is read there
+
+words-are : (n at : ℕ) (fs ls : List ℕ) → ((i : ℕ) → i < n → getD fs (at + i) 0 ≡ getD ls i 0) → wordsFrom n at fs ≡ firsts n ls
+unfolding wordsFrom firsts
+words-are zero at fs ls r = refl
+words-are (suc n) at fs ls r = ap₂ (λ (xs : List ℕ) (x : ℕ). snoc xs x) (words-are n at fs ls (λ i h. r i (omega arith))) (r n (omega arith))
+
+pairs-are : (n at to : ℕ) (fs ls ks : List ℕ) → ((i : ℕ) → i < n → getD fs (at + i) 0 ≡ getD ls i 0) → ((i : ℕ) → i < n → getD fs (to + i) 0 ≡ getD ks i 0)
+    → pairsFrom n at to fs ≡ pairs n ls ks
+unfolding pairsFrom pairs
+pairs-are zero at to fs ls ks r s = refl
+pairs-are (suc n) at to fs ls ks r s =
+    ap₂ (λ (xs : List (ℕ × ℕ)) (x : ℕ × ℕ). snoc xs x) (pairs-are n at to fs ls ks (λ i h. r i (omega arith)) (λ i h. s i (omega arith)))
+    (ap₂ (λ (a b : ℕ). (a, b)) (r n (omega arith)) (s n (omega arith)))
+
+-- the row as the model's comparison
+pub comparison-is : (I O c : ℕ) (ins go to : List ℕ) (m : ℕ) (w w′ : List ℕ) → KeptComparison I O c ins go to m w w′
+    → comparisonAt I O (region 524288 w′) c ≡ record { inputs = firsts I ins; outputs = pairs O go to; mismatch = m }
+unfolding comparisonAt
+comparison-is I O c ins go to m w w′ k =
+    rw (words-are I (512 * c) (region 524288 w′) ins (k .inputs), pairs-are O (512 * c + 128) (512 * c + 256) (region 524288 w′) go to (k .gold-outputs) (k .gate-outputs), k .mismatch)
+
+words-stay : (n at : ℕ) (fs gs : List ℕ) → ((i : ℕ) → i < n → getD fs (at + i) 0 ≡ getD gs (at + i) 0) → wordsFrom n at fs ≡ wordsFrom n at gs
+unfolding wordsFrom
+words-stay zero at fs gs r = refl
+words-stay (suc n) at fs gs r = ap₂ (λ (xs : List ℕ) (x : ℕ). snoc xs x) (words-stay n at fs gs (λ i h. r i (omega arith))) (r n (omega arith))
+
+pairs-stay : (n at to : ℕ) (fs gs : List ℕ) → ((i : ℕ) → i < n → getD fs (at + i) 0 ≡ getD gs (at + i) 0) → ((i : ℕ) → i < n → getD fs (to + i) 0 ≡ getD gs (to + i) 0)
+    → pairsFrom n at to fs ≡ pairsFrom n at to gs
+unfolding pairsFrom
+pairs-stay zero at to fs gs r s = refl
+pairs-stay (suc n) at to fs gs r s =
+    ap₂ (λ (xs : List (ℕ × ℕ)) (x : ℕ × ℕ). snoc xs x) (pairs-stay n at to fs gs (λ i h. r i (omega arith)) (λ i h. s i (omega arith)))
+    (ap₂ (λ (a b : ℕ). (a, b)) (r n (omega arith)) (s n (omega arith)))
+
+-- rows whose words stay read as before
+pub comparisons-stay : (I O n : ℕ) (fs gs : List ℕ) → I ≤ 128 → O ≤ 128 → ((j : ℕ) → j < 512 * n → getD fs j 0 ≡ getD gs j 0) → comparisonsOf I O n fs ≡ comparisonsOf I O n gs
+unfolding comparisonsOf comparisonAt
+comparisons-stay I O zero fs gs hi ho s = refl
+comparisons-stay I O (suc n) fs gs hi ho s =
+    ap₂ (λ (xs : List FrameComparison) (x : FrameComparison). snoc xs x) (comparisons-stay I O n fs gs hi ho (λ j h. s j (omega arith)))
+    (rw (
+      words-stay I (512 * n) fs gs (λ i h. s (512 * n + i) (omega arith)),
+      pairs-stay O (512 * n + 128) (512 * n + 256) fs gs (λ i h. s (512 * n + 128 + i) (omega arith)) (λ i h. s (512 * n + 256 + i) (omega arith)),
+      s (512 * n + 384) (omega arith),
+    ))
+
+-- one comparison more
+pub comparisons-more : (I O n : ℕ) (ins go to : List ℕ) (m : ℕ) (w w′ : List ℕ) → I ≤ 128 → O ≤ 128 → KeptComparison I O n ins go to m w w′
+    → comparisonsOf I O (n + 1) (region 524288 w′)
+    ≡ snoc (comparisonsOf I O n (region 524288 w)) (record { inputs = firsts I ins; outputs = pairs O go to; mismatch = m })
+unfolding comparisonsOf
+comparisons-more I O n ins go to m w w′ hi ho k =
+    rw add-one (ap₂ (λ (xs : List FrameComparison) (x : FrameComparison). snoc xs x) (comparisons-stay I O n _ _ hi ho (k .before)) (comparison-is I O n ins go to m w w′ k))
+
+-- one row of literals more
+pub rows-more : (k k′ I O n : ℕ) (ins go to : List ℕ) (m : ℕ) (w w′ : List ℕ) → k ≤ k′ → I ≤ 128 → O ≤ 128 → KeptComparison I O n ins go to m w w′
+    → Below k′ I ins → Below k′ O go → Below k′ O to → m < k′ → RowsBelow k I O n (region 524288 w) → RowsBelow k′ I O (n + 1) (region 524288 w′)
+rows-more k k′ I O n ins go to m w w′ le hi ho r bi bg bt bm b =
+    record {
+      inputs = λ c i h l. by c h (λ z. rw (z, r .inputs i l) (bi .at i l)) (λ z. rw (r .before (512 * c + i) (omega arith)) (omega (arith, b .inputs c i z l)));
+      gold-outputs = λ c i h l. by c h (λ z. rw (z, r .gold-outputs i l) (bg .at i l)) (λ z. rw (r .before (512 * c + 128 + i) (omega arith)) (omega (arith, b .gold-outputs c i z l)));
+      gate-outputs = λ c i h l. by c h (λ z. rw (z, r .gate-outputs i l) (bt .at i l)) (λ z. rw (r .before (512 * c + 256 + i) (omega arith)) (omega (arith, b .gate-outputs c i z l)));
+      mismatches = λ c h. by c h (λ z. rw (z, r .mismatch) bm) (λ z. rw (r .before (512 * c + 384) (omega arith)) (omega (arith, b .mismatches c z)));
+    }
+  where
+    by : {A : Type 0} (c : ℕ) → c < n + 1 → (c ≡ n → A) → (c < n → A) → A
+    by {A} c h f g = pick (eqb c n) refl
+      where
+        pick : (t : Bool) → eqb c n ≡ t → A
+        pick true e = f (eqb-true c n e)
+        pick false e = g (omega (arith, eqb-false c n e))

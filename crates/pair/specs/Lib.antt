@@ -1,0 +1,4 @@
+pub mod PairChecks
+pub mod ElementLaws
+pub mod PairCheckLaws
+pub mod ReadingRight

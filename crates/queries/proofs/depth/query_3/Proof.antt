@@ -1,0 +1,30 @@
+-- `queries::depth::query_3` meets its contract. Assumes nothing.
+use Rattle.queries.specs.Deciding.{open-3, closed-3, gave-up-3}
+use borrow.Author.Needs.{needs}
+use Rattle.queries.proofs.depth.query_3.Statement.{statement}
+use Rattle.queries.proofs.depth.query_3.Tie as tie
+
+returns : tie.Need-returns
+returns c =
+    let z = c .before .before .before .before in
+    let e = z .before .before .before in
+    let q = e .before .before .before .before .before .before in
+    let a = q .before .before .before .before .before in
+    open-3 (a .args .problem) (a .args .limit) (a .args .depth) _ _ (a .pre) _ _ _ (q .induction-fails .ensures) _ (e .enum-told .given .1) _ _ (z .query-4 .ensures)
+
+returns-2 : tie.Need-returns-2
+returns-2 c =
+    let q = c .before .before .before .before .before .before in
+    let a = q .before .before .before .before .before in
+    closed-3 (a .args .problem) (a .args .limit) (a .args .depth) _ _ (a .pre) _ _ _ (q .induction-fails .ensures) _ (c .enum-told2 .given .1)
+
+returns-3 : tie.Need-returns-3
+returns-3 c =
+    let q = c .before .before .before .before .before .before in
+    let a = q .before .before .before .before .before in
+    gave-up-3 (a .args .problem) (a .args .limit) (a .args .depth) _ _ (a .pre) _ _ _ (q .induction-fails .ensures) _ (c .enum-told3 .given .1)
+
+pub query-3-spec : {M : Type 1} → statement M
+query-3-spec =
+    tie.close
+    (tie.spec (λ c κs. search needs) (λ c. search needs) (λ c κs. search needs) (λ c. search needs) (λ c. search needs) (λ c. search needs) (λ c. search needs) (λ c. search needs) (λ c. search needs) returns (λ c. search needs) (λ c. search needs) returns-2 (λ c. search needs) (λ c. search needs) returns-3)

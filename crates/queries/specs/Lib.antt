@@ -1,0 +1,7 @@
+pub mod Problem
+pub mod Untouched
+pub mod Asking
+pub mod Querying
+pub mod Finding
+pub mod Deciding
+pub mod Depths

@@ -1,0 +1,31 @@
+// The loop over depths: prove_sequential_equivalence of equivalence.rs.
+ghost use Rattle.queries.specs.Problem.{Provable, Proves};
+use crate::depth::Decision;
+use crate::depth::at_depth;
+use crate::problem::Problem;
+use crate::problem::Verdict;
+
+// The verdict after depths 1 to `max_depth`, each query under a limit of learned literals; the trace changes for NotEquivalent only.
+pub fn prove_sequential_equivalence(
+    problem: Problem,
+    words: &mut [u32],
+    scores: &mut [f64],
+    trace: &mut [u8],
+    limit: usize,
+    max_depth: usize,
+) -> Verdict
+    requires { ⌜ Provable problem limit «max_depth» (now words) (now scores) (now trace) ⌝ }
+    ensures { λ r. ⌜ Proves problem limit «max_depth» (now (words .entry)) (now (trace .entry)) r (now (trace .exit)) ⌝ }
+{
+    let mut depth: usize = 0;
+    while depth < max_depth {
+        depth += 1;
+        match at_depth(problem, words, scores, trace, limit, depth) {
+            Decision::Undecided => {}
+            Decision::Decided(verdict) => {
+                return verdict;
+            }
+        }
+    }
+    Verdict::Inconclusive(max_depth as u32)
+}

@@ -1,0 +1,4 @@
+pub mod Trace
+pub mod Values
+pub mod Writing
+pub mod Cycles
