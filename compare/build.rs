@@ -1,7 +1,9 @@
-//! Links the static library that `rt staticlib struo_formal` writes.
+//! Links the static libraries that `rt staticlib struo_formal` and `rt staticlib solver` write.
 fn main() {
     let root = std::path::Path::new(env!("CARGO_MANIFEST_DIR")).join("../target/staticlib");
     println!("cargo:rustc-link-search=native={}", root.display());
-    println!("cargo:rustc-link-lib=static=struo_formal");
-    println!("cargo:rerun-if-changed={}", root.join("libstruo_formal.a").display());
+    for library in ["struo_formal", "solver"] {
+        println!("cargo:rustc-link-lib=static={library}");
+        println!("cargo:rerun-if-changed={}", root.join(format!("lib{library}.a")).display());
+    }
 }

@@ -1,4 +1,5 @@
-/* The calls of libstruo_formal.a. Nothing is demanded of the caller beyond what the types say: any bytes, any lengths. */
+/* The calls of libstruo_formal.a. Nothing is demanded of the caller beyond what the types say: any bytes, any lengths.
+   A pointer points to as many elements as its length says, and is not null, even where the length is 0. */
 #ifndef STRUO_FORMAL_H
 #define STRUO_FORMAL_H
 
@@ -35,6 +36,43 @@ struct struo_replay_answer {
    outputs, at least one. Nothing is written. */
 struct struo_replay_answer struo_replay(const uint8_t *gold, size_t gold_length, const uint8_t *gate, size_t gate_length,
                                         uint64_t cycle, const uint8_t *claim, size_t claim_length);
+
+/* What a check answers. number, side and place: 0, or a refusal of 1 to 24; side: 0 gold, 1 gate, and 0 where neither record alone is at fault;
+   place as above. The other numbers are 0 where the check is refused.
+   status: 0 Equivalent, 1 NotEquivalent, 2 Inconclusive, 3 GaveUp. depth: the depth at which the verdict fell; for 2 the depth asked for; for 3 the
+   depth of the query that gave up. mismatch: for 1 the first cycle in which outputs differ, else 0. query: for 3 the number of the query that
+   gave up, 1 to 4, else 0. */
+struct struo_check_answer {
+    uint32_t number;
+    uint32_t side;
+    uint32_t place;
+    uint32_t status;
+    uint32_t depth;
+    uint32_t mismatch;
+    uint32_t query;
+};
+
+/* Checks whether two designs can ever differ, by k-induction for depths 1 to `depth`.
+
+   Equivalent: the outputs, compared by name, agree in every cycle of every input sequence. NotEquivalent: they differ in some cycle that is at
+   most `depth`, and the trace shows how. Inconclusive: neither was found up to `depth`. GaveUp: a query's next learned clause would bring its
+   learned literals above 262,144.
+
+   Refusals in checking order. Gold's record is read wholly (1 to 15, as struo_read), then gate's, with side 1; then:
+     16 depth is 0; 17 depth is over 64; 18 the sets of input names differ; 19 the sets of output names differ;
+     20 the registers of one side, gold first, have two clock names or edges (side: that side); 21 clock name or edge differ between the sides, or
+     only one side has registers; 22 a register has no reset, gold by name, then gate (side: that side; place: the register's number);
+     23 (depth + 1) * F + R is over 65,535, where F = I + 3 * N + 10 * R + 4 * O + 1, I and O count one side's inputs and outputs, N and R the nodes
+     and registers of both sides; 24 trace_length is under (depth + 1) * I + O, words_length under 8,388,608, or scores_length under 65,536.
+   A refused check changes nothing that is lent.
+
+   An accepted check leaves all of words and scores zero, over their whole length; what they held before never matters. For NotEquivalent the
+   trace begins with a byte, 0 or 1, for each input in byte order of names, for each cycle from 0 to the mismatch, then a byte for each output in byte
+   order of names, 1 where it differs in that cycle; these (mismatch + 1) * I + O bytes are a claim to which struo_replay answers yes. All other bytes of
+   the trace stay, and all of them for the other statuses. The three buffers must not overlap each other or the records, as Rust's &mut says. */
+struct struo_check_answer struo_check(const uint8_t *gold, size_t gold_length, const uint8_t *gate, size_t gate_length, uint64_t depth,
+                                      uint8_t *trace, size_t trace_length, uint32_t *words, size_t words_length,
+                                      double *scores, size_t scores_length);
 
 #ifdef __cplusplus
 }

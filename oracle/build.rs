@@ -13,6 +13,11 @@ struct Patch {
 /// The search: every query is announced, counted and answered to the meter.
 const SAT: &[Patch] = &[
     Patch {
+        search: "            self.propagation_head += 1;\n",
+        times: 1,
+        replace: "            self.propagation_head += 1;\n            crate::meter::propagated();\n",
+    },
+    Patch {
         search: "                let (learned, backtrack_level) = self.analyze(conflict);\n",
         times: 1,
         replace: "                let (learned, backtrack_level) = self.analyze(conflict);\n                crate::meter::learn(learned.len(), || learned.iter().map(|literal| literal.watch_index()).collect());\n",
@@ -162,6 +167,7 @@ fn main() {
     let whole = module("struo_ir", "", &ir)
         + &module("aig", "", &formal("aig", &[], ""))
         + &module("sat", "", &formal("sat", SAT, SAT_STATE))
+        + &module("plain_sat", "", &formal("sat", &[], ""))
         + &module("transition", names, &formal("transition", &[], ""))
         + &module("equivalence", names, &formal("equivalence", EQUIVALENCE, ""));
     let out = PathBuf::from(env::var("OUT_DIR").expect("cargo names OUT_DIR"));

@@ -32,6 +32,39 @@ static void replays(uint8_t input, uint8_t mark, bool yes) {
     }
 }
 
+/* The memory of a check, and what it holds before each. */
+static uint32_t words[8388608];
+static double scores[65536];
+static uint8_t trace[80];
+
+/* Fills the memory. */
+static void hold(void) {
+    for (size_t i = 0; i < 8388608; i++) words[i] = 7;
+    for (size_t i = 0; i < 65536; i++) scores[i] = 7;
+    for (size_t i = 0; i < sizeof trace; i++) trace[i] = 7;
+}
+
+/* Whether all words and scores are this number, and the trace begins with so many written bytes, 0 and 1 by turns. */
+static bool holds(uint32_t number, size_t written) {
+    for (size_t i = 0; i < 8388608; i++) if (words[i] != number) return false;
+    for (size_t i = 0; i < 65536; i++) if (scores[i] != number) return false;
+    for (size_t i = 0; i < sizeof trace; i++) if (trace[i] != (i < written ? i % 2 : 7)) return false;
+    return true;
+}
+
+/* One check of the wire against a record, with so many words lent. */
+static void checks(const char *what, const uint8_t *gate, size_t gate_length, uint64_t depth, size_t words_length, struct struo_check_answer expected, size_t written) {
+    hold();
+    struct struo_check_answer answer = struo_check(wire, sizeof wire, gate, gate_length, depth, trace, sizeof trace, words, words_length, scores, 65536);
+    bool same = answer.number == expected.number && answer.side == expected.side && answer.place == expected.place && answer.status == expected.status
+        && answer.depth == expected.depth && answer.mismatch == expected.mismatch && answer.query == expected.query;
+    if (!same || !holds(answer.number == 0 ? 0 : 7, written)) {
+        printf("boundary: %s: %u %u %u %u %u %u %u, or a byte lent, is not as expected\n", what, answer.number, answer.side, answer.place, answer.status,
+               answer.depth, answer.mismatch, answer.query);
+        failed = 1;
+    }
+}
+
 int main(void) {
     uint8_t other[19];
     reads("wire", wire, sizeof wire, 0, 0);
@@ -52,6 +85,11 @@ int main(void) {
         printf("boundary: a claim of cycle 65 is not refused with 25\n");
         failed = 1;
     }
+    checks("wire against inverter", inverter, sizeof inverter, 1, 8388608, (struct struo_check_answer){.status = 1, .depth = 1}, 2);
+    checks("wire against itself", wire, sizeof wire, 64, 8388608, (struct struo_check_answer){.status = 0, .depth = 1}, 0);
+    checks("depth 0", wire, sizeof wire, 0, 8388608, (struct struo_check_answer){.number = 16}, 0);
+    checks("a cut gate", inverter, 5, 1, 8388608, (struct struo_check_answer){.number = 1, .side = 1}, 0);
+    checks("a word short", inverter, sizeof inverter, 1, 8388607, (struct struo_check_answer){.number = 24}, 0);
     if (!failed) printf("boundary: the C calls answer as document 01 says\n");
     return failed;
 }

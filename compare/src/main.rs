@@ -1,10 +1,17 @@
-//! Compares the library with the oracle: `compare read COUNT SEED`, `compare replay COUNT SEED`; measures both: `compare bench SEED`.
+//! Compares the library with the oracle: `compare read COUNT SEED`, `replay COUNT SEED`, `check COUNT SEED`, `solve COUNT SEED`, `build COUNT SEED`;
+//! measures both: `bench SEED`, `bench-check SEED`, `bench-solve SEED`, `bench-build SEED`.
 use std::process::ExitCode;
 
 mod bench;
+mod bench_build;
+mod bench_check;
+mod bench_solve;
 mod boundary;
+mod checks;
+mod lent;
 mod reads;
 mod replays;
+mod solve;
 
 fn number(word: Option<&String>) -> u64 {
     word.and_then(|word| word.parse().ok()).unwrap_or(1)
@@ -24,12 +31,18 @@ fn main() -> ExitCode {
             println!("{} replays, {} yes, {} refused, {} differ", tally.calls, tally.yes, tally.refused, tally.differ);
             ExitCode::from(u8::from(tally.differ > 0))
         }
+        Some("check") => checks::compare(number(words.get(2)), number(words.get(3))),
+        Some("solve") => solve::compare(number(words.get(2)), number(words.get(3))),
+        Some("build") => bench_build::compare(number(words.get(2)), number(words.get(3))),
+        Some("bench-build") => bench_build::graphs(number(words.get(2))),
+        Some("bench-solve") => bench_solve::searches(number(words.get(2))),
         Some("bench") => {
             bench::reads(number(words.get(2)));
             ExitCode::SUCCESS
         }
+        Some("bench-check") => bench_check::checks(number(words.get(2))),
         _ => {
-            println!("compare read COUNT SEED | replay COUNT SEED | bench SEED");
+            println!("compare read COUNT SEED | replay COUNT SEED | check COUNT SEED | solve COUNT SEED | build COUNT SEED | bench SEED | bench-check SEED | bench-solve SEED | bench-build SEED");
             ExitCode::from(2)
         }
     }

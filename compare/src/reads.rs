@@ -41,7 +41,7 @@ fn byte(rng: &mut Rng) -> u8 {
 }
 
 /// A record with some bytes changed, cut, added or moved; the length field mostly as it should be.
-fn damaged(rng: &mut Rng, whole: &[u8]) -> Vec<u8> {
+pub fn damaged(rng: &mut Rng, whole: &[u8]) -> Vec<u8> {
     let mut rest = whole[5..].to_vec();
     for _ in 0..rng.range(1, 3) {
         let place = rng.below(rest.len().max(1));

@@ -1,5 +1,6 @@
 //! A design as the Rust has it, and the agreement of the Rust's own checks with document 01's refusals.
 use crate::equivalence::{validate_problem, EquivalenceError};
+use crate::meter::plain_node;
 use crate::record::{register_nets, Design, Node, Refusal, Register};
 use crate::struo_ir::{ActiveLevel, ClockEdge, EnableControl, NetId, Netlist, NodeKind, RegisterCell, ResetControl, ValidationError};
 use crate::transition::{TransitionError, TransitionSystem};
@@ -61,7 +62,17 @@ pub fn netlist(design: &Design) -> Netlist {
 
 /// The transition system of a design that passed 1 to 15.
 pub fn system(design: &Design) -> TransitionSystem {
-    TransitionSystem::from_netlist(&netlist(design)).expect("an accepted design is lowered")
+    lower(&netlist(design))
+}
+
+/// The Rust's lowering of a netlist.
+pub fn lower(netlist: &Netlist) -> TransitionSystem {
+    TransitionSystem::from_netlist(netlist).expect("an accepted design is lowered")
+}
+
+/// The nodes of a netlist's transition graph, node 0 first: none for it and for a variable.
+pub fn lowered(netlist: &Netlist) -> Vec<Option<(usize, usize)>> {
+    lower(netlist).aig.nodes().iter().map(plain_node).collect()
 }
 
 /// The first of these numbers that is not below a limit.

@@ -4,8 +4,7 @@ use std::process::ExitCode;
 
 use oracle::families::{generate, FAMILIES};
 use oracle::meter::Wish;
-use oracle::pair::Lent;
-use oracle::{asserts, check, solving, vectors};
+use oracle::{asserts, solving, vectors};
 
 const USAGE: &str = "oracle answer FILE | verify FILE | generate FAMILY COUNT SEED | assert COUNT SEED | queries FILE | queries FAMILY COUNT SEED | trace FILE TURNS | totals FILE
 FILE may be - for the standard input.";
@@ -64,15 +63,6 @@ fn assert(count: usize, seed: u64) -> ExitCode {
     ExitCode::from(u8::from(!summary.failures.is_empty()))
 }
 
-/// The report of a check line's search.
-fn report(left: &str, wish: Wish) -> Option<oracle::meter::Report> {
-    let words: Vec<&str> = left.split(' ').collect();
-    let ["check", gold, gate, depth, trace, work, scores] = words[..] else { return None };
-    let parse = |word: &str| word.parse::<u64>().unwrap_or_else(|_| panic!("no number: {word}"));
-    let lent = Lent { trace: parse(trace), words: parse(work), scores: parse(scores) };
-    Some(check::check_reporting(&vectors::unhex(gold), &vectors::unhex(gate), parse(depth), lent, wish).1)
-}
-
 /// Prints the SAT problems of check lines as solve lines.
 fn queries(lines: &[String]) -> ExitCode {
     for line in lines {
@@ -82,7 +72,7 @@ fn queries(lines: &[String]) -> ExitCode {
             continue;
         }
         let wish = Wish { problems: true, ..Wish::default() };
-        for problem in report(left, wish).unwrap_or_default().problems {
+        for problem in vectors::report(left, wish).unwrap_or_default().problems {
             println!("{}", vectors::answered(&format!("solve {} {}", wish.limit, solving::problem_words(&problem))));
         }
     }
@@ -94,9 +84,9 @@ fn totals(lines: &[String]) -> ExitCode {
     for line in lines {
         let Some((left, _)) = vectors::split(line) else { continue };
         let wish = Wish { clauses: true, ..Wish::default() };
-        for query in report(left, wish).unwrap_or_default().queries {
-            let oracle::meter::Query { depth, number, learned, conflicts, rescales, next, ending, nodes, unwatched, repeated } = query;
-            println!("depth {depth} query {number} learned {learned} conflicts {conflicts} rescales {rescales} next {next} nodes {nodes} unwatched {unwatched} repeated {repeated} {ending:?}");
+        for query in vectors::report(left, wish).unwrap_or_default().queries {
+            let oracle::meter::Query { depth, number, learned, conflicts, propagations, rescales, next, ending, nodes, unwatched, repeated } = query;
+            println!("depth {depth} query {number} learned {learned} conflicts {conflicts} propagations {propagations} rescales {rescales} next {next} nodes {nodes} unwatched {unwatched} repeated {repeated} {ending:?}");
         }
     }
     ExitCode::SUCCESS

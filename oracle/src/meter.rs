@@ -1,5 +1,5 @@
 //! What the patched search reports: queries, learned literals against a limit, rescales, problems and states.
-use std::cell::RefCell;
+use std::cell::{Cell, RefCell};
 use std::collections::HashSet;
 
 use crate::aig::{Aig, Literal, Node};
@@ -18,7 +18,7 @@ pub enum Ending {
     GaveUp,
 }
 
-/// One query: its depth and number, its learned literals, learned clauses and rescales, the length of the clause that it gave up at, its ending and its graph's nodes;
+/// One query: its depth and number, its learned literals, learned clauses, literals propagated and rescales, the length of the clause that it gave up at, its ending and its graph's nodes;
 /// where clauses are kept, how many had the asserting literal at neither watched place, and how many repeated an earlier learned one.
 #[derive(Clone, Debug)]
 pub struct Query {
@@ -26,6 +26,7 @@ pub struct Query {
     pub number: usize,
     pub learned: usize,
     pub conflicts: usize,
+    pub propagations: usize,
     pub rescales: usize,
     pub next: usize,
     pub ending: Ending,
@@ -91,6 +92,7 @@ struct Meter {
 
 thread_local! {
     static METER: RefCell<Meter> = RefCell::new(Meter::default());
+    static PROPAGATIONS: Cell<usize> = const { Cell::new(0) };
 }
 
 /// Uses the meter of this thread.
@@ -115,6 +117,7 @@ pub(crate) fn query(depth: usize, number: usize) {
 
 /// A query begins: its problem.
 pub(crate) fn begin(aig: &Aig, assumptions: &[Literal]) {
+    PROPAGATIONS.set(0);
     with(|meter| {
         let (depth, number) = meter.next;
         meter.clauses.clear();
@@ -123,6 +126,7 @@ pub(crate) fn begin(aig: &Aig, assumptions: &[Literal]) {
             number,
             learned: 0,
             conflicts: 0,
+            propagations: 0,
             rescales: 0,
             next: 0,
             ending: Ending::GaveUp,
@@ -157,6 +161,7 @@ pub(crate) fn learn(length: usize, clause: impl FnOnce() -> Vec<usize>) {
         let query = meter.report.queries.last_mut().expect("a query has begun");
         if query.learned + length > limit {
             query.next = length;
+            query.propagations = PROPAGATIONS.get();
             return true;
         }
         query.conflicts += 1;
@@ -177,6 +182,11 @@ fn keep(meter: &mut Meter, mut clause: Vec<usize>) {
     query.repeated += usize::from(!meter.clauses.insert(clause));
 }
 
+/// A literal of the trail is propagated.
+pub(crate) fn propagated() {
+    PROPAGATIONS.set(PROPAGATIONS.get() + 1);
+}
+
 /// The scores were rescaled.
 pub(crate) fn rescaled() {
     with(|meter| meter.report.queries.last_mut().expect("a query has begun").rescales += 1);
@@ -195,6 +205,7 @@ pub(crate) fn turn(state: impl FnOnce() -> State) {
 pub(crate) fn end(model: Option<&[bool]>) {
     with(|meter| {
         let query = meter.report.queries.last_mut().expect("a query has begun");
+        query.propagations = PROPAGATIONS.get();
         query.ending = if model.is_some() { Ending::Model } else { Ending::NoModel };
         if let Some(problem) = meter.report.problems.last_mut() {
             problem.model = model.map(<[bool]>::to_vec);

@@ -1,6 +1,6 @@
 //! The vector lines: one case a line, its call left of `=`, its answer right of it.
 use crate::check::{check, check_reporting, CheckAnswer};
-use crate::meter::Wish;
+use crate::meter::{Report, Wish};
 use crate::pair::{Lent, SCORES, WORDS};
 use crate::record::{read, Refusal};
 use crate::run::{replay, ReplayAnswer};
@@ -107,4 +107,13 @@ pub fn answered(line: &str) -> String {
         None => line.into(),
         Some((left, _)) => format!("{left} = {}", answer(left)),
     }
+}
+
+/// What the search of a check line reported; none for another line.
+pub fn report(left: &str, wish: Wish) -> Option<Report> {
+    let words: Vec<&str> = left.split(' ').collect();
+    let ["check", gold, gate, depth, trace, work, scores] = words[..] else { return None };
+    let parse = |word: &str| word.parse::<u64>().unwrap_or_else(|_| panic!("no number: {word}"));
+    let lent = Lent { trace: parse(trace), words: parse(work), scores: parse(scores) };
+    Some(check_reporting(&unhex(gold), &unhex(gate), parse(depth), lent, wish).1)
 }

@@ -1,17 +1,18 @@
 // One line of the list: its call is made and its answer compared.
+use crate::checks::run_check;
 use crate::outcome::NUMBER;
 use crate::outcome::Outcome;
 use crate::outcome::PLACE;
 use crate::outcome::SIDE;
 use crate::outcome::YES;
 use crate::outcome::compared;
-use crate::text::begins;
-use crate::text::equals;
-use crate::text::first;
-use crate::text::hex;
-use crate::text::number;
-use crate::text::space;
-use crate::text::yes_or_no;
+use lender::text::begins;
+use lender::text::equals;
+use lender::text::first;
+use lender::text::hex;
+use lender::text::number;
+use lender::text::space;
+use lender::text::yes_or_no;
 
 // The answer for a record, compared with the numbers at an offset of the line.
 fn judge_read(line: &[u8], from: usize, gold: &[u8], n: usize) -> Outcome {
@@ -80,7 +81,15 @@ fn run_replay(line: &[u8], gold: &mut [u8], gate: &mut [u8], claim: &mut [u8]) -
 }
 
 // A line of the list.
-pub fn run_line(line: &[u8], gold: &mut [u8], gate: &mut [u8], claim: &mut [u8]) -> Outcome {
+pub fn run_line(
+    line: &[u8],
+    gold: &mut [u8],
+    gate: &mut [u8],
+    claim: &mut [u8],
+    trace: &mut [u8],
+    words: &mut [u32],
+    scores: &mut [f64],
+) -> Outcome {
     if begins(line, b"read ") {
         return run_read(line, gold);
     }
@@ -88,7 +97,7 @@ pub fn run_line(line: &[u8], gold: &mut [u8], gate: &mut [u8], claim: &mut [u8])
         return run_replay(line, gold, gate, claim);
     }
     if begins(line, b"check ") {
-        return Outcome::Skipped;
+        return run_check(line, gold, gate, claim, trace, words, scores);
     }
     Outcome::Malformed
 }

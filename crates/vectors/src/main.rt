@@ -1,8 +1,9 @@
 // Runs a file of recorded calls, compares every answer with the recorded one, and says how many lines differ.
 mod cases;
+mod checks;
+mod lent;
 mod outcome;
 mod tally;
-mod text;
 
 use tally::Tally;
 use tally::feed;
@@ -21,6 +22,9 @@ fn some_lines(
     gold: &mut [u8],
     gate: &mut [u8],
     claim: &mut [u8],
+    trace: &mut [u8],
+    words: &mut [u32],
+    scores: &mut [f64],
     t: Tally,
 ) -> Part {
     let mut buf = io::large_buffer();
@@ -31,7 +35,7 @@ fn some_lines(
             more: false,
         };
     }
-    let next = feed(&buf[..n], line, gold, gate, claim, t);
+    let next = feed(&buf[..n], line, gold, gate, claim, trace, words, scores, t);
     Part {
         tally: next,
         more: true,
@@ -45,6 +49,9 @@ fn all_lines(
     gold: &mut [u8],
     gate: &mut [u8],
     claim: &mut [u8],
+    trace: &mut [u8],
+    words: &mut [u32],
+    scores: &mut [f64],
 ) -> Tally {
     let mut t = Tally {
         held: 0,
@@ -55,7 +62,7 @@ fn all_lines(
     };
     let mut turns = u64::MAX;
     while 0 < turns {
-        let part = some_lines(fd, line, gold, gate, claim, t);
+        let part = some_lines(fd, line, gold, gate, claim, trace, words, scores, t);
         t = part.tally;
         if !part.more {
             return t;
@@ -81,7 +88,19 @@ fn main() {
     let mut gold = [0u8; 131072];
     let mut gate = [0u8; 131072];
     let mut claim = [0u8; 131072];
-    let t = all_lines(fd, &mut line, &mut gold, &mut gate, &mut claim);
+    let mut trace = lender::trace();
+    let mut words = lender::words();
+    let mut scores = lender::scores();
+    let t = all_lines(
+        fd,
+        &mut line,
+        &mut gold,
+        &mut gate,
+        &mut claim,
+        &mut trace,
+        &mut words,
+        &mut scores,
+    );
     libc::close(fd);
     tell(t);
 }

@@ -75,12 +75,18 @@ fn tell_part(what: u8) {
     );
 }
 
-// A differing line: its number in the file and what differs.
+// A differing line: its number in the file and what differs; of a buffer the first place.
 pub fn tell_difference(line: u64, d: Difference) {
     io::write_all(STDOUT_FILENO, b"line ");
     io::print_decimal(STDOUT_FILENO, line);
     io::write_all(STDOUT_FILENO, b": ");
     tell_part(d.what);
+    if TRACE <= d.what {
+        io::write_all(STDOUT_FILENO, b" differs at ");
+        io::print_decimal(STDOUT_FILENO, d.answered);
+        io::write_all(STDOUT_FILENO, b"\n");
+        return;
+    }
     io::write_all(STDOUT_FILENO, b" is ");
     io::print_decimal(STDOUT_FILENO, d.answered);
     io::write_all(STDOUT_FILENO, b", expected ");

@@ -3,7 +3,7 @@ use crate::cases::run_line;
 use crate::outcome::Outcome;
 use crate::outcome::tell_difference;
 use crate::outcome::tell_malformed;
-use crate::text::first;
+use lender::text::first;
 use libc::STDOUT_FILENO;
 
 // How many bytes of a line are held, how many lines ended, and what came of those that make a call.
@@ -42,7 +42,16 @@ fn counted(t: Tally, outcome: Outcome) -> Tally {
 }
 
 // The end of a line: comments and empty lines make no call.
-fn end_line(line: &[u8], gold: &mut [u8], gate: &mut [u8], claim: &mut [u8], t: Tally) -> Tally {
+fn end_line(
+    line: &[u8],
+    gold: &mut [u8],
+    gate: &mut [u8],
+    claim: &mut [u8],
+    trace: &mut [u8],
+    words: &mut [u32],
+    scores: &mut [f64],
+    t: Tally,
+) -> Tally {
     let n = t.held;
     let mut next = t;
     next.held = 0;
@@ -56,7 +65,7 @@ fn end_line(line: &[u8], gold: &mut [u8], gate: &mut [u8], claim: &mut [u8], t: 
     if line[0] == b'#' {
         return next;
     }
-    let outcome = run_line(first(line, n), gold, gate, claim);
+    let outcome = run_line(first(line, n), gold, gate, claim, trace, words, scores);
     counted(next, outcome)
 }
 
@@ -79,11 +88,14 @@ fn byte(
     gold: &mut [u8],
     gate: &mut [u8],
     claim: &mut [u8],
+    trace: &mut [u8],
+    words: &mut [u32],
+    scores: &mut [f64],
     t: Tally,
     b: u8,
 ) -> Tally {
     if b == b'\n' {
-        return end_line(line, gold, gate, claim, t);
+        return end_line(line, gold, gate, claim, trace, words, scores, t);
     }
     keep(line, t, b)
 }
@@ -95,12 +107,15 @@ pub fn feed(
     gold: &mut [u8],
     gate: &mut [u8],
     claim: &mut [u8],
+    trace: &mut [u8],
+    words: &mut [u32],
+    scores: &mut [f64],
     start: Tally,
 ) -> Tally {
     let mut t = start;
     let mut i: usize = 0;
     while i < part.len() {
-        t = byte(line, gold, gate, claim, t, part[i]);
+        t = byte(line, gold, gate, claim, trace, words, scores, t, part[i]);
         i += 1;
     }
     t

@@ -1,3 +1,4 @@
+-- `feed` ends, and its buffers keep their lengths. Assumes nothing.
 use Prim.Native.Nat.{ℕ, _+_, _-_, _*_, _<_, _≤_}
 use mathlib.Core.Path.{_≡_}
 use lib.ListN.{length}
@@ -7,12 +8,12 @@ use Rattle.vectors.proofs.tally.feed.Statement.{statement}
 use Rattle.vectors.proofs.tally.feed.Tie as tie
 
 abbrev Inv-loop : tie.InvT-loop
-Inv-loop part line₀ gold₀ gate₀ claim₀ t₀ i₀ line gold gate claim t i = (length line ≡ length line₀) × (length gold ≡ length gold₀) × (length gate ≡ length gate₀) × (length claim ≡ length claim₀)
+Inv-loop part line₀ gold₀ gate₀ claim₀ trace₀ words₀ scores₀ t₀ i₀ line gold gate claim trace words scores t i = (length line ≡ length line₀) × (length gold ≡ length gold₀) × (length gate ≡ length gate₀) × (length claim ≡ length claim₀) × (length trace ≡ length trace₀) × (length words ≡ length words₀) × (length scores ≡ length scores₀)
 
 abbrev μ-loop : tie.MeasureT-loop
-μ-loop part line₀ gold₀ gate₀ claim₀ t₀ i₀ line gold gate claim t i = length part - i
+μ-loop part line₀ gold₀ gate₀ claim₀ trace₀ words₀ scores₀ t₀ i₀ line gold gate claim trace words scores t i = length part - i
 
 pub feed-spec : {M : Type 1} → statement M
 feed-spec =
     tie.close
-    (tie.spec Inv-loop μ-loop (λ c. search needs) (λ c. search needs) (λ c κs. search needs) (λ c. search needs) (λ c. search needs) (λ c. search needs) (λ c. search needs) (λ c. search needs) (λ c. search needs) (λ c. search needs) (λ c. search needs))
+    (tie.spec Inv-loop μ-loop (λ c. search needs) (λ c. search needs) (λ c κs. search needs) (λ c. search needs) (λ c. search needs) (λ c. search needs) (λ c. search needs) (λ c. search needs) (λ c. search needs) (λ c. search needs) (λ c. search needs) (λ c. search needs) (λ c. search needs) (λ c. search needs))

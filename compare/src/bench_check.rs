@@ -1,0 +1,133 @@
+//! Measures whole checks of the library beside the Rust's prove_sequential_equivalence on the same pairs, in one run.
+use std::hint::black_box;
+use std::process::ExitCode;
+
+use oracle::bridge::netlist;
+use oracle::check::{check, CheckAnswer};
+use oracle::equivalence::prove_sequential_equivalence;
+use oracle::families::generate;
+use oracle::meter::{self, Wish};
+use oracle::pair::{Lent, SCORES, WORDS};
+use oracle::record::{self, encode};
+use oracle::shapes;
+use oracle::struo_ir::Netlist;
+use oracle::transition::TransitionSystem;
+use oracle::vectors::{check_line, unhex};
+
+use crate::boundary;
+
+/// One accepted check: the records, their netlists for the Rust, the depth and the oracle's answer.
+struct Pair {
+    gold: Vec<u8>,
+    gate: Vec<u8>,
+    netlists: (Netlist, Netlist),
+    depth: u64,
+    answer: CheckAnswer,
+}
+
+const LENT: Lent = Lent { trace: 8_192, words: WORDS, scores: SCORES };
+
+/// The pair of a check line; none where it is refused.
+fn pair(line: &str) -> Option<Pair> {
+    let words: Vec<&str> = line.split(' ').collect();
+    let ["check", gold, gate, depth, ..] = words[..] else { return None };
+    let (gold, gate, depth) = (unhex(gold), unhex(gate), depth.parse().expect("a depth"));
+    let answer = check(&gold, &gate, depth, LENT);
+    if answer.refusal.is_some() {
+        return None;
+    }
+    let read = |bytes: &[u8]| netlist(&record::read(bytes).expect("accepted"));
+    let netlists = (read(&gold), read(&gate));
+    Some(Pair { gold, gate, netlists, depth, answer })
+}
+
+/// The seconds and nanoseconds of a clock.
+#[repr(C)]
+struct Moment {
+    seconds: i64,
+    nanoseconds: i64,
+}
+
+extern "C" {
+    fn clock_gettime(clock: i32, moment: *mut Moment) -> i32;
+}
+
+/// The milliseconds that this thread has run so far: other work on the machine does not count.
+fn spent() -> f64 {
+    const THREAD_CPU_TIME: i32 = 3;
+    let mut moment = Moment { seconds: 0, nanoseconds: 0 };
+    // The call writes one moment.
+    let status = unsafe { clock_gettime(THREAD_CPU_TIME, &mut moment) };
+    assert_eq!(status, 0, "the system has a clock for threads");
+    moment.seconds as f64 * 1e3 + moment.nanoseconds as f64 / 1e6
+}
+
+/// The mean time of a call in milliseconds, over enough rounds of all pairs to fill half a second.
+fn mean(pairs: &[Pair], mut call: impl FnMut(&Pair)) -> f64 {
+    pairs.iter().take(1).for_each(&mut call);
+    let start = spent();
+    let mut rounds = 0u32;
+    while spent() - start < 500.0 {
+        pairs.iter().for_each(&mut call);
+        rounds += 1;
+    }
+    (spent() - start) / f64::from(rounds) / pairs.len() as f64
+}
+
+/// The Rust's check of two netlists; its give-up leaves it by unwinding.
+fn rust(pair: &Pair) {
+    meter::reset(Wish::default());
+    let system = |netlist: &Netlist| TransitionSystem::from_netlist(netlist).expect("an accepted design is lowered");
+    let (gold, gate) = (&pair.netlists.0, &pair.netlists.1);
+    black_box(meter::unless_gave_up(|| prove_sequential_equivalence(&system(gold), &system(gate), pair.depth as usize).is_ok()));
+}
+
+/// The groups of pairs, from such as search nothing to such as search for seconds.
+fn groups(seed: u64) -> Vec<(&'static str, Vec<String>)> {
+    let lone = encode(&shapes::lone());
+    let counter = |count| encode(&shapes::counter("c", 9, count, false));
+    let one = |family: &str, place: usize| vec![generate(family, 10, seed).into_iter().filter(|line| line.starts_with("check ")).nth(place).expect("a line")];
+    let deep = generate("deep", 30, seed).split_off(3);
+    vec![
+        ("nothing to search", vec![check_line(&lone, &lone, 1, LENT)]),
+        ("random pairs, to 30 gates a side", generate("pairs", 60, seed)),
+        ("rewritten pairs", generate("rewritten", 60, seed)),
+        ("proofs that close at depth 2 to 14", generate("late", 30, seed)),
+        ("products of 3 to 5 bits", generate("hard", 20, seed)),
+        ("differences at cycle 2 to 46", deep),
+        ("a row of 64 registers, depth 64", one("deep", 0)),
+        ("the bound 65,535, depth 64", one("limits", 0)),
+        ("nine-bit counters, depth 64", vec![check_line(&counter(260), &counter(255), 64, LENT)]),
+        ("a product of 6 bits, a rescaling", one("rescale", 0)),
+        ("give-up in query 1", one("giveup", 2)),
+        ("give-up in query 2", one("giveup", 3)),
+        ("give-up in query 3", one("giveup", 4)),
+        ("give-up in query 4", one("giveup", 5)),
+    ]
+}
+
+/// Prints the table. What clearing costs is the time of the check that searches nothing.
+pub fn checks(seed: u64) -> ExitCode {
+    let (mut trace, mut words, mut scores) = (vec![0u8; LENT.trace as usize], vec![0u32; WORDS as usize], vec![0f64; SCORES as usize]);
+    let start = spent();
+    (0..20).for_each(|_| {
+        black_box(&mut words).fill(0);
+        black_box(&mut scores).fill(0.0);
+    });
+    println!("filling 8,388,608 words and 65,536 scores with zeros from Rust: {:.1} ms", (spent() - start) / 20.0);
+    println!("| pairs | checks | most learned | Rust ms | library ms | ratio | library without clearing ms | ratio |");
+    println!("|---|---|---|---|---|---|---|---|");
+    let mut clearing = None;
+    for (name, lines) in groups(seed) {
+        let pairs: Vec<Pair> = lines.iter().filter_map(|line| pair(line)).collect();
+        let learned = pairs.iter().map(|pair| pair.answer.learned).max().unwrap_or(0);
+        let own = mean(&pairs, |pair| {
+            black_box(boundary::check(black_box(&pair.gold), black_box(&pair.gate), pair.depth, &mut trace, &mut words, &mut scores));
+        });
+        let theirs = mean(&pairs, rust);
+        let clear = *clearing.get_or_insert(own);
+        let rest = own - clear;
+        println!("| {name} | {} | {learned} | {theirs:.2} | {own:.2} | {:.2} | {rest:.2} | {:.2} |", pairs.len(), own / theirs, rest / theirs);
+    }
+    ExitCode::SUCCESS
+}

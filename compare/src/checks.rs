@@ -1,0 +1,347 @@
+//! Checks: pairs of every family of the oracle, each answered by the library and by the oracle, every byte lent watched.
+use std::process::ExitCode;
+use std::sync::atomic::{AtomicUsize, Ordering};
+
+use oracle::check::{self, CheckAnswer};
+use oracle::families::generate;
+use oracle::pair::{Lent, SCORES, WORDS};
+use oracle::rng::Rng;
+use oracle::vectors::{check_line, check_words, split, unhex};
+
+use crate::boundary::{self, Check};
+use crate::lent::{Memory, Trace};
+use crate::reads::damaged;
+
+/// A check as the library has it: gold, gate, depth, trace, words, scores.
+pub trait Call: Fn(&[u8], &[u8], u64, &mut [u8], &mut [u32], &mut [f64]) -> Check + Sync {}
+impl<F: Fn(&[u8], &[u8], u64, &mut [u8], &mut [u32], &mut [f64]) -> Check + Sync> Call for F {}
+
+/// How many checks were made, by what the oracle says of them, and how many answers or bytes differ.
+#[derive(Default)]
+pub struct Tally {
+    pub pairs: u64,
+    pub checks: u64,
+    pub differ: u64,
+    /// Checks by refusal number, 0 for accepted ones.
+    pub refusals: [u64; 26],
+    /// Accepted checks by status.
+    pub statuses: [u64; 4],
+    /// Give-ups by query, 1 to 4.
+    pub gave_up: [u64; 5],
+    /// The largest depth answered, the latest mismatch, the most literals learned in a query.
+    pub deepest: usize,
+    pub latest: usize,
+    pub learned: usize,
+}
+
+impl Tally {
+    /// One more check with its answer.
+    fn count(&mut self, answer: &CheckAnswer) {
+        self.checks += 1;
+        self.refusals[answer.refusal.map_or(0, |refusal| usize::from(refusal.number))] += 1;
+        if answer.refusal.is_none() {
+            self.statuses[usize::from(answer.status)] += 1;
+            self.gave_up[answer.query] += u64::from(answer.query > 0);
+        }
+        self.deepest = self.deepest.max(answer.depth);
+        self.latest = self.latest.max(answer.mismatch);
+        self.learned = self.learned.max(answer.learned);
+    }
+
+    /// Both tallies.
+    fn with(mut self, other: Self) -> Self {
+        self.pairs += other.pairs;
+        self.checks += other.checks;
+        self.differ += other.differ;
+        let add = |ours: &mut [u64], theirs: &[u64]| ours.iter_mut().zip(theirs).for_each(|(our, their)| *our += their);
+        add(&mut self.refusals, &other.refusals);
+        add(&mut self.statuses, &other.statuses);
+        add(&mut self.gave_up, &other.gave_up);
+        self.deepest = self.deepest.max(other.deepest);
+        self.latest = self.latest.max(other.latest);
+        self.learned = self.learned.max(other.learned);
+        self
+    }
+}
+
+/// One call: two records, the depth and the lengths lent.
+struct Asked<'a> {
+    gold: &'a [u8],
+    gate: &'a [u8],
+    depth: u64,
+    lent: Lent,
+}
+
+/// The oracle's answer in the library's numbers.
+fn expected(answer: &CheckAnswer) -> Check {
+    match answer.refusal {
+        Some(refusal) => {
+            Check { number: u32::from(refusal.number), side: u32::from(refusal.side), place: refusal.place as u32, ..Check::default() }
+        }
+        None => Check {
+            status: u32::from(answer.status),
+            depth: answer.depth as u32,
+            mismatch: answer.mismatch as u32,
+            query: answer.query as u32,
+            ..Check::default()
+        },
+    }
+}
+
+/// What a thread works with: memory for accepted checks, and memory that refused ones must leave alone.
+struct Worker<'a, C> {
+    call: &'a C,
+    rng: Rng,
+    used: Memory,
+    held: Memory,
+    tally: Tally,
+}
+
+impl<C: Call> Worker<'_, C> {
+    /// One check, made by both; the oracle's answer says which memory is lent.
+    fn check(&mut self, asked: Asked) {
+        let answer = check::check(asked.gold, asked.gate, asked.depth, asked.lent);
+        self.tally.count(&answer);
+        let accepted = answer.refusal.is_none();
+        let mut lent = asked.lent;
+        if answer.refusal.is_some_and(|refusal| refusal.number != 24) && !self.rng.one_in(8) {
+            lent = Lent { trace: self.rng.below(40) as u64, words: self.rng.below(200) as u64, scores: self.rng.below(200) as u64 };
+        }
+        let mut trace = Trace::new(&mut self.rng, lent.trace as usize);
+        let memory = if accepted { &mut self.used } else { &mut self.held };
+        if accepted {
+            memory.guard(lent);
+            memory.dirty(&mut self.rng, lent);
+        }
+        let (words, scores) = memory.lend(lent);
+        let told = (self.call)(asked.gold, asked.gate, asked.depth, trace.lend(), words, scores);
+        let wanted = expected(&answer);
+        let fault = (told != wanted)
+            .then(|| format!("{told:?}"))
+            .or_else(|| trace.fault(&answer.trace))
+            .or_else(|| memory.fault(lent, accepted));
+        if let Some(fault) = fault {
+            self.tally.differ += 1;
+            memory.refill();
+            if self.tally.differ <= 5 {
+                println!("{} = {}: {fault}", check_line(asked.gold, asked.gate, asked.depth, lent), check_words(&answer));
+            }
+        }
+    }
+
+    /// A pair with its swap, both self checks, a damaged record on either side, and other buffers or depths.
+    fn pair(&mut self, gold: &[u8], gate: &[u8], depth: u64, lent: Lent, quick: bool) {
+        self.tally.pairs += 1;
+        for (gold, gate) in [(gold, gate), (gate, gold), (gold, gold), (gate, gate)] {
+            self.check(Asked { gold, gate, depth, lent });
+        }
+        let (worse_gold, worse_gate) = (damaged_or_empty(&mut self.rng, gold), damaged_or_empty(&mut self.rng, gate));
+        let (gold_side, gate_side) = (self.rng.one_in(2), self.rng.one_in(2));
+        if quick {
+            let (other_gold, other_gate) = (if gold_side { &worse_gold } else { gold }, if gate_side { &worse_gate } else { gate });
+            self.check(Asked { gold: other_gold, gate: other_gate, depth, lent });
+        }
+        let (depth, lent) = self.varied(depth, lent, quick);
+        self.check(Asked { gold, gate, depth, lent });
+    }
+
+    /// Another depth or other lengths; where a search takes long only such as are refused.
+    fn varied(&mut self, depth: u64, lent: Lent, quick: bool) -> (u64, Lent) {
+        match self.rng.below(if quick { 12 } else { 3 }) {
+            0 => (depth, Lent { words: WORDS - 1, ..lent }),
+            1 => (depth, Lent { scores: SCORES - 1, ..lent }),
+            2 => (*self.rng.pick(&[0, 65, 66, 1 << 32, u64::MAX]), lent),
+            3 | 4 => (depth, Lent { trace: lent.trace.saturating_sub(1), ..lent }),
+            5 => (depth, Lent { trace: 0, words: 0, scores: 0 }),
+            6 => (depth, Lent { trace: lent.trace + 1_000, words: WORDS + 4_096, scores: SCORES + 17 }),
+            7 => (depth, Lent { trace: lent.trace + 1, words: WORDS + 1, scores: SCORES + 1 }),
+            8 => (depth + 1, lent),
+            _ => (self.rng.range(1, 4) as u64, lent),
+        }
+    }
+
+    /// A block of pairs.
+    fn block(&mut self, block: &Block) {
+        self.rng = Rng::new(block.seed);
+        for line in block.lines() {
+            let (left, _) = split(&line).expect("a check line");
+            let words: Vec<&str> = left.split(' ').collect();
+            let ["check", gold, gate, depth, trace, work, scores] = words[..] else { panic!("no check: {line}") };
+            let number = |word: &str| word.parse::<u64>().expect("a number");
+            let lent = Lent { trace: number(trace), words: number(work), scores: number(scores) };
+            self.pair(&unhex(gold), &unhex(gate), number(depth), lent, block.quick());
+        }
+    }
+}
+
+/// A record with damage; none of it where there is nothing to damage.
+fn damaged_or_empty(rng: &mut Rng, whole: &[u8]) -> Vec<u8> {
+    if whole.len() < 5 { Vec::new() } else { damaged(rng, whole) }
+}
+
+/// Pairs of a family: how many, after how many that are left out, and the seed.
+struct Block {
+    family: &'static str,
+    count: usize,
+    skip: usize,
+    seed: u64,
+}
+
+impl Block {
+    /// The check lines.
+    fn lines(&self) -> Vec<String> {
+        let lines = generate(self.family, self.skip + self.count, self.seed);
+        lines.into_iter().skip(self.skip).filter(|line| line.starts_with("check ")).collect()
+    }
+
+    /// Whether its searches are short.
+    fn quick(&self) -> bool {
+        !matches!(self.family, "deep" | "hard" | "rescale" | "giveup" | "limits" | "cases")
+    }
+}
+
+/// Pairs in a block.
+const BLOCK: usize = 16;
+
+/// The family of a block: of 200 blocks 68 small, 68 pairs, 30 rewritten, 13 refusals, 10 buffers, 9 late, 1 hard, 1 deep.
+fn family(number: usize) -> &'static str {
+    match number * 73 % 200 {
+        0 => "deep",
+        1 => "hard",
+        2..=10 => "late",
+        11..=20 => "buffers",
+        21..=33 => "refusals",
+        34..=63 => "rewritten",
+        64..=131 => "pairs",
+        _ => "small",
+    }
+}
+
+/// The blocks of a run: the fixed families, from 10,000 pairs on those that search long too, then `count` random pairs.
+fn blocks(count: usize, seed: u64) -> Vec<Block> {
+    let fixed = |family: &'static str| Block { family, count: 200, skip: 0, seed };
+    let mut blocks = Vec::new();
+    if count >= 10_000 {
+        blocks.extend((0..6).map(|skip| Block { family: "giveup", count: 1, skip, seed }));
+        blocks.extend(["rescale", "cases"].map(fixed));
+        blocks.push(Block { family: "deep", count: 3, skip: 0, seed });
+    }
+    blocks.extend(["sides", "refusals"].map(fixed));
+    blocks.push(Block { family: "limits", count: 1, skip: 2, seed });
+    let mut left = count;
+    for number in 0.. {
+        if left == 0 {
+            break;
+        }
+        let family = family(number);
+        let (most, skip) = if family == "deep" { (6, 3) } else { (BLOCK, 0) };
+        let count = left.min(most);
+        blocks.push(Block { family, count, skip, seed: Rng::new(seed ^ (number as u64) << 20).next() });
+        left -= count;
+    }
+    blocks
+}
+
+/// Checks the fixed families and `count` random pairs through the library, and says what came of it; from 10,000 pairs on with the give-ups, the
+/// rescaling and the deepest searches.
+pub fn compare(count: u64, seed: u64) -> ExitCode {
+    let threads = std::thread::available_parallelism().map_or(1, usize::from);
+    let tally = run(usize::try_from(count).expect("a count fits"), seed, threads, &boundary::check);
+    println!("checks by refusal number, 0 accepted: {:?}", tally.refusals);
+    let [equivalent, different, inconclusive, gave_up] = tally.statuses;
+    println!("accepted: {equivalent} Equivalent, {different} NotEquivalent, {inconclusive} Inconclusive, {gave_up} GaveUp (by query {:?})", &tally.gave_up[1..]);
+    println!("deepest {}, latest mismatch {}, most learned {}", tally.deepest, tally.latest, tally.learned);
+    println!("{} pairs, {} checks, {} differ", tally.pairs, tally.checks, tally.differ);
+    ExitCode::from(u8::from(tally.differ > 0))
+}
+
+/// Checks the fixed families and `count` random pairs on so many threads.
+fn run(count: usize, seed: u64, threads: usize, call: &impl Call) -> Tally {
+    run_blocks(&blocks(count, seed), threads, call)
+}
+
+/// Checks the pairs of blocks; each thread takes the next block that none has taken.
+fn run_blocks(blocks: &[Block], threads: usize, call: &impl Call) -> Tally {
+    let next = AtomicUsize::new(0);
+    let work = || {
+        let mut worker = Worker { call, rng: Rng::new(0), used: Memory::held(), held: Memory::held(), tally: Tally::default() };
+        while let Some(block) = blocks.get(next.fetch_add(1, Ordering::Relaxed)) {
+            worker.block(block);
+        }
+        worker.tally
+    };
+    std::thread::scope(|scope| {
+        let spawn = |_| std::thread::Builder::new().stack_size(256 << 20).spawn_scoped(scope, work).expect("a thread");
+        let workers: Vec<_> = (0..threads).map(spawn).collect();
+        workers.into_iter().map(|worker| worker.join().expect("a thread ends")).fold(Tally::default(), Tally::with)
+    })
+}
+
+#[cfg(test)]
+mod tests {
+    use super::*;
+
+    /// Answers from the oracle, as a library that is right does.
+    fn honest(gold: &[u8], gate: &[u8], depth: u64, trace: &mut [u8], words: &mut [u32], scores: &mut [f64]) -> Check {
+        let lent = Lent { trace: trace.len() as u64, words: words.len() as u64, scores: scores.len() as u64 };
+        let answer = check::check(gold, gate, depth, lent);
+        if answer.refusal.is_none() {
+            trace[..answer.trace.len()].copy_from_slice(&answer.trace);
+            words.fill(0);
+            scores.fill(0.0);
+        }
+        expected(&answer)
+    }
+
+    /// A few pairs: small ones, ones with other buffers, and ones with a fault.
+    fn few() -> Vec<Block> {
+        let block = |family, count, skip| Block { family, count, skip, seed: 3 };
+        vec![block("small", 6, 0), block("buffers", 7, 0), block("refusals", 4, 84), block("sides", 60, 54)]
+    }
+
+    /// The checks that differ where `lie` changes what the honest library answered and left.
+    fn differing(lie: impl Fn(&mut Check, &mut [u8], &mut [u32], &mut [f64]) + Sync) -> u64 {
+        let call = |gold: &[u8], gate: &[u8], depth: u64, trace: &mut [u8], words: &mut [u32], scores: &mut [f64]| {
+            let mut answer = honest(gold, gate, depth, trace, words, scores);
+            lie(&mut answer, trace, words, scores);
+            answer
+        };
+        run_blocks(&few(), 1, &call).differ
+    }
+
+    #[test]
+    fn the_honest_library_differs_nowhere() {
+        let tally = run_blocks(&few(), 2, &honest);
+        assert_eq!(tally.differ, 0);
+        assert!(tally.statuses[0] > 0 && tally.statuses[1] > 0 && tally.refusals[24] > 0);
+    }
+
+    #[test]
+    fn a_wrong_answer_is_found() {
+        assert!(differing(|answer, _, _, _| answer.depth += u32::from(answer.number == 0)) > 0);
+        assert!(differing(|answer, _, _, _| answer.status = if answer.status == 1 { 2 } else { answer.status }) > 0);
+        assert!(differing(|answer, _, _, _| answer.place = 0) > 0);
+        assert!(differing(|answer, _, _, _| answer.side = 0) > 0);
+    }
+
+    #[test]
+    fn a_trace_byte_is_found() {
+        assert!(differing(|answer, trace, _, _| if answer.status == 1 { trace[0] ^= 1 }) > 0);
+        assert!(differing(|_, trace, _, _| if let Some(last) = trace.last_mut() { *last = 1 }) > 0);
+        assert!(differing(|answer, trace, _, _| if answer.number > 0 && !trace.is_empty() { trace[0] = 0 }) > 0);
+    }
+
+    #[test]
+    fn a_word_is_found() {
+        assert!(differing(|answer, _, words, _| if answer.number == 0 { words[8_388_607] = 1 }) > 0);
+        assert!(differing(|answer, _, words, _| if answer.number == 0 { words[4_000_001] = 1 << 31 }) > 0);
+        assert!(differing(|answer, _, words, _| if answer.number == 0 && words.len() > 8_388_608 { words[8_388_608] = 1 }) > 0);
+        assert!(differing(|answer, _, words, _| if answer.number > 0 { words.fill(0) }) > 0);
+    }
+
+    #[test]
+    fn a_score_is_found() {
+        assert!(differing(|answer, _, _, scores| if answer.number == 0 { scores[65_535] = -0.0 }) > 0);
+        assert!(differing(|answer, _, _, scores| if answer.number > 0 && !scores.is_empty() { scores[0] = 0.0 }) > 0);
+    }
+}

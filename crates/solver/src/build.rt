@@ -1,0 +1,46 @@
+// The transition graph of a record, built any number of times: for measuring what building costs.
+ghost use mathlib.Core.Path.{_≡_};
+ghost use Prim.Native.Nat.{_≤_};
+ghost use lib.ListN.{length};
+ghost use Rattle.model.specs.Validate.{readRecord};
+ghost use Rattle.solver.specs.Built.{Built, sizeRead};
+use struo_ir::netlist::Netlist;
+use struo_ir::reader::Answer;
+use struo_ir::record::read_record;
+use transition::lowering::from_netlist;
+use words::GOLD_LHS;
+use words::LENT;
+
+// The nodes of a design's transition graph, built once and `again` times more.
+fn build(words: &mut [u32], netlist: Netlist, again: u32) -> u32
+    requires { ⌜ (8388608 ≤ length (now words)) × (netlist .«node_count» ≤ 1024) × (netlist .«register_count» ≤ 128) ⌝ }
+    ensures { λ r. ⌜ Built netlist r (now (words .exit)) ⌝ }
+{
+    let first = from_netlist(words, netlist, GOLD_LHS, 65536);
+    let mut count = first.count;
+    let mut i: u32 = 0;
+    while i < again {
+        let next = from_netlist(words, netlist, GOLD_LHS, count);
+        count = next.count;
+        i += 1;
+    }
+    count
+}
+
+// The nodes of a record's transition graph, node 0 among them, built once and `again` times more; 0 where the record is refused or the
+// words are too few. Nothing is asked of any argument.
+#[no_mangle]
+pub extern "C" fn struo_build(record: &[u8], again: u32, words: &mut [u32]) -> u32
+    ensures { λ r. ⌜ r ≡ sizeRead (length (now (words .entry))) (readRecord (now («record» .entry))) ⌝ }
+{
+    if words.len() < LENT {
+        return 0;
+    }
+    let reading = read_record(record);
+    let answer = reading.answer;
+    let netlist = reading.netlist;
+    match answer {
+        Answer::Refused(_, _) => 0,
+        Answer::Accepted => build(words, netlist, again),
+    }
+}
