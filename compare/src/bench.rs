@@ -8,7 +8,6 @@ use oracle::reads::random_design;
 use oracle::record::{self, encode};
 use oracle::rng::Rng;
 
-use crate::boundary;
 
 /// The mean time of a call in nanoseconds, over enough rounds of all inputs to fill a quarter of a second.
 fn mean(count: usize, mut round: impl FnMut()) -> f64 {
@@ -29,12 +28,12 @@ pub fn reads(seed: u64) {
         let size = Size { inputs: 12, outputs: 6, registers: 12, gates };
         let records: Vec<Vec<u8>> = (0..400)
             .map(|_| encode(&random_design(&mut rng, size)))
-            .filter(|bytes| boundary::read(bytes).number == 0)
+            .filter(|bytes| struo_formal::read(bytes).number == 0)
             .take(100)
             .collect();
         let netlists: Vec<_> = records.iter().map(|bytes| netlist(&record::read(bytes).expect("accepted"))).collect();
         let bytes: usize = records.iter().map(Vec::len).sum::<usize>() / records.len();
-        let own = mean(records.len(), || records.iter().for_each(|bytes| { black_box(boundary::read(black_box(bytes))); }));
+        let own = mean(records.len(), || records.iter().for_each(|bytes| { black_box(struo_formal::read(black_box(bytes))); }));
         let rust = mean(records.len(), || netlists.iter().for_each(|n| { black_box(black_box(n).validate().is_ok()); }));
         let oracle = mean(records.len(), || records.iter().for_each(|bytes| { black_box(record::read(black_box(bytes)).is_ok()); }));
         println!("{gates} | {bytes} | {own:.0} | {rust:.0} | {:.2} | {oracle:.0}", own / rust);

@@ -9,7 +9,6 @@ use oracle::record::{self, encode};
 use oracle::rng::Rng;
 
 use crate::bench_solve::best;
-use crate::boundary;
 use crate::solve::Lent;
 
 extern "C" {
@@ -88,7 +87,7 @@ pub fn graphs(seed: u64) -> ExitCode {
             &mut || all.iter().for_each(|bytes| { black_box(build(&mut other, bytes, AGAIN)); }),
             &mut || netlists.iter().for_each(|netlist| { black_box(lower(netlist)); }),
             &mut || netlists.iter().for_each(|netlist| { black_box(netlist.validate().is_ok()); }),
-            &mut || all.iter().for_each(|bytes| { black_box(boundary::read(bytes)); }),
+            &mut || all.iter().for_each(|bytes| { black_box(struo_formal::read(bytes)); }),
         ]);
         let (own, rust) = ((many - one) / f64::from(AGAIN), whole - validate);
         let count = all.len() as f64;

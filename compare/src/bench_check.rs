@@ -14,7 +14,6 @@ use oracle::struo_ir::Netlist;
 use oracle::transition::TransitionSystem;
 use oracle::vectors::{check_line, unhex};
 
-use crate::boundary;
 
 /// One accepted check: the records, their netlists for the Rust, the depth and the oracle's answer.
 struct Pair {
@@ -122,7 +121,7 @@ pub fn checks(seed: u64) -> ExitCode {
         let pairs: Vec<Pair> = lines.iter().filter_map(|line| pair(line)).collect();
         let learned = pairs.iter().map(|pair| pair.answer.learned).max().unwrap_or(0);
         let own = mean(&pairs, |pair| {
-            black_box(boundary::check(black_box(&pair.gold), black_box(&pair.gate), pair.depth, &mut trace, &mut words, &mut scores));
+            black_box(struo_formal::check(black_box(&pair.gold), black_box(&pair.gate), pair.depth, &mut trace, &mut words, &mut scores));
         });
         let theirs = mean(&pairs, rust);
         let clear = *clearing.get_or_insert(own);

@@ -8,7 +8,7 @@ use oracle::pair::{Lent, SCORES, WORDS};
 use oracle::rng::Rng;
 use oracle::vectors::{check_line, check_words, split, unhex};
 
-use crate::boundary::{self, Check};
+use struo_formal::CheckAnswer as Check;
 use crate::lent::{Memory, Trace};
 use crate::reads::damaged;
 
@@ -246,7 +246,7 @@ fn blocks(count: usize, seed: u64) -> Vec<Block> {
 /// rescaling and the deepest searches.
 pub fn compare(count: u64, seed: u64) -> ExitCode {
     let threads = std::thread::available_parallelism().map_or(1, usize::from);
-    let tally = run(usize::try_from(count).expect("a count fits"), seed, threads, &boundary::check);
+    let tally = run(usize::try_from(count).expect("a count fits"), seed, threads, &struo_formal::check);
     println!("checks by refusal number, 0 accepted: {:?}", tally.refusals);
     let [equivalent, different, inconclusive, gave_up] = tally.statuses;
     println!("accepted: {equivalent} Equivalent, {different} NotEquivalent, {inconclusive} Inconclusive, {gave_up} GaveUp (by query {:?})", &tally.gave_up[1..]);

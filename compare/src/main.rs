@@ -6,7 +6,6 @@ mod bench;
 mod bench_build;
 mod bench_check;
 mod bench_solve;
-mod boundary;
 mod checks;
 mod lent;
 mod reads;

@@ -4,7 +4,7 @@ use oracle::reads::random_design;
 use oracle::record::{self, encode, sized};
 use oracle::rng::Rng;
 
-use crate::boundary::{self, Read};
+use struo_formal::ReadAnswer as Read;
 
 /// How many calls were made, and how many answers differ.
 #[derive(Default)]
@@ -22,7 +22,7 @@ impl Tally {
             Ok(_) => Read { number: 0, side: 0, place: 0 },
             Err(refusal) => Read { number: u32::from(refusal.number), side: u32::from(refusal.side), place: refusal.place as u32 },
         };
-        let answered = boundary::read(bytes);
+        let answered = struo_formal::read(bytes);
         self.calls += 1;
         self.numbers[expected.number as usize] += 1;
         if answered != expected {

@@ -7,7 +7,7 @@ use oracle::record::encode;
 use oracle::rng::Rng;
 use oracle::run;
 
-use crate::boundary::{self, Replay};
+use struo_formal::ReplayAnswer as Replay;
 
 /// How many calls were made, how many said yes or were refused, and how many answers differ.
 #[derive(Default)]
@@ -26,7 +26,7 @@ impl Tally {
             None => Replay { number: 0, side: 0, place: 0, yes: answer.yes },
             Some(refusal) => Replay { number: u32::from(refusal.number), side: u32::from(refusal.side), place: refusal.place as u32, yes: false },
         };
-        let answered = boundary::replay(gold, gate, cycle, claim);
+        let answered = struo_formal::replay(gold, gate, cycle, claim);
         self.calls += 1;
         self.yes += u64::from(expected.yes);
         self.refused += u64::from(expected.number > 0);
