@@ -20,7 +20,7 @@ use Rattle.model.specs.Pair.{inputsDiffer, outputsDiffer, interfaceFault, initi
 use Rattle.laws.specs.Bools.{or-left, or-right, and-right}
 use Rattle.laws.specs.Record.Accepted.{otherwise-none, refuseIf-none}
 use Rattle.struo_ir.specs.Decoded.{decodedNode, decodedRegister, decoded}
-use Rattle.struo_ir.specs.OrderPorts.{count-places}
+use Rattle.name_order.specs.PortLaws.{count-places}
 use Rattle.struo_ir.specs.Reading.{Padded}
 use Rattle.struo_ir.specs.declared.netlist.Netlist.{Netlist}
 use Rattle.pair.specs.declared.orders.Orders.{Orders}

@@ -8,7 +8,7 @@ use Rattle.words.specs.Region.{region}
 use Rattle.model.specs.Transition.{TransitionSystem, fromNetlist}
 use Rattle.model.specs.Check.{problemOf}
 use Rattle.struo_ir.specs.Decoded.{decoded}
-use Rattle.struo_ir.specs.OrderPlaces as Orders
+use Rattle.name_order.specs.Places as Orders
 use Rattle.struo_ir.specs.declared.netlist.Netlist.{Netlist}
 use Rattle.pair.specs.declared.orders.Orders.{Orders}
 use Rattle.aig.specs.Graph.{nodesOf, graphAt}

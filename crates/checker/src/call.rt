@@ -15,12 +15,12 @@ use crate::answer::refused;
 use crate::refusals::Lent;
 use crate::refusals::check_fault;
 use crate::sides::sides;
+use netlist_checks::record::read_record;
 use pair::checks::Fault;
 use pair::orders::Orders;
 use pair::orders::by_name;
 use queries::prove::prove_sequential_equivalence;
 use struo_ir::netlist::Netlist;
-use struo_ir::record::read_record;
 use words::clear_scores;
 use words::clear_words;
 

@@ -5,7 +5,7 @@ ghost use Prim.Native.Nat.{ℕ, _+_, _*_, _≤_};
 ghost use lib.Dec.{ltb};
 ghost use Rattle.model.specs.Pair.{checkFault};
 ghost use Rattle.struo_ir.specs.Decoded.{decoded};
-ghost use Rattle.struo_ir.specs.OrderPlaces.{Formed};
+ghost use Rattle.name_order.specs.Places.{Formed};
 ghost use Rattle.pair.specs.PairChecks.{faultOf};
 ghost use Rattle.checker.specs.Refusals.{lentOf, framesBy, nodesBy, shortBy, depthFault, sizeFault, laterFault, pairFault};
 ghost use Rattle.checker.specs.Sides.{Sided};

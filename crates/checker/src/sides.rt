@@ -1,7 +1,7 @@
 // Both sides of a pair lowered into the lent words, and the problem that they make.
 ghost use Prim.Native.Nat.{_≤_};
 ghost use lib.ListN.{length};
-ghost use Rattle.struo_ir.specs.OrderPlaces.{Formed};
+ghost use Rattle.name_order.specs.Places.{Formed};
 ghost use Rattle.transition.specs.Named.{SystemMade};
 ghost use Rattle.checker.specs.Sides.{Sided, SidesMade};
 use pair::orders::Orders;

@@ -5,10 +5,10 @@ use mathlib.Core.List.{List, _∷_}
 use native.Mathlib.Omega.{arith}
 use lib.ListN.{length, drop, getD}
 use Rattle.struo_ir.specs.Decoded.{decodedRegister, decoded}
-use Rattle.struo_ir.specs.OrderPlaces.{noCell, noEntry, placeOf, held, places, Formed}
-use Rattle.struo_ir.specs.OrderPorts.{decoded-cons}
+use Rattle.name_order.specs.Places.{noCell, noEntry, placeOf, held, places, Formed}
+use Rattle.name_order.specs.PortLaws.{decoded-cons}
 use Rattle.struo_ir.specs.declared.netlist.Netlist.{Netlist}
-use Rattle.struo_ir.specs.declared.order.Order.{Order}
+use Rattle.name_order.specs.declared.order.Order.{Order}
 
 -- the register of a number, in front of those behind it
 pub decoded-register : (s : List ℕ) (n : Netlist) (k : ℕ) → k < n .«register_count» → n .«register_count» ≤ length (n .registers)

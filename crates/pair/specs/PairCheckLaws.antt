@@ -21,12 +21,12 @@ use Rattle.model.specs.Validate.{_otherwise_, refuseIf}
 use Rattle.model.specs.Pair as Pair
 use Rattle.model.specs.Pair.{Domain, nameOr, domainOf, sameEdge, sameDomain, allIn, manyDomains, domain, domainsDiffer, noReset, noResetAt, resetsFault, initialFault}
 use Rattle.struo_ir.specs.Decoded.{nameAt, decodedNode, decodedReset, decodedRegister, decoded}
-use Rattle.struo_ir.specs.OrderPlaces.{noNode, noCell, noEntry, placeOf, places, portName, Formed}
-use Rattle.struo_ir.specs.OrderPorts.{count-places, port-name}
+use Rattle.name_order.specs.Places.{noNode, noCell, noEntry, placeOf, places, portName, Formed}
+use Rattle.name_order.specs.PortLaws.{count-places, port-name}
 use Rattle.struo_ir.specs.declared.netlist.Node.{Node}
 use Rattle.struo_ir.specs.declared.netlist.RegisterCell.{RegisterCell}
 use Rattle.struo_ir.specs.declared.netlist.Netlist.{Netlist}
-use Rattle.struo_ir.specs.declared.order.Order.{Order}
+use Rattle.name_order.specs.declared.order.Order.{Order}
 use Rattle.pair.specs.ElementLaws.{decoded-register, place-at}
 use Rattle.pair.specs.PairChecks.{Ordered, domainBy, lacksReset, domainsFault}
 use Rattle.pair.specs.declared.orders.Orders.{Orders}

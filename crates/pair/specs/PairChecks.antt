@@ -11,7 +11,7 @@ use Rattle.model.specs.Record.{edgeOf}
 use Rattle.model.specs.Validate.{_otherwise_, refuseIf}
 use Rattle.model.specs.Pair.{Domain, nameOr, manyDomains, domain, domainsDiffer}
 use Rattle.struo_ir.specs.Decoded.{decodedNode, decoded}
-use Rattle.struo_ir.specs.OrderPlaces.{Formed, places}
+use Rattle.name_order.specs.Places.{Formed, places}
 use Rattle.struo_ir.specs.declared.netlist.Node.{Node}
 use Rattle.struo_ir.specs.declared.netlist.RegisterCell.{RegisterCell}
 use Rattle.struo_ir.specs.declared.netlist.Netlist.{Netlist}

@@ -9,7 +9,7 @@ use Rattle.model.specs.Record.{parsed, refusedRecord}
 use Rattle.laws.specs.Record.Accepted.{accepted-parsed}
 use Rattle.laws.specs.Record.Limits.{Limits, parse-limits}
 use Rattle.struo_ir.specs.Decoded.{decoded}
-use Rattle.struo_ir.specs.OrderPorts.{length-sort}
+use Rattle.name_order.specs.PortLaws.{length-sort}
 use Rattle.struo_ir.specs.Reading.{Padded, readOf, readBy, refusedAt}
 use Rattle.struo_ir.specs.declared.netlist.Netlist.{Netlist}
 use Rattle.struo_ir.specs.declared.reader.Answer.the-variants as Reader

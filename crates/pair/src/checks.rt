@@ -10,17 +10,17 @@ ghost use Rattle.model.specs.Pair.{nameOr, sameDomain, manyDomains, domain, dom
 ghost use Rattle.model.specs.Pair as Pair;
 ghost use Rattle.model.specs.Validate.{_otherwise_};
 ghost use Rattle.struo_ir.specs.Decoded.{decodedNode, decoded};
-ghost use Rattle.struo_ir.specs.OrderPlaces.{Formed, noEntry, places};
+ghost use Rattle.name_order.specs.Places.{Formed, noEntry, places};
 ghost use Rattle.pair.specs.PairChecks.{faultOf, domainBy, Within, Ordered, lacksReset, domainsFault};
 use crate::orders::Orders;
+use name_order::names::name_of;
+use name_order::names::same;
+use name_order::names::same_name;
+use name_order::names::wide;
+use name_order::order::Order;
 use struo_ir::netlist::Netlist;
 use struo_ir::netlist::Node;
 use struo_ir::netlist::RegisterCell;
-use struo_ir::order::Order;
-use struo_ir::order::name_of;
-use struo_ir::order::same;
-use struo_ir::order::same_name;
-use struo_ir::order::wide;
 
 // What a check of the pair finds: nothing, or a refusal's number, side and place.
 pub enum Fault {

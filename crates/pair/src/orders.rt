@@ -1,10 +1,10 @@
 // The orders by name of a design's Inputs, Outputs and registers.
 ghost use Rattle.pair.specs.PairChecks.{Within, Ordered};
+use name_order::order::Order;
+use name_order::order::inputs_by_name;
+use name_order::order::outputs_by_name;
+use name_order::order::registers_by_name;
 use struo_ir::netlist::Netlist;
-use struo_ir::order::Order;
-use struo_ir::order::inputs_by_name;
-use struo_ir::order::outputs_by_name;
-use struo_ir::order::registers_by_name;
 
 // The orders by name of a design's Inputs, Outputs and registers.
 pub struct Orders {

@@ -22,13 +22,13 @@ use Rattle.laws.specs.Bools.{or-left}
 use Rattle.laws.specs.Record.Accepted.{otherwise-none, refuseIf-none}
 use Rattle.laws.specs.Replay.{steps-replay}
 use Rattle.struo_ir.specs.Decoded.{decoded}
-use Rattle.struo_ir.specs.OrderPlaces.{Formed, places}
-use Rattle.struo_ir.specs.OrderPorts.{count-places}
+use Rattle.name_order.specs.Places.{Formed, places}
+use Rattle.name_order.specs.PortLaws.{count-places}
 use Rattle.struo_ir.specs.declared.netlist.Netlist.{Netlist}
 use Rattle.struo_ir.specs.Reading.{readOf}
 use Rattle.struo_ir.specs.declared.reader.Answer.the-variants as Reader
 use Rattle.struo_ir.specs.declared.reader.Reading.{Reading}
-use Rattle.struo_ir.specs.declared.order.Order.{Order}
+use Rattle.name_order.specs.declared.order.Order.{Order}
 use Rattle.replay.specs.RunTables.{padded}
 use Rattle.replay.specs.RunLaws.{count-registers}
 use Rattle.replay.specs.StepLaws.{padded-taken}

@@ -14,11 +14,11 @@ use Rattle.model.specs.Netlist.{Register}
 use Rattle.model.specs.Record.{bit, levelOf}
 use Rattle.model.specs.Run.{bitAt, asserted, enabledBit, resetBit, nextBit, nextFrom, initialBit}
 use Rattle.struo_ir.specs.Decoded.{decodedEnable, decodedReset, decodedRegister, decoded}
-use Rattle.struo_ir.specs.OrderPlaces.{noCell, noEntry, placeOf, held, places}
-use Rattle.struo_ir.specs.OrderPorts.{decoded-cons}
+use Rattle.name_order.specs.Places.{noCell, noEntry, placeOf, held, places}
+use Rattle.name_order.specs.PortLaws.{decoded-cons}
 use Rattle.struo_ir.specs.declared.netlist.RegisterCell.{RegisterCell}
 use Rattle.struo_ir.specs.declared.netlist.Netlist.{Netlist}
-use Rattle.struo_ir.specs.declared.order.Order.{Order}
+use Rattle.name_order.specs.declared.order.Order.{Order}
 use Rattle.pair.specs.ElementLaws.{decoded-register}
 use Rattle.replay.specs.RunTables.{enableOf, resetOf, nextOf}
 use Rattle.replay.specs.RunLaws.{some-reset, written-more}

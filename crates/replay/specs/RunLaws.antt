@@ -16,11 +16,11 @@ use Rattle.model.specs.Record.{bit, levelOf, nodeOf}
 use Rattle.model.specs.Validate.{driver}
 use Rattle.model.specs.Replay.{claimBit}
 use Rattle.model.specs.Run.{InputBits, StoredBits, bitAt, asserted, shownBit, shown, nodeValue, valuesFrom}
-use Rattle.struo_ir.specs.Checks.{driverBy, Drivers}
+use Rattle.netlist_checks.specs.Checks.{driverBy, Drivers}
 use Rattle.struo_ir.specs.Decoded.{nameAt, decodedReset, decodedNode, decodedRegister, decoded}
-use Rattle.struo_ir.specs.OrderPlaces.{noNode, noCell}
+use Rattle.name_order.specs.Places.{noNode, noCell}
 use Rattle.struo_ir.specs.Registers.{noRegister, registersTo}
-use Rattle.struo_ir.specs.OrderPorts.{decoded-cons}
+use Rattle.name_order.specs.PortLaws.{decoded-cons}
 use Rattle.replay.specs.RunTables.{resetOf, gateOf, valueOf, nodeBy, shownBy, inputRank, Ranked, rowInputs, padded}
 use Rattle.struo_ir.specs.declared.netlist.Node.{Node}
 use Rattle.struo_ir.specs.declared.netlist.RegisterCell.{RegisterCell}

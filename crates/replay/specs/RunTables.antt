@@ -11,7 +11,7 @@ use Rattle.model.specs.Netlist.{Enable, Reset}
 use Rattle.model.specs.Run.{InputBits, StoredBits, bitAt, shownBit, enabledBit, resetBit}
 use Rattle.model.specs.Replay.{claimBit}
 use Rattle.struo_ir.specs.Decoded.{nameAt, decodedEnable, decodedReset}
-use Rattle.struo_ir.specs.OrderPlaces.{noNode}
+use Rattle.name_order.specs.Places.{noNode}
 use Rattle.struo_ir.specs.declared.netlist.Node.{Node}
 use Rattle.struo_ir.specs.declared.netlist.RegisterCell.{RegisterCell}
 use Rattle.struo_ir.specs.declared.netlist.Netlist.{Netlist}

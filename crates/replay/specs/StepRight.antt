@@ -12,8 +12,8 @@ use Rattle.model.specs.Run.{nodeValues, outputBits}
 use Rattle.model.specs.Replay as Replay
 use Rattle.model.specs.Replay.{bitsDiffer, differAsMarked, stepIf}
 use Rattle.struo_ir.specs.Decoded.{decoded}
-use Rattle.struo_ir.specs.OrderPlaces.{places}
-use Rattle.struo_ir.specs.OrderPorts.{count-places}
+use Rattle.name_order.specs.Places.{places}
+use Rattle.name_order.specs.PortLaws.{count-places}
 use Rattle.replay.specs.RunTables.{rowInputs}
 use Rattle.replay.specs.StepSides.{Sound, Cycled, Kept, position, stepped, outcomeOf, Paired, Advanced, StepTaken}
 use Rattle.replay.specs.StepLaws.{padded-taken, length-outputBits, inputs-right, advance-right}

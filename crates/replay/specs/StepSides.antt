@@ -9,9 +9,9 @@ use Rattle.model.specs.Names.{Place}
 use Rattle.model.specs.Netlist.{inputs, outputs, inputCount}
 use Rattle.model.specs.Run.{nodeValues, nextStored, outputBits}
 use Rattle.model.specs.Replay as Replay
-use Rattle.struo_ir.specs.Checks.{Drivers}
+use Rattle.netlist_checks.specs.Checks.{Drivers}
 use Rattle.struo_ir.specs.Decoded.{decoded}
-use Rattle.struo_ir.specs.OrderPlaces.{Formed, places}
+use Rattle.name_order.specs.Places.{Formed, places}
 use Rattle.replay.specs.RunTables.{Ranked, rowInputs, padded}
 use Rattle.replay.specs.declared.run.Rows.{Rows}
 use Rattle.replay.specs.declared.step.Side.{Side}

@@ -11,9 +11,9 @@ use lib.ListN.{length, drop, getD, set, drop-of-length-le}
 use lib.Seq.{getD-set-same, getD-set-other}
 use Rattle.model.specs.Names.{Name, sameName, rank}
 use Rattle.struo_ir.specs.Decoded.{nameAt}
-use Rattle.struo_ir.specs.OrderPlaces.{noEntry, placeOf, places, Formed}
-use Rattle.struo_ir.specs.OrderPorts.{count-places}
-use Rattle.struo_ir.specs.declared.order.Order.{Order}
+use Rattle.name_order.specs.Places.{noEntry, placeOf, places, Formed}
+use Rattle.name_order.specs.PortLaws.{count-places}
+use Rattle.name_order.specs.declared.order.Order.{Order}
 use Rattle.pair.specs.ElementLaws.{place-at}
 
 -- ---- a table, entry by entry

@@ -8,7 +8,7 @@ ghost use Rattle.model.specs.Validate.{readRecord};
 ghost use Rattle.model.specs.Run.{initialBits};
 ghost use Rattle.model.specs.Replay as Model;
 ghost use Rattle.struo_ir.specs.Decoded.{decoded};
-ghost use Rattle.struo_ir.specs.OrderPlaces.{Formed};
+ghost use Rattle.name_order.specs.Places.{Formed};
 ghost use Rattle.pair.specs.PairChecks.{faultOf, Within, Ordered, refusalOn};
 ghost use Rattle.replay.specs.ClaimChecks.{laterFault};
 ghost use Rattle.replay.specs.StepSides.{Sound, Paired};
@@ -20,13 +20,13 @@ use crate::step::Position;
 use crate::step::Side;
 use crate::step::side_of;
 use crate::step::step;
+use netlist_checks::record::read_record;
 use pair::checks::Fault;
 use pair::checks::initial_fault;
 use pair::checks::interface_fault;
 use pair::orders::Orders;
 use pair::orders::by_name;
 use struo_ir::netlist::Netlist;
-use struo_ir::record::read_record;
 
 // What a replay answers: number (0 accepted), side, place, and yes or no.
 pub struct Answer {

@@ -9,15 +9,15 @@ ghost use Rattle.model.specs.Record.{levelOf};
 ghost use Rattle.model.specs.Run.{bitAt, shownBit, enabledBit, resetBit, nodeValues, nextStored, initialBits, initialBit};
 ghost use Rattle.model.specs.Run as Run;
 ghost use Rattle.model.specs.Replay.{claimBit};
-ghost use Rattle.struo_ir.specs.Checks.{Drivers};
+ghost use Rattle.netlist_checks.specs.Checks.{Drivers};
 ghost use Rattle.struo_ir.specs.Decoded.{decoded};
-ghost use Rattle.struo_ir.specs.OrderPlaces.{Formed, places};
+ghost use Rattle.name_order.specs.Places.{Formed, places};
 ghost use Rattle.replay.specs.RunTables.{enableOf, resetOf, nextOf, valueOf, gateOf, nodeBy, shownBy, Ranked, rowInputs, padded};
+use name_order::names::wide;
+use name_order::order::Order;
 use struo_ir::netlist::Netlist;
 use struo_ir::netlist::Node;
 use struo_ir::netlist::RegisterCell;
-use struo_ir::order::Order;
-use struo_ir::order::wide;
 
 // The bit at a number; false past the end.
 pub fn bit_at(bits: &[bool], k: usize) -> bool

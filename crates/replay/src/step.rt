@@ -8,7 +8,7 @@ ghost use Rattle.model.specs.Names.{Place};
 ghost use Rattle.model.specs.Netlist.{inputs};
 ghost use Rattle.model.specs.Replay.{bitsDiffer, differAsMarked};
 ghost use Rattle.model.specs.Replay as Replay;
-ghost use Rattle.struo_ir.specs.OrderPlaces.{Formed, places};
+ghost use Rattle.name_order.specs.Places.{Formed, places};
 ghost use Rattle.replay.specs.StepSides.{Sound, Ready, Cycled, outcomeOf, Paired, Advanced, StepTaken};
 use crate::run::Rows;
 use crate::run::claim_bit;
@@ -17,9 +17,9 @@ use crate::run::next_stored;
 use crate::run::node_values;
 use crate::run::output_row;
 use crate::tables::input_ranks;
+use netlist_checks::validate::drivers;
+use name_order::order::Order;
 use struo_ir::netlist::Netlist;
-use struo_ir::order::Order;
-use struo_ir::validate::drivers;
 
 // A side of a replay, ready to run: its netlist, the rank of each Input among gold's inputs, the register of each node, and its outputs by name.
 pub struct Side {

@@ -3,13 +3,13 @@ ghost use mathlib.Core.Path.{_≡_};
 ghost use Prim.Native.Nat.{_<_, _≤_};
 ghost use Rattle.model.specs.Names.{rank};
 ghost use Rattle.struo_ir.specs.Decoded.{nameAt};
-ghost use Rattle.struo_ir.specs.OrderPlaces.{Formed, places};
+ghost use Rattle.name_order.specs.Places.{Formed, places};
 ghost use Rattle.replay.specs.RunTables.{inputRank, Ranked};
+use name_order::names::same_name;
+use name_order::names::wide;
+use name_order::order::Order;
 use struo_ir::netlist::Netlist;
 use struo_ir::netlist::Node;
-use struo_ir::order::Order;
-use struo_ir::order::same_name;
-use struo_ir::order::wide;
 
 // Where the name at a place stands in an order by name of another record; the order's count if it is not there.
 fn rank_in(bytes: &[u8], place: usize, other: &[u8], order: Order) -> usize

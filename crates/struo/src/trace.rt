@@ -1,14 +1,14 @@
 // The trace of a difference: the inputs of each cycle by name, and the names of the outputs that differ.
 use lender::text::at;
 use libc::STDOUT_FILENO;
+use netlist_checks::record::read_record;
+use name_order::names::name_of;
+use name_order::names::wide;
+use name_order::order::Order;
 use pair::orders::Orders;
 use pair::orders::by_name;
 use struo_ir::netlist::Netlist;
-use struo_ir::order::Order;
-use struo_ir::order::name_of;
-use struo_ir::order::wide;
 use struo_ir::reader::Answer;
-use struo_ir::record::read_record;
 
 // The name at a rank of an order.
 fn tell_name(gold: &[u8], order: Order, rank: usize) {

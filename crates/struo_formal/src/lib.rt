@@ -1,7 +1,7 @@
 // The public library: the calls on design records, for Rust and for C. Nothing is asked of any argument.
+use netlist_checks::record::read_record;
 use struo_ir::reader::Answer;
 use struo_ir::reader::Reading;
-use struo_ir::record::read_record;
 ghost use mathlib.Core.Path.{_≡_};
 ghost use Rattle.model.specs.Validate as Validate;
 ghost use Rattle.model.specs.Replay as Replay;

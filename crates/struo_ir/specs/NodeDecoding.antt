@@ -13,7 +13,7 @@ use Rattle.model.specs.Netlist as Model
 use Rattle.model.specs.Netlist.{Input, Constant, RegisterOutput, Not, Output, And, Or, Xor, Mux, inputName, outputName, placeIf, portsFrom}
 use Rattle.model.specs.Record.{got, Reader, pure, goOn, _>>=_, code, guard, room, listedKind, name, nameIf, valueIf, codeBelow, numbers, hasName, hasValue, inputsPerKind, nodeOf, node}
 use Rattle.struo_ir.specs.declared.netlist.Node.{Node}
-use Rattle.struo_ir.specs.Fields.{mapStep, placed, roomFor, kindAt}
+use Rattle.fields.specs.Fields.{mapStep, placed, roomFor, kindAt}
 use Rattle.struo_ir.specs.Decoded.{nameAt, decodedNode}
 use Rattle.struo_ir.specs.Nodes.{three, detailIf, detailAt, inputsAt, cellOf, cellInputs, cellDetail, cellAt}
 use Rattle.struo_ir.specs.StepLaws.{bind-map, bind-last, name-at}

@@ -1,38 +1,14 @@
 -- Laws of a node's fields as the reader takes them. Assumes nothing.
 use Prim.Native.Nat.{ℕ, zero, suc, _-_, _≤_, _<_}
 use mathlib.Core.Path.{_≡_, refl}
-use mathlib.Core.Bool.{Bool, true, false, _&&_}
+use mathlib.Core.Bool.{true, false}
 use mathlib.Core.List.{List, [], _∷_}
 use native.Mathlib.Omega.{arith}
-use lib.ListN.{getD}
-use lib.Dec.{leb}
-use borrow.Author.Tests.{ne-eqb, leb-true}
+use borrow.Author.Tests.{ne-eqb}
 use Rattle.model.specs.Answers.{Refusal}
-use Rattle.model.specs.Record.{Step, got, refused, pure, goOn, _>>=_, number, numbers, hasName, inputTable, inputsPerKind}
-use Rattle.struo_ir.specs.Fields.{mapStep}
+use Rattle.model.specs.Record.{Step, got, refused, pure, goOn, _>>=_, number, numbers, hasName}
+use Rattle.fields.specs.Fields.{mapStep}
 use Rattle.struo_ir.specs.Nodes.{three}
-
--- ---- the table
-
--- every entry is at most k
-allAtMost : ℕ → List ℕ → Bool
-allAtMost k [] = true
-allAtMost k (x ∷ xs) = let rest = allAtMost k xs in leb x k && rest
-
-and-both : (x y : Bool) → (x && y) ≡ true → (x ≡ true) × (y ≡ true)
-and-both true y h = (refl, h)
-and-both false y h = absurd (let z : _≡_ {A = ℕ} 0 1 = cc in omega arith)
-
-at-most : (k : ℕ) (xs : List ℕ) → allAtMost k xs ≡ true → (i : ℕ) → getD xs i 0 ≤ k
-unfolding allAtMost
-at-most k [] h i = omega arith
-at-most k (x ∷ xs) h zero = leb-true x k (and-both (leb x k) (allAtMost k xs) h .0)
-at-most k (x ∷ xs) h (suc i) = at-most k xs (and-both (leb x k) (allAtMost k xs) h .1) i
-
--- a kind has at most three inputs
-pub three-inputs : (k : ℕ) → inputsPerKind k ≤ 3
-unfolding inputsPerKind inputTable allAtMost
-three-inputs k = at-most 3 inputTable refl k
 
 -- ---- numbers one by one
 

@@ -12,10 +12,10 @@ use Rattle.struo_ir.specs.declared.nodes.NodeField.{NodeField}
 use Rattle.struo_ir.specs.declared.nodes.NodeField.the-variants as NodeField
 use Rattle.model.specs.Netlist as Model
 use Rattle.model.specs.Netlist.{inputName, outputName, portsFrom}
-use Rattle.struo_ir.specs.declared.fields.Number.{Number}
-use Rattle.struo_ir.specs.declared.fields.Number.the-variants as Number
+use Rattle.fields.specs.declared.Number.{Number}
+use Rattle.fields.specs.declared.Number.the-variants as Number
 use Rattle.struo_ir.specs.Decoded.{decodedNode}
-use Rattle.struo_ir.specs.Fields.{mapStep, placed, kindAt}
+use Rattle.fields.specs.Fields.{mapStep, placed, kindAt}
 
 -- the step of three numbers
 unfoldable pub inputsOf : Inputs → Step (List ℕ)

@@ -12,8 +12,8 @@ use Rattle.model.specs.Netlist.{portsFrom}
 use Rattle.model.specs.Record.{got, refused, refuse, pure, goOn, _>>=_, kinds, listedKind, node, nodesFrom}
 use Rattle.model.specs.Lists.{member}
 use Rattle.struo_ir.specs.declared.netlist.Node.{Node}
-use Rattle.struo_ir.specs.declared.fields.Number.the-variants as Number
-use Rattle.struo_ir.specs.Fields.{mapStep}
+use Rattle.fields.specs.declared.Number.the-variants as Number
+use Rattle.fields.specs.Fields.{mapStep}
 use Rattle.struo_ir.specs.Decoded.{decodedNode}
 use Rattle.struo_ir.specs.Nodes.{cellAt, noNode, nodesOf, countOf, NodesRead, nodesTo, NodesSoFar}
 use Rattle.struo_ir.specs.NodeDecoding.{node-decoded, inputs-more, outputs-more}

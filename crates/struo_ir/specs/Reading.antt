@@ -9,8 +9,8 @@ use Rattle.model.specs.Record.{Reader, pure, _>>=_, nodes, registers, register,
 use Rattle.struo_ir.specs.declared.netlist.Node.{Node}
 use Rattle.struo_ir.specs.declared.netlist.RegisterCell.{RegisterCell}
 use Rattle.struo_ir.specs.declared.netlist.Netlist.{Netlist}
-use Rattle.struo_ir.specs.declared.fields.Number.{Number}
-use Rattle.struo_ir.specs.declared.fields.Number.the-variants as Number
+use Rattle.fields.specs.declared.Number.{Number}
+use Rattle.fields.specs.declared.Number.the-variants as Number
 use Rattle.struo_ir.specs.declared.reader.Answer.{Answer}
 use Rattle.struo_ir.specs.declared.reader.Answer.the-variants as Answer
 use Rattle.struo_ir.specs.declared.reader.Reading.{Reading}

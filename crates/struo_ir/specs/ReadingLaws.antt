@@ -13,13 +13,13 @@ use Rattle.model.specs.Netlist as Model
 use Rattle.model.specs.Record.{Step, got, refused, Reader, refuse, pure, goOn, _>>=_, guard, bigEndian, number, name, nodes, nodesFrom, registers, registersFrom, register, kinds, listedKind, end, version1, versionOf, lengthFits, parsed, refusedRecord, finished, parseFields, parseSized, parse}
 use Rattle.struo_ir.specs.declared.netlist.Node.{Node}
 use Rattle.struo_ir.specs.declared.netlist.RegisterCell.{RegisterCell}
-use Rattle.struo_ir.specs.declared.fields.Number.{Number}
-use Rattle.struo_ir.specs.declared.fields.Number.the-variants as Number
+use Rattle.fields.specs.declared.Number.{Number}
+use Rattle.fields.specs.declared.Number.the-variants as Number
 use Rattle.struo_ir.specs.declared.reader.Answer.the-variants as Answer
 use Rattle.struo_ir.specs.declared.reader.Reading.{Reading}
 use Rattle.struo_ir.specs.Decoded.{nameAt}
-use Rattle.struo_ir.specs.Fields.{mapStep, placed}
-use Rattle.struo_ir.specs.FieldLaws.{bind-refused, bind-got, guard-passed}
+use Rattle.fields.specs.Fields.{mapStep, placed}
+use Rattle.fields.specs.FieldLaws.{bind-refused, bind-got, guard-passed}
 use Rattle.struo_ir.specs.ListLaws.{getD-repeat}
 use Rattle.struo_ir.specs.Nodes.{nodesTo, nodesOf, noNode, countOf, NodesRead}
 use Rattle.struo_ir.specs.Reading.{refusedAt, readBy, readOf, NodesPadded, RegistersPadded, NodesCounted, RegistersCounted, designOf, fromRegisters, fromNodes}

@@ -9,7 +9,7 @@ use Rattle.model.specs.Netlist.{Enable, Reset, Register}
 use Rattle.model.specs.Record.{Step, got, refused, Reader, pure, goOn, _>>=_, name, number, codeBelow, numbers, edgeOf, levelOf, bit, enableFor, resetFor, register}
 use Rattle.struo_ir.specs.declared.netlist.RegisterCell.{RegisterCell}
 use Rattle.struo_ir.specs.Decoded.{nameAt, decodedEnable, decodedReset, decodedRegister}
-use Rattle.struo_ir.specs.Fields.{mapStep, placed}
+use Rattle.fields.specs.Fields.{mapStep, placed}
 use Rattle.struo_ir.specs.Nodes.{three}
 use Rattle.struo_ir.specs.Registers.{fixed, enabled, resettable, resetValue, resetKind, resetFields, resetIf, registerReset, registerSignal, enableIf, registerEnable, registerEdge, netsAt, placeAt, registerNets, registerAt}
 use Rattle.struo_ir.specs.StepLaws.{bind-map, bind-last, name-at}

@@ -8,10 +8,10 @@ use Rattle.model.specs.Record.{Step, got, Reader, refuse, pure, _>>=_, name, nu
 use Rattle.struo_ir.specs.declared.netlist.RegisterCell.{RegisterCell}
 use Rattle.struo_ir.specs.declared.registers.RegisterField.{RegisterField}
 use Rattle.struo_ir.specs.declared.registers.RegisterField.the-variants as RegisterField
-use Rattle.struo_ir.specs.declared.fields.Number.{Number}
-use Rattle.struo_ir.specs.declared.fields.Number.the-variants as Number
+use Rattle.fields.specs.declared.Number.{Number}
+use Rattle.fields.specs.declared.Number.the-variants as Number
 use Rattle.struo_ir.specs.Decoded.{decodedRegister}
-use Rattle.struo_ir.specs.Fields.{mapStep, placed}
+use Rattle.fields.specs.Fields.{mapStep, placed}
 use Rattle.struo_ir.specs.Nodes.{three, countOf}
 
 -- the step of a register

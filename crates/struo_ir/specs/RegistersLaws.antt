@@ -8,8 +8,8 @@ use lib.Seq.{getD-set-other}
 use Rattle.model.specs.Answers.{Refusal}
 use Rattle.model.specs.Record.{got, refused, refuse, pure, goOn, _>>=_, number, register, registersFrom}
 use Rattle.struo_ir.specs.declared.netlist.RegisterCell.{RegisterCell}
-use Rattle.struo_ir.specs.declared.fields.Number.the-variants as Number
-use Rattle.struo_ir.specs.Fields.{mapStep}
+use Rattle.fields.specs.declared.Number.the-variants as Number
+use Rattle.fields.specs.Fields.{mapStep}
 use Rattle.struo_ir.specs.Decoded.{decodedRegister}
 use Rattle.struo_ir.specs.Nodes.{countOf}
 use Rattle.struo_ir.specs.Registers.{resetFields, resetIf, registerReset, registerSignal, enableIf, registerAt, noRegister, registersTo, registersOf, RegistersRead, RegistersSoFar}

@@ -11,7 +11,7 @@ use Rattle.model.specs.Answers.{Refusal}
 use Rattle.model.specs.Names.{Name}
 use Rattle.model.specs.Record.{Step, got, refused, Reader, refuse, pure, goOn, _>>=_, tested, guard, bytes, byte, code, listedKind, nameBytes, name}
 use Rattle.struo_ir.specs.declared.netlist.Node.{Node}
-use Rattle.struo_ir.specs.Fields.{mapStep, roomFor, kindAt}
+use Rattle.fields.specs.Fields.{mapStep, roomFor, kindAt}
 use Rattle.struo_ir.specs.Nodes.{cellOf, cellInputs, cellDetail, cellAt}
 use Rattle.struo_ir.specs.Decoded.{nameAt}
 

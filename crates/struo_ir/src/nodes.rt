@@ -1,20 +1,20 @@
 // The nodes of a record, read into an array by value.
-use crate::fields::Code;
-use crate::fields::Number;
-use crate::fields::inputs_per_kind;
-use crate::fields::read_code_below;
-use crate::fields::read_kind;
-use crate::fields::read_name;
-use crate::fields::read_number;
-use crate::fields::wide;
 use crate::netlist::Node;
+use fields::Code;
+use fields::Number;
+use fields::inputs_per_kind;
+use fields::read_code_below;
+use fields::read_kind;
+use fields::read_name;
+use fields::read_number;
+use fields::wide;
 ghost use mathlib.Core.Path.{_≡_};
 ghost use Prim.Native.Nat.{_+_, _≤_};
 ghost use mathlib.Core.Bool.{cond};
 ghost use lib.ListN.{length};
 ghost use lib.Dec.{eqb};
 ghost use Rattle.model.specs.Record as Record;
-ghost use Rattle.struo_ir.specs.Fields.{numberOf, mapStep};
+ghost use Rattle.fields.specs.Fields.{numberOf, mapStep};
 ghost use Rattle.struo_ir.specs.Nodes.{inputsOf, nodeStep, second, third, three, detailAt, cellAt, NodesRead};
 
 // The input numbers of a node, 0 where it has fewer than three; or a refusal.

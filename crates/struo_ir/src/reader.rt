@@ -1,7 +1,4 @@
 // The record reader: from a record's bytes to a netlist, or the first refusal of 1 to 6.
-use crate::fields::Number;
-use crate::fields::read_name;
-use crate::fields::read_number;
 use crate::netlist::Netlist;
 use crate::netlist::Node;
 use crate::netlist::RegisterCell;
@@ -9,6 +6,9 @@ use crate::nodes::Nodes;
 use crate::nodes::read_nodes;
 use crate::registers::Registers;
 use crate::registers::read_registers;
+use fields::Number;
+use fields::read_name;
+use fields::read_number;
 ghost use mathlib.Core.Path.{_≡_};
 ghost use Prim.Native.Nat.{_+_, _≤_};
 ghost use lib.ListN.{length, take, drop};

@@ -1,12 +1,12 @@
 // The registers of a record, read into an array by value.
-use crate::fields::Code;
-use crate::fields::Number;
-use crate::fields::read_code_below;
-use crate::fields::read_name;
-use crate::fields::read_number;
 use crate::netlist::RegisterCell;
 use crate::nodes::Inputs;
 use crate::nodes::read_inputs;
+use fields::Code;
+use fields::Number;
+use fields::read_code_below;
+use fields::read_name;
+use fields::read_number;
 ghost use mathlib.Core.Path.{_≡_};
 ghost use Prim.Native.Nat.{_+_, _≤_};
 ghost use mathlib.Core.List.{[], _∷_};

@@ -16,12 +16,12 @@ use Rattle.model.specs.Transition.{StateBit, fromNetlist}
 use Rattle.laws.specs.Pairwise.{Pairwise, pairs-map}
 use Rattle.laws.specs.Lowering.Run.{states-named}
 use Rattle.struo_ir.specs.Decoded.{nameAt, decoded}
-use Rattle.struo_ir.specs.OrderPlaces.{noEntry, entryName, placeOf, held, places}
-use Rattle.struo_ir.specs.OrderPlaces as Orders
-use Rattle.struo_ir.specs.OrderLaws.{length-held, held-at}
+use Rattle.name_order.specs.Places.{noEntry, entryName, placeOf, held, places}
+use Rattle.name_order.specs.Places as Orders
+use Rattle.name_order.specs.PlaceLaws.{length-held, held-at}
 use Rattle.struo_ir.specs.declared.netlist.Netlist.{Netlist}
-use Rattle.struo_ir.specs.declared.order.Entry.{Entry}
-use Rattle.struo_ir.specs.declared.order.Order.{Order}
+use Rattle.name_order.specs.declared.order.Entry.{Entry}
+use Rattle.name_order.specs.declared.order.Order.{Order}
 use Rattle.transition.specs.Firsts.{firsts}
 use Rattle.transition.specs.Gather.{Gathered, gathered-list, gathered-below}
 use Rattle.transition.specs.Namesakes.{matchOf, matchIn, namesakes}

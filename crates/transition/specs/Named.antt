@@ -11,10 +11,10 @@ use Rattle.model.specs.Validate.{validate}
 use Rattle.model.specs.Transition.{fromNetlist}
 use Rattle.model.specs.Check.{systemInitialBits}
 use Rattle.struo_ir.specs.Decoded.{decoded}
-use Rattle.struo_ir.specs.OrderPlaces.{places}
-use Rattle.struo_ir.specs.OrderPlaces as Orders
+use Rattle.name_order.specs.Places.{places}
+use Rattle.name_order.specs.Places as Orders
 use Rattle.struo_ir.specs.declared.netlist.Netlist.{Netlist}
-use Rattle.struo_ir.specs.declared.order.Order.{Order}
+use Rattle.name_order.specs.declared.order.Order.{Order}
 use Rattle.aig.specs.Made.{Ready, Same, HeadsBelow}
 use Rattle.transition.specs.Firsts.{firsts, Below}
 use Rattle.transition.specs.Side.{Formed, Stands}

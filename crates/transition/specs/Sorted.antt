@@ -17,10 +17,10 @@ use Rattle.laws.specs.Lowering.Lists.{sort-pairs}
 use Rattle.laws.specs.Lowering.Shape.{PortAt}
 use Rattle.laws.specs.Lowering.Run.{outputs-at, inputs-named}
 use Rattle.struo_ir.specs.Decoded.{decoded}
-use Rattle.struo_ir.specs.OrderPlaces.{placeOf, places}
-use Rattle.struo_ir.specs.OrderPlaces as Orders
+use Rattle.name_order.specs.Places.{placeOf, places}
+use Rattle.name_order.specs.Places as Orders
 use Rattle.struo_ir.specs.declared.netlist.Netlist.{Netlist}
-use Rattle.struo_ir.specs.declared.order.Order.{Order}
+use Rattle.name_order.specs.declared.order.Order.{Order}
 use Rattle.aig.specs.Graph.{graphAt}
 use Rattle.transition.specs.Firsts.{firsts, Mapped, firsts-map}
 use Rattle.transition.specs.Side.{Formed, Stands}

@@ -19,11 +19,11 @@ use Rattle.model.specs.Transition.{netLiteral, fromNetlist}
 use Rattle.model.specs.Check.{systemInitialBits}
 use Rattle.laws.specs.Lowering.Run.{byName, initial-right}
 use Rattle.struo_ir.specs.Decoded.{decoded, decodedRegister, decodedReset}
-use Rattle.struo_ir.specs.OrderPlaces.{placeOf, places}
-use Rattle.struo_ir.specs.OrderPlaces as Orders
+use Rattle.name_order.specs.Places.{placeOf, places}
+use Rattle.name_order.specs.Places as Orders
 use Rattle.struo_ir.specs.declared.netlist.Netlist.{Netlist}
 use Rattle.struo_ir.specs.declared.netlist.RegisterCell.{RegisterCell}
-use Rattle.struo_ir.specs.declared.order.Order.{Order}
+use Rattle.name_order.specs.declared.order.Order.{Order}
 use Rattle.transition.specs.Firsts.{firsts, map-snoc}
 use Rattle.transition.specs.Gate.{Alike, constant-below}
 use Rattle.transition.specs.Walk.{alike-more}

@@ -6,12 +6,12 @@ ghost use Rattle.words.specs.Region.{region};
 ghost use Rattle.model.specs.Literal.{node};
 ghost use Rattle.model.specs.Transition.{netLiteral};
 ghost use Rattle.transition.specs.Firsts.{Mapped};
-ghost use Rattle.struo_ir.specs.OrderPlaces.{Formed};
+ghost use Rattle.name_order.specs.Places.{Formed};
 ghost use Rattle.transition.specs.Gather.{Gathered, byNumber};
 use crate::nets::index;
 use crate::nets::net_literal;
 use aig::Literal;
-use struo_ir::order::Order;
+use name_order::order::Order;
 
 // The value at a number; 0 past the end.
 fn value_at(values: [u32; 128], number: u16) -> u32

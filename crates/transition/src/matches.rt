@@ -1,11 +1,11 @@
 // The states of one side named as those of the other: one more than the rank of the other side's state, 0 for none.
 ghost use mathlib.Core.Path.{_≡_};
-ghost use Rattle.struo_ir.specs.OrderPlaces.{Formed};
+ghost use Rattle.name_order.specs.Places.{Formed};
 ghost use Rattle.transition.specs.Match.{matchAt};
 ghost use Rattle.transition.specs.Named.{MatchesMade};
 use crate::nets::index;
-use struo_ir::order::Order;
-use struo_ir::order::same_name;
+use name_order::names::same_name;
+use name_order::order::Order;
 
 // One more than the first rank of an order in the record `gate` whose name is that at a place of `gold`; 0 for none.
 fn match_of(gold: &[u8], place: u16, gate: &[u8], order: Order) -> u32

@@ -5,8 +5,8 @@ use crate::gather::nodes_of;
 use crate::gather::port_literals;
 use crate::lowering::from_netlist;
 use crate::system::System;
+use name_order::order::Order;
 use struo_ir::netlist::Netlist;
-use struo_ir::order::Order;
 use words::wide;
 
 // The transition system of a design with its ports and states in byte order of names, by the orders of its inputs, outputs and registers. Its graph is left at `base`; `used` is the number of nodes of the last graph built before it.

@@ -1,16 +1,16 @@
 // The literals that the states of a design start with.
 ghost use mathlib.Core.Path.{_≡_};
 ghost use Prim.Native.Nat.{_≤_};
-ghost use Rattle.struo_ir.specs.OrderPlaces.{Formed};
+ghost use Rattle.name_order.specs.Places.{Formed};
 ghost use Rattle.transition.specs.Start.{startOf, Starting};
 ghost use Rattle.transition.specs.Named.{Starts};
 use crate::gather::gather;
 use crate::nets::constant_literal;
 use crate::nets::widen;
 use aig::Literal;
+use name_order::order::Order;
 use struo_ir::netlist::Netlist;
 use struo_ir::netlist::RegisterCell;
-use struo_ir::order::Order;
 
 // The literal of a register's initial bit: its reset value, 0 without a reset.
 fn start_literal(register: RegisterCell) -> Literal

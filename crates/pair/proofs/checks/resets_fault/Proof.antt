@@ -6,7 +6,7 @@ use mathlib.Core.List.{List}
 use lib.ListN.{length, drop, getD, length-map}
 use Rattle.model.specs.Pair.{resetsFault}
 use Rattle.struo_ir.specs.Decoded.{decoded}
-use Rattle.struo_ir.specs.OrderPlaces.{noCell, places}
+use Rattle.name_order.specs.Places.{noCell, places}
 use Rattle.pair.specs.PairChecks.{faultOf}
 use Rattle.pair.specs.PairCheckLaws.{lacks-right, resets-more, resets-here, resets-none}
 use Rattle.pair.specs.declared.checks.Fault.the-variants.{Refused}
@@ -18,7 +18,7 @@ use Rattle.pair.proofs.checks.resets_fault.Lts as lts
 use Rattle.pair.proofs.checks.lacks_reset.Reads as lacks-reset-reads
 use Rattle.pair.proofs.checks.no_reset.Reads as no-reset-reads
 use Rattle.pair.proofs.checks.within.Reads as within-reads
-use Rattle.struo_ir.proofs.order.wide.Reads as wide-reads
+use Rattle.name_order.proofs.names.wide.Reads as wide-reads
 
 abbrev Inv-loop : tie.InvT-loop
 Inv-loop side order netlist count limit k₀ k =

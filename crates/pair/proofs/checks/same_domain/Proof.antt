@@ -13,7 +13,7 @@ use Rattle.pair.proofs.checks.same_domain.Reads as reads
 use Rattle.pair.proofs.checks.same_domain.Lts as lts
 use Rattle.pair.proofs.checks.input_name.Reads as input-name-reads
 use Rattle.pair.proofs.checks.same_edge.Reads as same-edge-reads
-use Rattle.struo_ir.proofs.order.same.Reads as same-reads
+use Rattle.name_order.proofs.names.same.Reads as same-reads
 
 returns : tie.Need-returns
 unfolding sameDomain domainBy

@@ -6,15 +6,15 @@ use borrow.Author.Tests.{not-true, not-false}
 use lib.ListN.{drop}
 use Rattle.model.specs.Names.{sameName, sameNames, namesOf}
 use Rattle.struo_ir.specs.Decoded.{nameAt}
-use Rattle.struo_ir.specs.OrderPlaces.{places}
+use Rattle.name_order.specs.Places.{places}
 use Rattle.pair.specs.PairCheckLaws.{names-longer, names-apart, names-more, names-end}
 use borrow.Author.Needs.{needs}
 use Rattle.pair.proofs.checks.same_names.Statement.{statement}
 use Rattle.pair.proofs.checks.same_names.Tie as tie
 use Rattle.pair.proofs.checks.same_names.Reads as reads
 use Rattle.pair.proofs.checks.same_names.Lts as lts
-use Rattle.struo_ir.proofs.order.same_name.Reads as same-name-reads
-use Rattle.struo_ir.proofs.order.wide.Reads as wide-reads
+use Rattle.name_order.proofs.names.same_name.Reads as same-name-reads
+use Rattle.name_order.proofs.names.wide.Reads as wide-reads
 
 abbrev Inv-loop : tie.InvT-loop
 Inv-loop gold gate a b count limit k₀ k =

@@ -10,7 +10,7 @@ use Rattle.replay.proofs.run.enabled_bit.Reads as reads
 use Rattle.replay.proofs.run.enabled_bit.Lts as lts
 use Rattle.replay.proofs.run.asserted.Reads as asserted-reads
 use Rattle.replay.proofs.run.bit_at.Reads as bit-at-reads
-use Rattle.struo_ir.proofs.order.wide.Reads as wide-reads
+use Rattle.name_order.proofs.names.wide.Reads as wide-reads
 
 returns : tie.Need-returns
 returns c = let a = c .before .before .before .args in sym (enabled-none (a .values .now) (a .stored) (a .next) (a .cell) (c .if1 .taken))

@@ -8,7 +8,7 @@ use Rattle.replay.proofs.run.next_bit.Lts as lts
 use Rattle.replay.proofs.run.bit_at.Reads as bit-at-reads
 use Rattle.replay.proofs.run.enabled_bit.Reads as enabled-bit-reads
 use Rattle.replay.proofs.run.reset_bit.Reads as reset-bit-reads
-use Rattle.struo_ir.proofs.order.wide.Reads as wide-reads
+use Rattle.name_order.proofs.names.wide.Reads as wide-reads
 
 returns : tie.Need-returns
 unfolding nextOf

@@ -7,7 +7,7 @@ use Rattle.replay.proofs.run.node_value.Reads as reads
 use Rattle.replay.proofs.run.node_value.Lts as lts
 use Rattle.replay.proofs.run.bit_at.Reads as bit-at-reads
 use Rattle.replay.proofs.run.value_of.Reads as value-of-reads
-use Rattle.struo_ir.proofs.order.wide.Reads as wide-reads
+use Rattle.name_order.proofs.names.wide.Reads as wide-reads
 
 returns : tie.Need-returns
 unfolding nodeBy

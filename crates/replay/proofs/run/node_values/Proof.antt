@@ -8,9 +8,9 @@ use lib.ListN.{length, take, drop, getD, replicate, length-map, length-set, leng
 use Rattle.model.specs.Names.{Place}
 use Rattle.model.specs.Replay.{claimBit}
 use Rattle.model.specs.Run.{valuesFrom, nodeValues}
-use Rattle.struo_ir.specs.Checks.{Drivers}
+use Rattle.netlist_checks.specs.Checks.{Drivers}
 use Rattle.struo_ir.specs.Decoded.{decoded}
-use Rattle.struo_ir.specs.OrderPlaces.{noNode, noCell}
+use Rattle.name_order.specs.Places.{noNode, noCell}
 use Rattle.replay.specs.RunTables.{Ranked, rowInputs, nodeBy, shownBy}
 use Rattle.replay.specs.RunLaws.{rest-more, value-right, values-more, padded-row, values-done}
 use borrow.Author.Needs.{needs}
@@ -22,7 +22,7 @@ use Rattle.replay.proofs.run.input_bit.Reads as input-bit-reads
 use Rattle.replay.proofs.run.node_value.Reads as node-value-reads
 use Rattle.replay.proofs.run.register_of.Reads as register-of-reads
 use Rattle.replay.proofs.run.shown_by.Reads as shown-by-reads
-use Rattle.struo_ir.proofs.order.wide.Reads as wide-reads
+use Rattle.name_order.proofs.names.wide.Reads as wide-reads
 
 abbrev Inv-loop : tie.InvT-loop
 Inv-loop claim at netlist ranks drivers stored count values₀ i₀ values i =

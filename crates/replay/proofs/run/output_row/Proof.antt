@@ -7,8 +7,8 @@ use native.Mathlib.Omega.{arith}
 use lib.ListN.{length, take, drop, getD, replicate, length-set, length-replicate}
 use Rattle.model.specs.Names.{Place}
 use Rattle.model.specs.Run.{bitAt}
-use Rattle.struo_ir.specs.OrderPlaces.{noEntry, places}
-use Rattle.struo_ir.specs.OrderPorts.{count-places}
+use Rattle.name_order.specs.Places.{noEntry, places}
+use Rattle.name_order.specs.PortLaws.{count-places}
 use Rattle.replay.specs.RunLaws.{rest-more, padded-row}
 use Rattle.replay.specs.RowLaws.{output-more, mapped-done}
 use borrow.Author.Needs.{needs}
@@ -17,7 +17,7 @@ use Rattle.replay.proofs.run.output_row.Tie as tie
 use Rattle.replay.proofs.run.output_row.Reads as reads
 use Rattle.replay.proofs.run.output_row.Lts as lts
 use Rattle.replay.proofs.run.bit_at.Reads as bit-at-reads
-use Rattle.struo_ir.proofs.order.wide.Reads as wide-reads
+use Rattle.name_order.proofs.names.wide.Reads as wide-reads
 
 abbrev Inv-loop : tie.InvT-loop
 Inv-loop values outputs count row₀ k₀ row k =

@@ -5,7 +5,7 @@ use mathlib.Core.List.{List}
 use lib.ListN.{take, drop}
 use Rattle.model.specs.Run.{bitAt, nodeValues}
 use Rattle.struo_ir.specs.Decoded.{decoded}
-use Rattle.struo_ir.specs.OrderPlaces.{places}
+use Rattle.name_order.specs.Places.{places}
 use Rattle.replay.specs.RunTables.{rowInputs, padded}
 use Rattle.replay.specs.RunLaws.{Alike}
 use Rattle.replay.specs.StepLaws.{alike-padded, nextStored-alike, outputBits-alike}

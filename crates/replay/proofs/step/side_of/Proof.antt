@@ -5,7 +5,7 @@ use Rattle.replay.proofs.step.side_of.Statement.{statement}
 use Rattle.replay.proofs.step.side_of.Tie as tie
 use Rattle.replay.proofs.step.side_of.Reads as reads
 use Rattle.replay.proofs.step.side_of.Lts as lts
-use Rattle.struo_ir.proofs.validate.drivers.Reads as drivers-reads
+use Rattle.netlist_checks.proofs.validate.drivers.Reads as drivers-reads
 use Rattle.replay.proofs.tables.input_ranks.Reads as input-ranks-reads
 
 returns : tie.Need-returns

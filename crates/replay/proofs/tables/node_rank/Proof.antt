@@ -4,7 +4,7 @@ use borrow.Author.Tests.{eq-eqb, ne-eqb}
 use Prim.Native.Nat.{ℕ}
 use Rattle.model.specs.Names.{rank}
 use Rattle.struo_ir.specs.Decoded.{nameAt}
-use Rattle.struo_ir.specs.OrderPlaces.{places}
+use Rattle.name_order.specs.Places.{places}
 use Rattle.replay.specs.RunTables.{inputRank}
 use borrow.Author.Needs.{needs}
 use Rattle.replay.proofs.tables.node_rank.Statement.{statement}
@@ -12,7 +12,7 @@ use Rattle.replay.proofs.tables.node_rank.Tie as tie
 use Rattle.replay.proofs.tables.node_rank.Reads as reads
 use Rattle.replay.proofs.tables.node_rank.Lts as lts
 use Rattle.replay.proofs.tables.rank_in.Reads as rank-in-reads
-use Rattle.struo_ir.proofs.order.wide.Reads as wide-reads
+use Rattle.name_order.proofs.names.wide.Reads as wide-reads
 
 returns : tie.Need-returns
 unfolding inputRank

@@ -5,15 +5,15 @@ use native.Mathlib.Omega.{arith}
 use lib.ListN.{getD, drop}
 use Rattle.model.specs.Names.{sameName, rank}
 use Rattle.struo_ir.specs.Decoded.{nameAt}
-use Rattle.struo_ir.specs.OrderPlaces.{noEntry, places}
+use Rattle.name_order.specs.Places.{noEntry, places}
 use Rattle.replay.specs.TableLaws.{rank-passed, rank-here, rank-none}
 use borrow.Author.Needs.{needs}
 use Rattle.replay.proofs.tables.rank_in.Statement.{statement}
 use Rattle.replay.proofs.tables.rank_in.Tie as tie
 use Rattle.replay.proofs.tables.rank_in.Reads as reads
 use Rattle.replay.proofs.tables.rank_in.Lts as lts
-use Rattle.struo_ir.proofs.order.same_name.Reads as same-name-reads
-use Rattle.struo_ir.proofs.order.wide.Reads as wide-reads
+use Rattle.name_order.proofs.names.same_name.Reads as same-name-reads
+use Rattle.name_order.proofs.names.wide.Reads as wide-reads
 
 abbrev Inv-loop : tie.InvT-loop
 Inv-loop bytes place other order count k₀ k =

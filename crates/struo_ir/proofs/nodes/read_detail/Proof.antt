@@ -1,8 +1,8 @@
 -- `struo_ir::nodes::read_detail` meets its contract. Assumes nothing.
 use borrow.Author.Tests.{ne-eqb}
 use Rattle.model.specs.Record.{hasName, hasValue}
-use Rattle.struo_ir.specs.Fields.{numberOf, codeOf}
-use Rattle.struo_ir.specs.FieldLaws.{known}
+use Rattle.fields.specs.Fields.{numberOf, codeOf}
+use Rattle.fields.specs.FieldLaws.{known}
 use Rattle.struo_ir.specs.Nodes.{detailAt, detailIf}
 use Rattle.struo_ir.specs.NodeLaws.{named-input, named-output, unnamed}
 use borrow.Author.Needs.{needs}

@@ -2,8 +2,8 @@
 use mathlib.Core.Path.{_≡_, ap, _∙_}
 use Prim.Native.Nat.{ℕ}
 use Rattle.model.specs.Record.{pure, refuse, numbers}
-use Rattle.struo_ir.specs.Fields.{codeOf, numberOf, mapStep, kindAt}
-use Rattle.struo_ir.specs.FieldLaws.{known, bind-refused, bind-got}
+use Rattle.fields.specs.Fields.{codeOf, numberOf, mapStep, kindAt}
+use Rattle.fields.specs.FieldLaws.{known, bind-refused, bind-got}
 use Rattle.struo_ir.specs.Nodes.{inputsOf, nodeStep, three, detailAt, inputsAt, cellOf, cellInputs, cellDetail, cellAt}
 use borrow.Author.Needs.{needs}
 use Rattle.struo_ir.proofs.nodes.read_node.Statement.{statement}

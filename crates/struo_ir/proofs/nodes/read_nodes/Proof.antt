@@ -1,7 +1,7 @@
 -- `struo_ir::nodes::read_nodes` meets its contract: the nodes that are left to read give the whole outcome. Assumes nothing.
 use Prim.Native.Nat.{_-_}
 use native.Mathlib.Omega.{arith}
-use Rattle.struo_ir.specs.FieldLaws.{known}
+use Rattle.fields.specs.FieldLaws.{known}
 use Rattle.struo_ir.specs.Nodes.{nodeStep, noNode, NodesSoFar}
 use Rattle.struo_ir.specs.NodesLaws.{nodes-start, nodes-more, nodes-refused, nodes-done}
 use borrow.Author.Needs.{needs}

@@ -2,8 +2,8 @@
 use Prim.Native.Nat.{_-_}
 use mathlib.Core.Path.{_∙_}
 use Rattle.model.specs.Record.{refuse}
-use Rattle.struo_ir.specs.Fields.{numberOf}
-use Rattle.struo_ir.specs.FieldLaws.{known}
+use Rattle.fields.specs.Fields.{numberOf}
+use Rattle.fields.specs.FieldLaws.{known}
 use Rattle.struo_ir.specs.Nodes.{inputsOf, three, second, third}
 use Rattle.struo_ir.specs.NodeLaws.{numbers-none, numbers-refused, numbers-got}
 use borrow.Author.Needs.{needs}

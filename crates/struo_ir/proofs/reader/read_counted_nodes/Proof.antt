@@ -4,8 +4,8 @@ use mathlib.Core.List.{[]}
 use lib.Dec.{leb}
 use borrow.Author.Tests.{lt-leb}
 use Rattle.model.specs.Record.{number, guard, refuse, listedKind, nodes, nodesFrom}
-use Rattle.struo_ir.specs.Fields.{numberOf}
-use Rattle.struo_ir.specs.FieldLaws.{known, bind-refused, guard-refused, guard-failed}
+use Rattle.fields.specs.Fields.{numberOf}
+use Rattle.fields.specs.FieldLaws.{known, bind-refused, guard-refused, guard-failed}
 use Rattle.struo_ir.specs.ReadingLaws.{nodes-not-counted, nodes-counted}
 use borrow.Author.Needs.{needs}
 use Rattle.struo_ir.proofs.reader.read_counted_nodes.Statement.{statement}

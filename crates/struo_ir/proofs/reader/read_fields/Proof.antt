@@ -1,8 +1,8 @@
 -- `struo_ir::reader::read_fields` meets its contract. Assumes nothing.
 use mathlib.Core.Path.{_≡_, _∙_}
 use Rattle.model.specs.Record.{finished, version1}
-use Rattle.struo_ir.specs.Fields.{numberOf}
-use Rattle.struo_ir.specs.FieldLaws.{known}
+use Rattle.fields.specs.Fields.{numberOf}
+use Rattle.fields.specs.FieldLaws.{known}
 use Rattle.struo_ir.specs.Reading.{fromNodes}
 use Rattle.struo_ir.specs.ReadingLaws.{read-refused, design-refused, design-named, nodes-refused-at, nodes-then}
 use borrow.Author.Needs.{needs}

@@ -2,8 +2,8 @@
 use mathlib.Core.Path.{ap, _∙_}
 use mathlib.Core.List.{[], _∷_}
 use Rattle.model.specs.Record.{number, codeBelow, refuse}
-use Rattle.struo_ir.specs.Fields.{codeOf}
-use Rattle.struo_ir.specs.FieldLaws.{known, bind-refused, bind-got}
+use Rattle.fields.specs.Fields.{codeOf}
+use Rattle.fields.specs.FieldLaws.{known, bind-refused, bind-got}
 use Rattle.struo_ir.specs.declared.netlist.RegisterCell.{RegisterCell}
 use Rattle.struo_ir.specs.Registers.{registerStep, fixed, registerEnable, registerEdge}
 use borrow.Author.Needs.{needs}

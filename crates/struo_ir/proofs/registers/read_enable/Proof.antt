@@ -1,8 +1,8 @@
 -- `struo_ir::registers::read_enable` meets its contract. Assumes nothing.
 use mathlib.Core.Path.{_≡_, ap, _∙_}
 use Rattle.model.specs.Record.{number, codeBelow, refuse}
-use Rattle.struo_ir.specs.Fields.{codeOf, numberOf}
-use Rattle.struo_ir.specs.FieldLaws.{known, bind-refused, bind-got}
+use Rattle.fields.specs.Fields.{codeOf, numberOf}
+use Rattle.fields.specs.FieldLaws.{known, bind-refused, bind-got}
 use Rattle.struo_ir.specs.declared.netlist.RegisterCell.{RegisterCell}
 use Rattle.struo_ir.specs.Registers.{registerStep, registerReset, registerSignal, enableIf, registerEnable}
 use Rattle.struo_ir.specs.RegistersLaws.{enable-none, enable-some}

@@ -1,8 +1,8 @@
 -- `struo_ir::registers::read_register` meets its contract. Assumes nothing.
 use mathlib.Core.Path.{_≡_, _∙_}
 use Rattle.model.specs.Record.{number, refuse}
-use Rattle.struo_ir.specs.Fields.{numberOf}
-use Rattle.struo_ir.specs.FieldLaws.{known, bind-refused, bind-got}
+use Rattle.fields.specs.Fields.{numberOf}
+use Rattle.fields.specs.FieldLaws.{known, bind-refused, bind-got}
 use Rattle.struo_ir.specs.Nodes.{inputsOf}
 use Rattle.struo_ir.specs.Registers.{registerStep, netsAt, placeAt, registerEdge, registerNets, registerAt}
 use borrow.Author.Needs.{needs}

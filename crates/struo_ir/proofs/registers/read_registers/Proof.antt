@@ -1,7 +1,7 @@
 -- `struo_ir::registers::read_registers` meets its contract: the registers that are left to read give the whole outcome. Assumes nothing.
 use Prim.Native.Nat.{_-_}
 use native.Mathlib.Omega.{arith}
-use Rattle.struo_ir.specs.FieldLaws.{known}
+use Rattle.fields.specs.FieldLaws.{known}
 use Rattle.struo_ir.specs.Registers.{registerStep, noRegister, RegistersSoFar}
 use Rattle.struo_ir.specs.RegistersLaws.{registers-start, registers-more, registers-refused, registers-done}
 use borrow.Author.Needs.{needs}

@@ -1,8 +1,8 @@
 -- `struo_ir::registers::read_reset` meets its contract. Assumes nothing.
 use mathlib.Core.Path.{_≡_, _∙_}
 use Rattle.model.specs.Record.{number, codeBelow, refuse}
-use Rattle.struo_ir.specs.Fields.{codeOf}
-use Rattle.struo_ir.specs.FieldLaws.{known, bind-refused, bind-got}
+use Rattle.fields.specs.Fields.{codeOf}
+use Rattle.fields.specs.FieldLaws.{known, bind-refused, bind-got}
 use Rattle.struo_ir.specs.Registers.{registerStep, resetIf, registerReset}
 use Rattle.struo_ir.specs.RegistersLaws.{reset-none, reset-some}
 use borrow.Author.Needs.{needs}

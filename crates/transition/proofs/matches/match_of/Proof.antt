@@ -4,8 +4,8 @@ use Prim.Native.Nat.{_-_, _≤_, _<_}
 use native.Mathlib.Omega.{arith}
 use lib.ListN.{drop}
 use Rattle.struo_ir.specs.Decoded.{nameAt}
-use Rattle.struo_ir.specs.OrderPlaces.{held}
-use Rattle.struo_ir.specs.OrderLaws.{length-held}
+use Rattle.name_order.specs.Places.{held}
+use Rattle.name_order.specs.PlaceLaws.{length-held}
 use Rattle.transition.specs.Match.{firstFrom, named, matchAt, match-test, first-here, first-later, first-none}
 use borrow.Author.Needs.{needs}
 use Rattle.transition.proofs.matches.match_of.Statement.{statement}

@@ -3,7 +3,7 @@ use mathlib.Core.Path.{_≡_, refl}
 use Prim.Native.Nat.{_-_, _≤_}
 use native.Mathlib.Omega.{arith}
 use lib.ListN.{length}
-use Rattle.struo_ir.specs.declared.order.Entry.{Entry}
+use Rattle.name_order.specs.declared.order.Entry.{Entry}
 use Rattle.transition.specs.Gather.{Gathered, gathered-none, gathered-more}
 use Rattle.transition.specs.Match.{matchAt, matches-made}
 use borrow.Author.Needs.{needs}

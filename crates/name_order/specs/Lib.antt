@@ -1,0 +1,4 @@
+pub mod NameLaws
+pub mod PlaceLaws
+pub mod Places
+pub mod PortLaws
