@@ -18,7 +18,7 @@ fn byte(r: Record, b: u8) -> Record {
     next
 }
 
-// A byte of two at a place that is written already.
+// A number of two bytes at a place that is written already.
 fn placed(r: Record, at: usize, n: u16) -> Record {
     let mut next = r;
     if at < 2047 {

@@ -13,7 +13,7 @@ use Rattle.laws.specs.Queries.Bound.{states-length}
 use Rattle.struo_ir.specs.Decoded.{decoded}
 use Rattle.struo_ir.specs.declared.netlist.Netlist.{Netlist}
 use Rattle.pair.specs.declared.orders.Orders.{Orders}
-use Rattle.equivalence.specs.Cycling.{Paired}
+use Rattle.unrolling.specs.Cycling.{Paired}
 use Rattle.equivalence.specs.Inducing as Inducing
 use Rattle.equivalence.specs.Inducing.{cycleCost}
 use Rattle.queries.specs.Problem.{Provable}

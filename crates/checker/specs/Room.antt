@@ -19,7 +19,7 @@ use Rattle.aig.specs.Graph.{nodeOf, nodeAt, nodesOf, graphAt, Ordered}
 use Rattle.import.specs.Importing.{conjunctions}
 use Rattle.transition.specs.Side.{Formed, Stands}
 use Rattle.transition.specs.declared.system.System.{System}
-use Rattle.equivalence.specs.Side.{conjunctionsOf}
+use Rattle.unrolling.specs.Side.{conjunctionsOf}
 
 -- ---- conjunctions
 

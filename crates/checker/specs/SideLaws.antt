@@ -13,7 +13,7 @@ use Rattle.struo_ir.specs.declared.netlist.Netlist.{Netlist}
 use Rattle.pair.specs.declared.orders.Orders.{Orders}
 use Rattle.aig.specs.Graph.{nodesOf, graphAt}
 use Rattle.aig.specs.Made.{heads-all}
-use Rattle.transition.specs.Firsts.{firsts, Below}
+use Rattle.lowering.specs.Firsts.{firsts, Below}
 use Rattle.transition.specs.Side.{Formed, Stands}
 use Rattle.transition.specs.Named as Named
 use Rattle.transition.specs.Named.{Lowerable, SystemMade, Starts, MatchesMade}

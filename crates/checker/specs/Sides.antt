@@ -12,7 +12,7 @@ use Rattle.struo_ir.specs.Reading.{Padded}
 use Rattle.struo_ir.specs.declared.netlist.Netlist.{Netlist}
 use Rattle.pair.specs.PairChecks.{Within, Ordered}
 use Rattle.pair.specs.declared.orders.Orders.{Orders}
-use Rattle.transition.specs.Firsts.{Below}
+use Rattle.lowering.specs.Firsts.{Below}
 use Rattle.transition.specs.Side.{Formed}
 use Rattle.queries.specs.Problem.{StandsFor}
 use Rattle.queries.specs.declared.problem.Problem.{Problem}

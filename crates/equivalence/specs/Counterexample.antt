@@ -13,10 +13,10 @@ use Rattle.model.specs.Equivalence.{Problem, FrameComparison, Cycle, Base, base
 use Rattle.aig.specs.Graph.{graphOf}
 use Rattle.aig.specs.Made.{Ready, Same, Made, HeadsBelow, outside, same-refl, same-trans}
 use Rattle.import.specs.Importing.{beyond, same-beyond}
-use Rattle.transition.specs.Firsts.{firsts, pairs, Below, below-le}
+use Rattle.lowering.specs.Firsts.{firsts, pairs, Below, below-le}
 use Rattle.equivalence.specs.Frames.{comparisonsOf, RowsBelow, beyondFrames}
 use Rattle.equivalence.specs.Rows.{off-beyond, beyond-frames, untouched-frames, off-graph, off-ready, KeptComparison, comparisons-more, rows-more}
-use Rattle.equivalence.specs.Cycling.{Paired, paired-kept, paired-same, Standing, standing-kept, standing-same, frameCost, cost-kept, cost-same, Startable, startable-le, Compared}
+use Rattle.unrolling.specs.Cycling.{Paired, paired-kept, paired-same, Standing, standing-kept, standing-same, frameCost, cost-kept, cost-same, Startable, startable-le, Compared}
 use Rattle.equivalence.specs.NamedState.{Started}
 use Rattle.transition.specs.declared.system.System.{System}
 

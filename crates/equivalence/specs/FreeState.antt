@@ -11,12 +11,12 @@ use Rattle.model.specs.Equivalence.{Problem, LiteralList, newVariables, gateVar
 use Rattle.aig.specs.Graph.{graphOf}
 use Rattle.aig.specs.Made.{Ready, Same, HeadsBelow, outside, same-trans}
 use Rattle.import.specs.Importing.{beyond, same-beyond}
-use Rattle.transition.specs.Firsts.{firsts, length-firsts, Below, below-le}
-use Rattle.equivalence.specs.Variables.{Listed, grown, new-variables}
-use Rattle.equivalence.specs.Matching.{gateBy, gates-are}
+use Rattle.lowering.specs.Firsts.{firsts, length-firsts, Below, below-le}
+use Rattle.unrolling.specs.Variables.{Listed, grown, new-variables}
+use Rattle.unrolling.specs.Matching.{gateBy, gates-are}
 use Rattle.transition.specs.Namesakes.{namesakes}
 use Rattle.transition.specs.Side.{Stands}
-use Rattle.equivalence.specs.Cycling.{Paired, paired-same, Standing, standing-same, cost-same, Startable}
+use Rattle.unrolling.specs.Cycling.{Paired, paired-same, Standing, standing-same, cost-same, Startable}
 use Rattle.equivalence.specs.Inducing.{states-length, Matched, cycleCost, cycle-cost-same, inductionOf, Closed}
 use Rattle.transition.specs.declared.system.System.{System}
 

@@ -15,13 +15,13 @@ use Rattle.aig.specs.Graph.{graphOf}
 use Rattle.aig.specs.Made.{Ready, Same, Made, made-none, same-refl, same-trans}
 use Rattle.aig.specs.Shortcut.{negate-below}
 use Rattle.import.specs.Importing.{beyond, same-beyond}
-use Rattle.transition.specs.Firsts.{firsts, firsts-more, length-firsts, pairs, Below, below-le, below-more}
-use Rattle.equivalence.specs.Comparing.{made-then, made-le}
-use Rattle.equivalence.specs.Matching.{namedBy, named-is}
+use Rattle.lowering.specs.Firsts.{firsts, firsts-more, length-firsts, pairs, Below, below-le, below-more}
+use Rattle.unrolling.specs.Comparing.{made-then, made-le}
+use Rattle.unrolling.specs.Matching.{namedBy, named-is}
 use Rattle.transition.specs.Namesakes.{namesakes}
-use Rattle.equivalence.specs.Side.{conjunctionsOf}
+use Rattle.unrolling.specs.Side.{conjunctionsOf}
 use Rattle.transition.specs.Side.{Stands}
-use Rattle.equivalence.specs.Cycling.{Paired, paired-same, Standing, standing-same, frameCost, cost-same, Startable, startable-le, Compared}
+use Rattle.unrolling.specs.Cycling.{Paired, paired-same, Standing, standing-same, frameCost, cost-same, Startable, startable-le, Compared}
 use Rattle.transition.specs.declared.system.System.{System}
 
 -- what the test of a negation says

@@ -13,9 +13,9 @@ use Rattle.model.specs.Equivalence.{Problem, orMismatch, comparePairs, compareN
 use Rattle.aig.specs.Graph.{graphOf}
 use Rattle.aig.specs.Made.{Ready, Same, Made, HeadsBelow, outside, same-refl, same-trans}
 use Rattle.import.specs.Importing.{beyond, same-beyond}
-use Rattle.transition.specs.Firsts.{firsts, Below, below-le}
-use Rattle.equivalence.specs.Matching.{named-is}
-use Rattle.equivalence.specs.Cycling.{Paired, paired-same, Standing, standing-same, frameCost, cost-same, Startable, startable-le, FramesMade}
+use Rattle.lowering.specs.Firsts.{firsts, Below, below-le}
+use Rattle.unrolling.specs.Matching.{named-is}
+use Rattle.unrolling.specs.Cycling.{Paired, paired-same, Standing, standing-same, frameCost, cost-same, Startable, startable-le, FramesMade}
 use Rattle.equivalence.specs.Inducing.{joinNamed, Matched, states-length}
 use Rattle.transition.specs.declared.system.System.{System}
 

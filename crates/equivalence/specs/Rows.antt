@@ -16,8 +16,8 @@ use Rattle.aig.specs.Graph.{graphOf, graphAt, nodesOf}
 use Rattle.aig.specs.Made.{Ready, Same, both, same-refl, same-trans}
 use Rattle.aig.specs.Side.{side-under}
 use Rattle.import.specs.Importing.{beyond, side-beyond}
-use Rattle.transition.specs.Firsts.{firsts, pairs, Below}
-use Rattle.equivalence.specs.Side.{Untouched}
+use Rattle.lowering.specs.Firsts.{firsts, pairs, Below}
+use Rattle.unrolling.specs.Side.{Untouched}
 use Rattle.equivalence.specs.Frames.{wordsFrom, pairsFrom, comparisonAt, comparisonsOf, RowsBelow, beyondFrames}
 
 -- the region at b shares no word with FRAMES

@@ -2,14 +2,14 @@
 ghost use mathlib.Core.Path.{_≡_};
 ghost use Prim.Native.Nat.{ℕ, _+_, _*_, _≤_, _<_};
 ghost use lib.ListN.{length};
-ghost use Rattle.transition.specs.Firsts.{Below};
-ghost use Rattle.equivalence.specs.Cycling.{Startable};
+ghost use Rattle.lowering.specs.Firsts.{Below};
+ghost use Rattle.unrolling.specs.Cycling.{Startable};
 ghost use Rattle.equivalence.specs.NamedState.{namedCost, NamedCycled, NamedLeft, Preservable, Preserves};
-use crate::cycle::import_frames;
 use crate::induction::cycle_mismatch;
 use aig::Aig;
 use aig::Literal;
 use transition::system::System;
+use unrolling::cycle::import_frames;
 
 // A graph, the states of both sides, and the mismatch of all cycles so far: query 1 and 2 between two cycles.
 pub struct Base {

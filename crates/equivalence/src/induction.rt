@@ -5,19 +5,19 @@ ghost use lib.ListN.{length};
 ghost use Rattle.model.specs.Equivalence.{assumed};
 ghost use Rattle.aig.specs.Graph.{graphOf};
 ghost use Rattle.aig.specs.Made.{Ready, Made};
-ghost use Rattle.transition.specs.Firsts.{Below};
-ghost use Rattle.equivalence.specs.Naming.{MatchesBelow};
-ghost use Rattle.equivalence.specs.Cycling.{Startable};
+ghost use Rattle.lowering.specs.Firsts.{Below};
+ghost use Rattle.unrolling.specs.Naming.{MatchesBelow};
+ghost use Rattle.unrolling.specs.Cycling.{Startable};
 ghost use Rattle.equivalence.specs.Inducing.{joinNamed, cycleCost, Cycled, Closed};
 ghost use Rattle.equivalence.specs.FreeState.{Freed, Inducible, Induces};
-use crate::compare::compare_named_state;
-use crate::cycle::compared_cycle;
-use crate::variables::gate_variables;
-use crate::variables::new_variables;
 use aig::Aig;
 use aig::Built;
 use aig::Literal;
 use transition::system::System;
+use unrolling::compare::compare_named_state;
+use unrolling::cycle::compared_cycle;
+use unrolling::variables::gate_variables;
+use unrolling::variables::new_variables;
 
 // A graph, the states of both sides, and the assumptions so far.
 pub struct Induction {

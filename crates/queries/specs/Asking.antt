@@ -10,7 +10,7 @@ use Rattle.laws.specs.Graph.Operations.{Formed}
 use Rattle.aig.specs.Graph.{graphOf}
 use Rattle.aig.specs.Made.{Ready}
 use Rattle.assignment.specs.State.{Unchanged}
-use Rattle.transition.specs.Firsts.{firsts, take-firsts, Below}
+use Rattle.lowering.specs.Firsts.{firsts, take-firsts, Below}
 use Rattle.sat.specs.State.{solveRegions}
 use Rattle.sat.specs.SolveLaws.{answerOf}
 use Rattle.sat.specs.StartLaws.{Solvable, Solves}

@@ -8,7 +8,7 @@ use Rattle.model.specs.Sat as Sat
 use Rattle.model.specs.Equivalence as Model
 use Rattle.model.specs.Equivalence.{Proving, undecided, decided, basePreservesNamedState, inductionCloses, askedToo, afterQuery4, query4, afterQuery3, afterQuery2}
 use Rattle.model.specs.Check.{verdictAnswer, verdictTrace}
-use Rattle.equivalence.specs.Side.{Untouched}
+use Rattle.unrolling.specs.Side.{Untouched}
 use Rattle.sat.specs.SolveLaws.{answerOf as answered}
 use Rattle.sat.specs.declared.state.Answer.{Answer}
 use Rattle.sat.specs.declared.state.Answer.the-variants as Answers

@@ -14,7 +14,7 @@ use Rattle.model.specs.Equivalence as Model
 use Rattle.model.specs.Equivalence.{Proving, undecided, decided, baseCounterexample, traceBytes, notEquivalentAt, askedToo, afterQuery1, query1, atDepth, depths, proveSequentialEquivalence}
 use Rattle.model.specs.Check.{overwrite, verdictAnswer, verdictTrace}
 use Rattle.queries.specs.Problem.{StandsFor, Provable, answerOf, Proves}
-use Rattle.equivalence.specs.Side.{Untouched}
+use Rattle.unrolling.specs.Side.{Untouched}
 use Rattle.queries.specs.Untouched.{untouched-none, untouched-both}
 use Rattle.queries.specs.Querying.{Queryable, stands-for-kept, queryable-at, queryable-kept}
 use Rattle.queries.specs.Finding.{FoundBy, Finds}

@@ -20,7 +20,7 @@ use Rattle.sat.specs.declared.state.Answer.{Answer}
 use Rattle.sat.specs.declared.state.Answer.the-variants as Answers
 use Rattle.trace.specs.Trace.{Traceable, Traced}
 use Rattle.queries.specs.Problem.{StandsFor}
-use Rattle.equivalence.specs.Side.{Untouched}
+use Rattle.unrolling.specs.Side.{Untouched}
 use Rattle.queries.specs.Asking.{Asked}
 use Rattle.queries.specs.Querying.{Queryable, Stated, Queried, started, stated-compares, queried}
 use Rattle.queries.specs.declared.problem.Problem.{Problem}

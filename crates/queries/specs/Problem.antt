@@ -10,8 +10,8 @@ use Rattle.model.specs.Literal.{constantLiteral}
 use Rattle.model.specs.Equivalence as Model
 use Rattle.model.specs.Equivalence.{proveSequentialEquivalence}
 use Rattle.model.specs.Check.{verdictAnswer, verdictTrace}
-use Rattle.transition.specs.Firsts.{firsts, Below}
-use Rattle.equivalence.specs.Cycling.{Paired, Standing}
+use Rattle.lowering.specs.Firsts.{firsts, Below}
+use Rattle.unrolling.specs.Cycling.{Paired, Standing}
 use Rattle.equivalence.specs.Inducing.{Matched, cycleCost}
 use Rattle.equivalence.specs.FreeState.{Returned}
 use Rattle.queries.specs.declared.problem.Problem.{Problem}

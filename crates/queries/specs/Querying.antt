@@ -14,10 +14,10 @@ use Rattle.laws.specs.Graph.Operations.{Formed}
 use Rattle.laws.specs.Queries.Formed as Laws
 use Rattle.aig.specs.Graph.{graphOf}
 use Rattle.aig.specs.Made.{Ready, heads-all}
-use Rattle.transition.specs.Firsts.{firsts, Below}
-use Rattle.equivalence.specs.Side.{Untouched, untouched-beyond}
+use Rattle.lowering.specs.Firsts.{firsts, Below}
+use Rattle.unrolling.specs.Side.{Untouched, untouched-beyond}
 use Rattle.equivalence.specs.Rows.{untouched-frames}
-use Rattle.equivalence.specs.Cycling.{Paired, paired-kept, standing-kept}
+use Rattle.unrolling.specs.Cycling.{Paired, paired-kept, standing-kept}
 use Rattle.equivalence.specs.Inducing.{cycleCost}
 use Rattle.equivalence.specs.FreeState.{Inducible, Induces}
 use Rattle.equivalence.specs.NamedState.{Preservable, Started, Preserves, namedCost}

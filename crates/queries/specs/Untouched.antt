@@ -8,8 +8,8 @@ use Rattle.words.specs.Region.{apart}
 use Rattle.aig.specs.Side.{side-under}
 use Rattle.assignment.specs.State.{Unchanged, apartFrom}
 use Rattle.sat.specs.State.{solveRegions}
-use Rattle.equivalence.specs.Side.{Untouched}
-use Rattle.equivalence.specs.Cycling.{Paired, cost-kept}
+use Rattle.unrolling.specs.Side.{Untouched}
+use Rattle.unrolling.specs.Cycling.{Paired, cost-kept}
 use Rattle.equivalence.specs.Inducing.{cycleCost}
 use Rattle.transition.specs.declared.system.System.{System}
 

@@ -17,8 +17,8 @@ use crate::run::next_stored;
 use crate::run::node_values;
 use crate::run::output_row;
 use crate::tables::input_ranks;
-use netlist_checks::validate::drivers;
 use name_order::order::Order;
+use netlist_checks::validate::drivers;
 use struo_ir::netlist::Netlist;
 
 // A side of a replay, ready to run: its netlist, the rank of each Input among gold's inputs, the register of each node, and its outputs by name.

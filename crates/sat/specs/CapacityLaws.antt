@@ -16,7 +16,7 @@ use Rattle.laws.specs.Search.State.{Stuck}
 use Rattle.laws.specs.Search.Sorting.{Distinct, sort-all, sort-distinct, sort-length, distinct-plain}
 use Rattle.laws.specs.Search.Analysis.{Analyzed, AnalysisEnded}
 use Rattle.laws.specs.Search.Learning.{learned-range}
-use Rattle.watches.specs.State.{AllBelow, clean}
+use Rattle.clauses.specs.State.{AllBelow, clean}
 use Rattle.analysis.specs.Analysis.{Bounded}
 
 -- distinct variables, by places

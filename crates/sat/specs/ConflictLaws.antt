@@ -18,8 +18,8 @@ use Rattle.assignment.specs.State.{assignmentOf, column, Ready, Unchanged}
 use Rattle.assignment.specs.Scores.{scoresOf, Fixed, Others, Decays}
 use Rattle.assignment.specs.StateLaws.{unchanged-none, unchanged-both, unchanged-within, level-is}
 use Rattle.assignment.specs.declared.state.Activity.{Activity}
-use Rattle.watches.specs.Clauses.{length-clauses}
-use Rattle.watches.specs.State.{solverOf, Sound}
+use Rattle.clauses.specs.Clauses.{length-clauses}
+use Rattle.clauses.specs.State.{solverOf, Sound}
 use Rattle.analysis.specs.Analysis.{analysisOf, analysisRegions, viewOf, Bounded, Analyzes}
 use Rattle.analysis.specs.declared.state.Analyzed as Answers
 use Rattle.sat.specs.CapacityLaws.{analysis-fits, asserting-below, clause-below, clause-length, clause-clean}

@@ -14,8 +14,8 @@ use Rattle.assignment.specs.Scores.{choiceOf, Chooses}
 use Rattle.assignment.specs.declared.state.Trail.{Trail}
 use Rattle.assignment.specs.declared.state.Choice.{Choice}
 use Rattle.assignment.specs.declared.state.Choice.the-variants as Choices
-use Rattle.watches.specs.State.{solverOf, scored, Sound}
-use Rattle.watches.specs.declared.state.Store.{Store}
+use Rattle.clauses.specs.State.{solverOf, scored, Sound}
+use Rattle.clauses.specs.declared.state.Store.{Store}
 use Rattle.sat.specs.SoundLaws.{decide-fits, sound-decide, solver-becomes}
 use Rattle.sat.specs.declared.state.Decided.{Decided}
 use Rattle.sat.specs.declared.state.Decided.the-variants as Outcomes

@@ -13,8 +13,8 @@ use Rattle.model.specs.Lists.{snoc}
 use Rattle.model.specs.Aig.{Node, Constant, Variable, And, Aig}
 use Rattle.aig.specs.Graph.{nodeOf, nodesOf, graphAt, graphOf, length-nodes, length-graph}
 use Rattle.aig.specs.Made.{Ready}
-use Rattle.watches.specs.State.{Gates, Holds, nodeIn}
-use Rattle.watches.specs.State as Watches
+use Rattle.clauses.specs.State.{Gates, Holds, nodeIn}
+use Rattle.clauses.specs.State as Watches
 
 -- a node past the first is the same in both readings of its two words
 node-same : (i l r : ℕ) → 0 < i → nodeOf i l r ≡ Watches.nodeOf i l r

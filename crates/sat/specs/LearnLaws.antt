@@ -15,9 +15,9 @@ use Rattle.assignment.specs.State.{Unchanged, column, assignmentOf, assignmentR
 use Rattle.assignment.specs.Scores.{Others}
 use Rattle.assignment.specs.StateLaws.{unchanged-none, unchanged-both, unchanged-within, assignment-kept}
 use Rattle.assignment.specs.declared.state.Trail.{Trail}
-use Rattle.watches.specs.State.{solverOf, scored, searchRegions, Sound, watchRegions, poolLiterals, Attachable, AllBelow, Pooled, clean, Added, AddedList}
-use Rattle.watches.specs.PoolLaws.{attachable, added-list}
-use Rattle.watches.specs.declared.state.Store.{Store}
+use Rattle.clauses.specs.State.{solverOf, scored, searchRegions, Sound, watchRegions, poolLiterals, Attachable, AllBelow, Pooled, clean, Added, AddedList}
+use Rattle.clauses.specs.PoolLaws.{attachable, added-list}
+use Rattle.clauses.specs.declared.state.Store.{Store}
 use Rattle.analysis.specs.SortLaws.{part}
 use Rattle.analysis.specs.Sorting.{Sorts}
 use Rattle.analysis.specs.Analysis.{analysisRegions}

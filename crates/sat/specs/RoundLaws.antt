@@ -15,9 +15,9 @@ use Rattle.assignment.specs.State.{assignmentOf, assignmentRegions, column, enq
 use Rattle.assignment.specs.Scores.{scoresOf}
 use Rattle.assignment.specs.StateLaws.{unchanged-both, unchanged-within}
 use Rattle.assignment.specs.declared.state.Enqueued.{Enqueued}
-use Rattle.watches.specs.Clauses.{watchesOf}
-use Rattle.watches.specs.State.{solverOf, scored, Sound, UnitStep, clean}
-use Rattle.watches.specs.StepLaws.{assigned-clauses, assigned-queues}
+use Rattle.clauses.specs.Clauses.{watchesOf}
+use Rattle.clauses.specs.State.{solverOf, scored, Sound, UnitStep, clean}
+use Rattle.clauses.specs.StepLaws.{assigned-clauses, assigned-queues}
 use Rattle.sat.specs.LearnLaws.{learnedClause, learnRegions, Learns, counted, learn-of}
 use Rattle.sat.specs.State.{baseOf, stateOf, stepOf, Fits, solveRegions, Next, Results, Assertable}
 use Rattle.sat.specs.declared.state.Learned.{Learned}

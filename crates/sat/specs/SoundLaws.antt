@@ -12,10 +12,10 @@ use Rattle.model.specs.Sat as Sat
 use Rattle.assignment.specs.State.{assignmentOf, Unchanged, Becomes, decided}
 use Rattle.assignment.specs.StateLaws.{assignment-kept, trail-length, variables-are}
 use Rattle.assignment.specs.declared.state.Trail.{Trail}
-use Rattle.watches.specs.Clauses.{watchesOf, same-clauses, same-queues}
-use Rattle.watches.specs.State.{solverOf, unassigned, Formed, Sound}
-use Rattle.watches.specs.StepLaws.{formed-kept, assigned-clauses, assigned-queues}
-use Rattle.watches.specs.declared.state.Store.{Store}
+use Rattle.clauses.specs.Clauses.{watchesOf, same-clauses, same-queues}
+use Rattle.clauses.specs.State.{solverOf, unassigned, Formed, Sound}
+use Rattle.clauses.specs.StepLaws.{formed-kept, assigned-clauses, assigned-queues}
+use Rattle.clauses.specs.declared.state.Store.{Store}
 use Rattle.analysis.specs.Analysis.{analysisRegions}
 
 -- ---- the room of the trail

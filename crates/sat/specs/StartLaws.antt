@@ -22,10 +22,10 @@ use Rattle.assignment.specs.Scores.{scoresOf, Others, Starts}
 use Rattle.assignment.specs.StateLaws.{unchanged-both, unchanged-within}
 use Rattle.assignment.specs.declared.state.Activity.{Activity}
 use Rattle.assignment.specs.declared.state.Enqueued.{Enqueued}
-use Rattle.watches.specs.Clauses.{clausesOf, watchesOf}
-use Rattle.watches.specs.State.{solverOf, scored, flagged, encodedOf, Encodable, Encodes, Holds, UnitStep, searchRegions}
-use Rattle.watches.specs.StepLaws.{assigned-clauses, assigned-queues}
-use Rattle.watches.specs.declared.state.Encoded.{Encoded}
+use Rattle.clauses.specs.Clauses.{clausesOf, watchesOf}
+use Rattle.clauses.specs.State.{solverOf, scored, flagged, encodedOf, Encodable, Encodes, Holds, UnitStep, searchRegions}
+use Rattle.clauses.specs.StepLaws.{assigned-clauses, assigned-queues}
+use Rattle.clauses.specs.declared.state.Encoded.{Encoded}
 use Rattle.sat.specs.ConflictLaws.{others-both}
 use Rattle.sat.specs.State.{baseOf, stateOf, Fits, Going, solveRegions}
 use Rattle.sat.specs.SolveLaws.{answerOf, ranFrom, answered-now, Searchable, Searches}

@@ -11,7 +11,7 @@ use Rattle.model.specs.Sat as Sat
 use Rattle.laws.specs.Search.State.{Idle, Stuck, Conflicting}
 use Rattle.assignment.specs.State.{wordValue, column, Unchanged}
 use Rattle.assignment.specs.Scores.{scoresOf, Fixed, Others}
-use Rattle.watches.specs.State.{solverOf, Sound, searchRegions}
+use Rattle.clauses.specs.State.{solverOf, Sound, searchRegions}
 use Rattle.analysis.specs.Analysis.{analysisRegions}
 use Rattle.sat.specs.LearnLaws.{learnedClause, Learnable}
 use Rattle.sat.specs.declared.state.State.{State}

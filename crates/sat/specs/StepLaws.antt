@@ -14,9 +14,9 @@ use Rattle.assignment.specs.State.{assignmentOf, assignmentRegions, Unchanged}
 use Rattle.assignment.specs.Scores.{scoresOf, Others}
 use Rattle.assignment.specs.StateLaws.{unchanged-both, unchanged-within, level-is}
 use Rattle.assignment.specs.declared.state.Trail.{Trail}
-use Rattle.watches.specs.State.{solverOf, scored, Sound, trailOf, propagationOf, Propagates, searchRegions}
-use Rattle.watches.specs.declared.state.Propagation.{Propagation}
-use Rattle.watches.specs.declared.state.Propagation.the-variants as Propagations
+use Rattle.clauses.specs.State.{solverOf, scored, Sound, trailOf, propagationOf, Propagates, searchRegions}
+use Rattle.clauses.specs.declared.state.Propagation.{Propagation}
+use Rattle.clauses.specs.declared.state.Propagation.the-variants as Propagations
 use Rattle.sat.specs.DecideLaws.{Decides}
 use Rattle.sat.specs.State.{baseOf, stateOf, stepOf, modelOf, Fits, Going, Stopped, solveRegions, Results}
 use Rattle.sat.specs.ConflictLaws.{others-none, results-after}

@@ -11,10 +11,10 @@ use Rattle.assignment.specs.StateLaws.{below}
 use Rattle.assignment.specs.Scores.{scoresOf}
 use Rattle.assignment.specs.declared.state.Trail.{Trail}
 use Rattle.assignment.specs.declared.state.Activity.{Activity}
-use Rattle.watches.specs.Tabulate.{getD-tabulate, getD-past}
-use Rattle.watches.specs.Clauses.{clauseAt, clausesOf}
-use Rattle.watches.specs.State.{solverOf}
-use Rattle.watches.specs.declared.state.Store.{Store}
+use Rattle.clauses.specs.Tabulate.{getD-tabulate, getD-past}
+use Rattle.clauses.specs.Clauses.{clauseAt, clausesOf}
+use Rattle.clauses.specs.State.{solverOf}
+use Rattle.clauses.specs.declared.state.Store.{Store}
 use Rattle.analysis.specs.Analysis.{literalsAt, viewOf}
 use Rattle.analysis.specs.AnalyzeLaws.{view-alike, analyze-same}
 

@@ -2,14 +2,14 @@
 ghost use mathlib.Core.List.{[]};
 ghost use Prim.Native.Nat.{_<_, _≤_};
 ghost use lib.ListN.{length};
-ghost use Rattle.watches.specs.State.{Sound};
+ghost use Rattle.clauses.specs.State.{Sound};
 ghost use Rattle.sat.specs.DecideLaws.{Decides};
 use crate::state::Decided;
 use assignment::scores::choose_variable;
 use assignment::state::Choice;
 use assignment::state::Trail;
 use assignment::trail::decide as assign_decision;
-use watches::state::Store;
+use clauses::state::Store;
 
 // A decision, or nothing where every variable is assigned.
 pub fn decide(words: &mut [u32], scores: &[f64], store: Store, t: Trail) -> Decided

@@ -9,9 +9,9 @@ use crate::state::State;
 use crate::state::Step;
 use analysis::resolve::analyze;
 use assignment::scores::decay_activity;
-use watches::propagate::negate;
+use clauses::clause::negate;
+use clauses::state::Propagation;
 use watches::propagate::propagate;
-use watches::state::Propagation;
 use watches::units::enqueue;
 
 // The clause of the asserting literal and the `count` learned ones added, and the asserting one made true by it.

@@ -6,7 +6,7 @@ use crate::state::Answer;
 use crate::state::State;
 use crate::state::Step;
 use assignment::scores::start;
-use watches::start::encode;
+use clauses::start::encode;
 use watches::units::initialize_units;
 
 // Rounds until an answer; there are fewer than `rounds`.

@@ -1,7 +1,7 @@
 // The types of this crate's arguments and answers.
 use assignment::state::Activity;
 use assignment::state::Trail;
-use watches::state::Store;
+use clauses::state::Store;
 
 // The answer of `learn`: the clauses with the learned one, and the trail after backtracking.
 pub struct Learned {

@@ -18,7 +18,7 @@ use Rattle.struo_ir.specs.declared.reader.Answer.{Answer}
 use Rattle.struo_ir.specs.declared.reader.Answer.the-variants as Answers
 use Rattle.aig.specs.Graph.{graphAt, length-nodes}
 use Rattle.aig.specs.Made.{Ready, HeadsBelow, heads-ready}
-use Rattle.transition.specs.System.{Lowered}
+use Rattle.lowering.specs.System.{Lowered}
 
 -- how many nodes the transition graph of a reading has; a refused one has none
 abbrev pub nodesRead : Read → ℕ

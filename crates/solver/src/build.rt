@@ -4,10 +4,10 @@ ghost use Prim.Native.Nat.{_≤_};
 ghost use lib.ListN.{length};
 ghost use Rattle.model.specs.Validate.{readRecord};
 ghost use Rattle.solver.specs.Built.{Built, sizeRead};
+use lowering::lowering::from_netlist;
 use netlist_checks::record::read_record;
 use struo_ir::netlist::Netlist;
 use struo_ir::reader::Answer;
-use transition::lowering::from_netlist;
 use words::GOLD_LHS;
 use words::LENT;
 

@@ -1,10 +1,10 @@
 // The trace of a difference: the inputs of each cycle by name, and the names of the outputs that differ.
 use lender::text::at;
 use libc::STDOUT_FILENO;
-use netlist_checks::record::read_record;
 use name_order::names::name_of;
 use name_order::names::wide;
 use name_order::order::Order;
+use netlist_checks::record::read_record;
 use pair::orders::Orders;
 use pair::orders::by_name;
 use struo_ir::netlist::Netlist;

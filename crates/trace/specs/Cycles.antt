@@ -16,7 +16,7 @@ use Rattle.model.specs.Lists.{snoc, position, nextPlace, concat}
 use Rattle.model.specs.Literal.{Literal}
 use Rattle.model.specs.Aig.{evaluate}
 use Rattle.model.specs.Equivalence.{FrameComparison, byte, firstMismatch, inputBytes, markBytes, firstMarks, traceBytes}
-use Rattle.transition.specs.Firsts.{map-snoc}
+use Rattle.lowering.specs.Firsts.{map-snoc}
 use Rattle.equivalence.specs.Frames.{wordsFrom, pairsFrom, comparisonAt, comparisonsOf}
 use Rattle.model.specs.Check.{overwrite}
 use Rattle.trace.specs.Trace.{modelOf, FirstMismatch, Traced}

@@ -14,7 +14,7 @@ use Rattle.name_order.specs.Places.{noEntry, placeOf, held, places}
 use Rattle.name_order.specs.Places as Orders
 use Rattle.name_order.specs.declared.order.Entry.{Entry}
 use Rattle.name_order.specs.declared.order.Order.{Order}
-use Rattle.transition.specs.Firsts.{firsts, Below, map-snoc}
+use Rattle.lowering.specs.Firsts.{firsts, Below, map-snoc}
 
 -- the first n elements of xs are what f says of the first n entries
 pub record Gathered (f : Entry → ℕ) (es : List Entry) (n : ℕ) (xs : List ℕ) : Type 0 where

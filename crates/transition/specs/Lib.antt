@@ -1,13 +1,5 @@
-pub mod Firsts
 pub mod Side
 pub mod Namesakes
-pub mod Gate
-pub mod Walk
-pub mod Step
-pub mod Driver
-pub mod Nodes
-pub mod Registers
-pub mod System
 pub mod Named
 pub mod Gather
 pub mod Start

@@ -22,7 +22,7 @@ use Rattle.name_order.specs.PlaceLaws.{length-held, held-at}
 use Rattle.struo_ir.specs.declared.netlist.Netlist.{Netlist}
 use Rattle.name_order.specs.declared.order.Entry.{Entry}
 use Rattle.name_order.specs.declared.order.Order.{Order}
-use Rattle.transition.specs.Firsts.{firsts}
+use Rattle.lowering.specs.Firsts.{firsts}
 use Rattle.transition.specs.Gather.{Gathered, gathered-list, gathered-below}
 use Rattle.transition.specs.Namesakes.{matchOf, matchIn, namesakes}
 use Rattle.transition.specs.Named.{MatchesMade}

@@ -16,11 +16,11 @@ use Rattle.name_order.specs.Places as Orders
 use Rattle.struo_ir.specs.declared.netlist.Netlist.{Netlist}
 use Rattle.name_order.specs.declared.order.Order.{Order}
 use Rattle.aig.specs.Made.{Ready, Same, HeadsBelow}
-use Rattle.transition.specs.Firsts.{firsts, Below}
+use Rattle.lowering.specs.Firsts.{firsts, Below}
 use Rattle.transition.specs.Side.{Formed, Stands}
 use Rattle.transition.specs.Namesakes.{namesakes}
-use Rattle.transition.specs.Walk.{elsewhere}
-use Rattle.transition.specs.System.{offSide}
+use Rattle.lowering.specs.Walk.{elsewhere}
+use Rattle.lowering.specs.System.{offSide}
 use Rattle.transition.specs.declared.system.System.{System}
 
 -- The orders are those of a valid netlist's inputs, outputs and registers in the record s.

@@ -9,7 +9,7 @@ use Rattle.model.specs.Literal.{node}
 use Rattle.model.specs.Lists.{member}
 use Rattle.model.specs.Transition.{Port, StateBit, TransitionSystem}
 use Rattle.aig.specs.Graph.{graphAt, Ordered}
-use Rattle.transition.specs.Firsts.{firsts, Below}
+use Rattle.lowering.specs.Firsts.{firsts, Below}
 use Rattle.transition.specs.declared.system.System.{System}
 
 -- The side is in order: its graph, its counts, literals of its own nodes, and every variable an input's or a state's.

@@ -22,9 +22,9 @@ use Rattle.name_order.specs.Places as Orders
 use Rattle.struo_ir.specs.declared.netlist.Netlist.{Netlist}
 use Rattle.name_order.specs.declared.order.Order.{Order}
 use Rattle.aig.specs.Graph.{graphAt}
-use Rattle.transition.specs.Firsts.{firsts, Mapped, firsts-map}
+use Rattle.lowering.specs.Firsts.{firsts, Mapped, firsts-map}
 use Rattle.transition.specs.Side.{Formed, Stands}
-use Rattle.transition.specs.System.{Lowered, walkOf, registersLowered}
+use Rattle.lowering.specs.System.{Lowered, walkOf, registersLowered}
 use Rattle.transition.specs.Gather.{Gathered, byNumber, gathered-list, gathered-below, map-map}
 use Rattle.transition.specs.Variables.{variables-listed, words-variable, in-either}
 use Rattle.transition.specs.Named.{Ordered, Lowerable, SystemMade}

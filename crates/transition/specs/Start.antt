@@ -24,10 +24,10 @@ use Rattle.name_order.specs.Places as Orders
 use Rattle.struo_ir.specs.declared.netlist.Netlist.{Netlist}
 use Rattle.struo_ir.specs.declared.netlist.RegisterCell.{RegisterCell}
 use Rattle.name_order.specs.declared.order.Order.{Order}
-use Rattle.transition.specs.Firsts.{firsts, map-snoc}
-use Rattle.transition.specs.Gate.{Alike, constant-below}
-use Rattle.transition.specs.Walk.{alike-more}
-use Rattle.transition.specs.Step.{by-code}
+use Rattle.lowering.specs.Firsts.{firsts, map-snoc}
+use Rattle.lowering.specs.Gate.{Alike, constant-below}
+use Rattle.lowering.specs.Walk.{alike-more}
+use Rattle.lowering.specs.Step.{by-code}
 use Rattle.transition.specs.Gather.{Gathered, byNumber, gathered-list, gathered-below, map-map}
 use Rattle.transition.specs.Named.{Starts}
 

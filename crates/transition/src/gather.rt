@@ -5,12 +5,12 @@ ghost use lib.ListN.{length};
 ghost use Rattle.words.specs.Region.{region};
 ghost use Rattle.model.specs.Literal.{node};
 ghost use Rattle.model.specs.Transition.{netLiteral};
-ghost use Rattle.transition.specs.Firsts.{Mapped};
+ghost use Rattle.lowering.specs.Firsts.{Mapped};
 ghost use Rattle.name_order.specs.Places.{Formed};
 ghost use Rattle.transition.specs.Gather.{Gathered, byNumber};
-use crate::nets::index;
-use crate::nets::net_literal;
 use aig::Literal;
+use lowering::nets::index;
+use lowering::nets::net_literal;
 use name_order::order::Order;
 
 // The value at a number; 0 past the end.

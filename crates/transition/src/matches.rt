@@ -3,7 +3,7 @@ ghost use mathlib.Core.Path.{_≡_};
 ghost use Rattle.name_order.specs.Places.{Formed};
 ghost use Rattle.transition.specs.Match.{matchAt};
 ghost use Rattle.transition.specs.Named.{MatchesMade};
-use crate::nets::index;
+use lowering::nets::index;
 use name_order::names::same_name;
 use name_order::order::Order;
 

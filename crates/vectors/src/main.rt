@@ -58,7 +58,6 @@ fn all_lines(
         ended: 0,
         lines: 0,
         differ: 0,
-        skipped: 0,
     };
     let mut turns = u64::MAX;
     while 0 < turns {

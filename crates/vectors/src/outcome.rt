@@ -8,10 +8,9 @@ pub struct Difference {
     pub answered: u64,
 }
 
-// A line agrees, is of a call that is not run, is not in the form, or differs.
+// A line agrees, is not in the form, or differs.
 pub enum Outcome {
     Same,
-    Skipped,
     Malformed,
     Differs(Difference),
 }
@@ -52,7 +51,6 @@ pub fn compared(so_far: Outcome, what: u8, expected: u64, answered: u64) -> Outc
                 answered: answered,
             })
         }
-        Outcome::Skipped => Outcome::Skipped,
         Outcome::Malformed => Outcome::Malformed,
         Outcome::Differs(d) => Outcome::Differs(d),
     }

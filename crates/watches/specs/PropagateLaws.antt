@@ -1,14 +1,11 @@
 -- Laws of the pending clauses of a literal and of the rounds of a propagation. Assumes nothing.
 use mathlib.Core.Path.{_≡_, refl, ap, sym, _∙_}
-use mathlib.Core.Bool.{Bool, true, false, cond}
 use mathlib.Core.List.{List, [], _∷_, _++_, map, append-assoc, append-nil}
 use mathlib.Core.Logic.{⊎-elim}
 use mathlib.Core.Option.{none, some}
-use Prim.Native.Nat.{ℕ, zero, suc, _+_, _-_, _*_, _%_, _<_, _≤_}
+use Prim.Native.Nat.{ℕ, zero, suc, _+_, _-_, _*_, _<_, _≤_}
 use native.Mathlib.Omega.{arith}
 use native.Mathlib.Numerals.{add-one}
-use lib.Dec.{eqb}
-use borrow.Author.Tests.{eqb-true, eqb-false}
 use lib.ListN.{set, getD, length, getElem?}
 use lib.Seq.{set-set, set-out, set-getD, getD-set-same, getD-take}
 use Rattle.words.specs.Region.{region, stored, stored-out, length-stored}
@@ -19,15 +16,15 @@ use Rattle.model.specs.Sat.{Solver}
 use Rattle.assignment.specs.State.{assignmentOf, Ready, Unchanged}
 use Rattle.assignment.specs.StateLaws.{unchanged-none, unchanged-both, unchanged-stored}
 use Rattle.assignment.specs.declared.state.Trail.{Trail}
-use Rattle.watches.specs.declared.state.Store.{Store}
-use Rattle.watches.specs.declared.state.Pending.{Pending}
-use Rattle.watches.specs.declared.state.Propagation.{Propagation}
-use Rattle.watches.specs.declared.state.Propagation.the-variants as Propagations
-use Rattle.watches.specs.Queue.{queuesOf, queue, walk}
-use Rattle.watches.specs.Sound.{SoundQueues, drop-sound}
-use Rattle.watches.specs.Clauses.{half, below, watchesOf, same-clauses, no-watch-list, watch-list, length-watches, taken-sound, taken-watches}
-use Rattle.watches.specs.State.{solverOf, trailOf, propagationOf, pendingOf, restOf, appended, Formed, Sound, Step, Visiting, Visits, Taken, Propagates, advanced, watchRegions, searchRegions}
-use Rattle.watches.specs.StepLaws.{step-both, formed-kept, same-assignment, watches-only, length-values, length-trail}
+use Rattle.clauses.specs.declared.state.Store.{Store}
+use Rattle.clauses.specs.declared.state.Pending.{Pending}
+use Rattle.clauses.specs.declared.state.Propagation.{Propagation}
+use Rattle.clauses.specs.declared.state.Propagation.the-variants as Propagations
+use Rattle.clauses.specs.Queue.{queuesOf, queue, walk}
+use Rattle.clauses.specs.Sound.{SoundQueues, drop-sound}
+use Rattle.clauses.specs.Clauses.{half, below, watchesOf, same-clauses, no-watch-list, watch-list, length-watches, taken-sound, taken-watches}
+use Rattle.clauses.specs.State.{solverOf, trailOf, propagationOf, pendingOf, restOf, appended, Formed, Sound, Step, Visiting, Visits, Taken, Propagates, advanced, watchRegions, searchRegions}
+use Rattle.clauses.specs.StepLaws.{step-both, formed-kept, same-assignment, watches-only, length-values, length-trail}
 use Rattle.watches.specs.VisitLaws.{pending-cons}
 
 -- ---- clauses appended to a watch list
@@ -157,16 +154,6 @@ module _ (m : Store) (f : ℕ) (t₀ : Trail) (w₀ : List ℕ) (d₀ : Pending)
           step-both m t₀ w₀ u w′ u w″ _ _ (rw e at steps) z,
           λ s. rw (g s, rest-is) (sym (pending-conflict f (map half (restOf d w w)) id (solverOf s m u w′)) ∙ rw e at (visited s)),
         )
-
--- ---- the literal with the other sign
-
-pub flipped : (l r : ℕ) → r ≡ l + 1 - 2 * (l % 2) → r ≡ Literals.negate l
-unfolding Literals.negate Literals.inverted
-flipped l r e = go (eqb (l % 2) 1) refl
-  where
-    go : (b : Bool) → eqb (l % 2) 1 ≡ b → r ≡ cond b (l - 1) (l + 1)
-    go true g = omega (arith, eqb-true (l % 2) 1 g)
-    go false g = let n = eqb-false (l % 2) 1 g in omega arith
 
 -- ---- a queue taken
 

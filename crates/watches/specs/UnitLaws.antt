@@ -17,12 +17,12 @@ use Rattle.assignment.specs.declared.state.Trail.{Trail}
 use Rattle.assignment.specs.declared.state.Enqueued.{Enqueued}
 use Rattle.assignment.specs.declared.state.Value.{Value}
 use Rattle.assignment.specs.declared.state.Value.the-variants as Values
-use Rattle.watches.specs.declared.state.Store.{Store}
-use Rattle.watches.specs.declared.state.Clause.{Clause}
-use Rattle.watches.specs.Clauses.{clauseAt, clausesOf, clause-is, length-clauses}
-use Rattle.watches.specs.State.{clauseOf, Sound, UnitStep}
-use Rattle.watches.specs.StepLaws.{has-room, assign-step, literal-range}
-use Rattle.watches.specs.ClauseLaws.{length-literals}
+use Rattle.clauses.specs.declared.state.Store.{Store}
+use Rattle.clauses.specs.declared.state.Clause.{Clause}
+use Rattle.clauses.specs.Clauses.{clauseAt, clausesOf, clause-is, length-clauses}
+use Rattle.clauses.specs.State.{clauseOf, Sound, UnitStep}
+use Rattle.clauses.specs.StepLaws.{has-room, assign-step, literal-range}
+use Rattle.clauses.specs.ClauseLaws.{length-literals}
 
 -- ---- a literal
 

@@ -17,15 +17,15 @@ use Rattle.assignment.specs.StateLaws.{unchanged-none}
 use Rattle.assignment.specs.declared.state.Trail.{Trail}
 use Rattle.assignment.specs.declared.state.Value.{Value}
 use Rattle.assignment.specs.declared.state.Value.the-variants as Values
-use Rattle.watches.specs.declared.state.Store.{Store}
-use Rattle.watches.specs.declared.state.Clause.{Clause}
-use Rattle.watches.specs.declared.state.Pending.{Pending}
-use Rattle.watches.specs.declared.state.Propagation.{Propagation}
-use Rattle.watches.specs.Queue.{queuesOf, pushedWords, walk}
-use Rattle.watches.specs.Sound.{lists, drop-sound}
-use Rattle.watches.specs.Clauses.{clauseAt, half, count-fits, clause-is}
-use Rattle.watches.specs.State.{solverOf, clauseOf, pendingOf, restOf, Formed, Sound, Visiting, Visits, slotOf, searchRegions}
-use Rattle.watches.specs.StepLaws.{push-step, push-solver, push-pending, replacedWords, replace-step, replace-pending, replace-solver, has-room, assign-step, assign-solver, step-both, same-assignment, pushed-unchanged, literal-range}
+use Rattle.clauses.specs.declared.state.Store.{Store}
+use Rattle.clauses.specs.declared.state.Clause.{Clause}
+use Rattle.clauses.specs.declared.state.Pending.{Pending}
+use Rattle.clauses.specs.declared.state.Propagation.{Propagation}
+use Rattle.clauses.specs.Queue.{queuesOf, pushedWords, walk}
+use Rattle.clauses.specs.Sound.{lists, drop-sound}
+use Rattle.clauses.specs.Clauses.{clauseAt, half, count-fits, clause-is}
+use Rattle.clauses.specs.State.{solverOf, clauseOf, pendingOf, restOf, Formed, Sound, Visiting, Visits, slotOf, searchRegions}
+use Rattle.clauses.specs.StepLaws.{push-step, push-solver, push-pending, replacedWords, replace-step, replace-pending, replace-solver, has-room, assign-step, assign-solver, step-both, same-assignment, pushed-unchanged, literal-range}
 
 walk-cons : (ls : List ℕ) (n c : ℕ) → 0 < n → walk ls n c ≡ c ∷ walk ls (n - 1) (getD ls c 0)
 unfolding walk

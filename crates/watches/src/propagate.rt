@@ -4,16 +4,16 @@ ghost use mathlib.Core.List.{[], map};
 ghost use Prim.Native.Nat.{_+_, _-_, _<_, _≤_};
 ghost use lib.ListN.{length, getD};
 ghost use Rattle.words.specs.Region.{region};
-ghost use Rattle.model.specs.Literal as Literals;
 ghost use Rattle.model.specs.Sat as Sat;
-ghost use Rattle.watches.specs.Clauses.{half};
-ghost use Rattle.watches.specs.State.{solverOf, trailOf, propagationOf, pendingOf, appended, advanced, Propagates, Sound, Step, Taken, Visiting, Visits};
-use crate::queue::push_back;
-use crate::state::Pending;
-use crate::state::Propagation;
-use crate::state::Store;
+ghost use Rattle.clauses.specs.Clauses.{half};
+ghost use Rattle.clauses.specs.State.{solverOf, trailOf, propagationOf, pendingOf, appended, advanced, Propagates, Sound, Step, Taken, Visiting, Visits};
 use crate::visit::visit;
 use assignment::state::Trail;
+use clauses::clause::negate;
+use clauses::queue::push_back;
+use clauses::state::Pending;
+use clauses::state::Propagation;
+use clauses::state::Store;
 use words::CELLS;
 use words::DOUBLE;
 use words::LINKS;
@@ -24,13 +24,6 @@ use words::WATCH_HEADS;
 use words::fetch;
 use words::stash;
 use words::wide;
-
-// The literal of the same variable with the other sign.
-pub fn negate(l: u32) -> u32
-    ensures { λ r. ⌜ r ≡ Literals.negate l ⌝ }
-{
-    l ^ 1
-}
 
 // The pending cells after the first.
 fn rest(words: &[u32], d: Pending) -> Pending

@@ -1,52 +1,21 @@
-// The start of a search: no clause and empty queues; and the unit clauses enqueued.
+// The unit clauses enqueued before the first decision.
 ghost use mathlib.Core.Path.{_≡_};
 ghost use mathlib.Core.List.{[]};
 ghost use mathlib.Core.Option.{some};
 ghost use Prim.Native.Nat.{_+_, _*_, _<_, _≤_};
-ghost use lib.ListN.{length};
 ghost use Rattle.model.specs.Sat as Sat;
 ghost use Rattle.assignment.specs.State.{assignmentOf, enqueued, wordReason};
-ghost use Rattle.watches.specs.Clauses.{clauseAt, clausesOf};
-ghost use Rattle.watches.specs.State.{clearedTo, Cleared, Sound, UnitStep};
-use crate::clause::clause;
-use crate::clause::literal_at;
-use crate::state::Store;
+ghost use Rattle.clauses.specs.Clauses.{clauseAt, clausesOf};
+ghost use Rattle.clauses.specs.State.{Sound, UnitStep};
 use assignment::state::Enqueued;
 use assignment::state::Trail;
 use assignment::state::Value;
 use assignment::trail::assign;
 use assignment::trail::value;
-use words::CLAUSE_STARTS;
-use words::DOUBLE;
-use words::STARTS;
-use words::WATCH_COUNTS;
-use words::stash;
+use clauses::clause::clause;
+use clauses::clause::literal_at;
+use clauses::state::Store;
 use words::wide;
-
-// All watch queues empty.
-fn clear_counts(words: &mut [u32])
-    requires { ⌜ 8388608 ≤ length (now words) ⌝ }
-    ensures { λ _. ⌜ (now (words .exit) ≡ clearedTo 131072 (now (words .entry))) × (8388608 ≤ length (now (words .exit))) ⌝ }
-{
-    let mut l: usize = 0;
-    while l < DOUBLE {
-        stash(words, WATCH_COUNTS, DOUBLE, l, 0);
-        l += 1;
-    }
-}
-
-// No clause and no watch, whatever the words held before.
-pub fn clear_watches(words: &mut [u32]) -> Store
-    requires { ⌜ 8388608 ≤ length (now words) ⌝ }
-    ensures { λ r. ⌜ Cleared (now (words .entry)) r (now (words .exit)) ⌝ }
-{
-    clear_counts(words);
-    stash(words, CLAUSE_STARTS, STARTS, 0, 0);
-    Store {
-        clauses: 0,
-        literals: 0,
-    }
-}
 
 // A literal of the variables made true with its reason; not ok where it is false.
 pub fn enqueue(words: &mut [u32], store: Store, t: Trail, l: u32, reason: u32) -> Enqueued

@@ -3,7 +3,7 @@ use mathlib.Core.Path.{_≡_, refl, ap, sym, _∙_}
 use Prim.Native.Nat.{ℕ, suc, _+_, _-_, _*_, _<_, _≤_}
 use native.Mathlib.Omega.{arith}
 use lib.ListN.{length}
-use Rattle.equivalence.specs.Cycling.{Startable}
+use Rattle.unrolling.specs.Cycling.{Startable}
 use Rattle.equivalence.specs.NamedState.{namedCost, NamedLeft, named-none, one-named, named-left-more}
 use borrow.Author.Needs.{needs}
 use Rattle.equivalence.proofs.base.named_state_cycles.Statement.{statement}

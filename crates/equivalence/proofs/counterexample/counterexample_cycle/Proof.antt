@@ -8,7 +8,7 @@ use Rattle.equivalence.proofs.counterexample.counterexample_cycle.Reads
 use Rattle.equivalence.proofs.counterexample.counterexample_cycle.Lts as lts
 use Rattle.aig.proofs.Aig.or.Reads as or-reads
 use Rattle.equivalence.proofs.counterexample.keep_comparison.Reads as keep-comparison-reads
-use Rattle.equivalence.proofs.cycle.compared_cycle.Reads as compared-cycle-reads
+use Rattle.unrolling.proofs.cycle.compared_cycle.Reads as compared-cycle-reads
 
 keep-comparison-requires : tie.Need-keep-comparison-requires
 keep-comparison-requires c κs =

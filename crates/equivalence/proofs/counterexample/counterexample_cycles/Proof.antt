@@ -3,7 +3,7 @@ use mathlib.Core.Path.{_≡_, refl}
 use Prim.Native.Nat.{suc, _+_, _-_, _*_, _<_, _≤_}
 use native.Mathlib.Omega.{arith}
 use lib.ListN.{length}
-use Rattle.equivalence.specs.Cycling.{Startable}
+use Rattle.unrolling.specs.Cycling.{Startable}
 use Rattle.equivalence.specs.Counterexample.{comparedCost, ComparedLeft, compared-none, one-compared, compared-left-more}
 use borrow.Author.Needs.{needs}
 use Rattle.equivalence.proofs.counterexample.counterexample_cycles.Statement.{statement}

@@ -9,7 +9,7 @@ use Rattle.equivalence.proofs.counterexample.keep_row.Statement.{statem
 use Rattle.equivalence.proofs.counterexample.keep_row.Tie as tie
 use Rattle.equivalence.proofs.counterexample.keep_row.Reads as reads
 use Rattle.equivalence.proofs.counterexample.keep_row.Lts as lts
-use Rattle.equivalence.proofs.variables.at.Reads as at-reads
+use Rattle.unrolling.proofs.variables.at.Reads as at-reads
 use Rattle.words.proofs.stash.Reads as stash-reads
 
 abbrev Inv-loop : tie.InvT-loop

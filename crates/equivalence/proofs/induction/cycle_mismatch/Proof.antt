@@ -9,7 +9,7 @@ use Rattle.equivalence.proofs.induction.cycle_mismatch.Tie as tie
 use Rattle.equivalence.proofs.induction.cycle_mismatch.Reads as reads
 use Rattle.equivalence.proofs.induction.cycle_mismatch.Lts as lts
 use Rattle.aig.proofs.Aig.or.Reads as or-reads
-use Rattle.equivalence.proofs.compare.compare_named_state.Reads as compare-named-state-reads
+use Rattle.unrolling.proofs.compare.compare_named_state.Reads as compare-named-state-reads
 
 returns : tie.Need-returns
 returns c =

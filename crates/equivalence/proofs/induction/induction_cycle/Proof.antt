@@ -3,15 +3,15 @@ use mathlib.Core.Path.{_≡_, refl, ap, sym, _∙_}
 use Prim.Native.Nat.{ℕ, _+_, _-_, _*_, _<_, _≤_}
 use native.Mathlib.Omega.{arith}
 use lib.ListN.{length, length-set}
-use Rattle.transition.specs.Firsts.{Below, below-le}
-use Rattle.equivalence.specs.Naming.{matches-below}
+use Rattle.lowering.specs.Firsts.{Below, below-le}
+use Rattle.unrolling.specs.Naming.{matches-below}
 use Rattle.equivalence.specs.Inducing.{cycled}
 use borrow.Author.Needs.{needs}
 use Rattle.equivalence.proofs.induction.induction_cycle.Statement.{statement}
 use Rattle.equivalence.proofs.induction.induction_cycle.Tie as tie
 use Rattle.equivalence.proofs.induction.induction_cycle.Reads as reads
 use Rattle.equivalence.proofs.induction.induction_cycle.Lts as lts
-use Rattle.equivalence.proofs.cycle.compared_cycle.Reads as compared-cycle-reads
+use Rattle.unrolling.proofs.cycle.compared_cycle.Reads as compared-cycle-reads
 use Rattle.equivalence.proofs.induction.assumed.Reads as assumed-reads
 use Rattle.equivalence.proofs.induction.cycle_mismatch.Reads as cycle-mismatch-reads
 

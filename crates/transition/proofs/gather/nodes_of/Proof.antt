@@ -4,7 +4,7 @@ use Prim.Native.Nat.{_-_, _≤_}
 use native.Mathlib.Omega.{arith}
 use lib.ListN.{length}
 use Rattle.model.specs.Literal.{node}
-use Rattle.transition.specs.Firsts.{Mapped, mapped-none, mapped-more}
+use Rattle.lowering.specs.Firsts.{Mapped, mapped-none, mapped-more}
 use borrow.Author.Needs.{needs}
 use Rattle.transition.proofs.gather.nodes_of.Statement.{statement}
 use Rattle.transition.proofs.gather.nodes_of.Tie as tie

@@ -1,7 +1,7 @@
 -- `keep` meets its contract: the push of a visit that keeps its clause. Assumes nothing.
 use Prim.Native.Nat.{ℕ}
 use mathlib.Core.Path.{_≡_, ap, _∙_}
-use Rattle.watches.specs.Queue.{pushedWords}
+use Rattle.clauses.specs.Queue.{pushedWords}
 use Rattle.watches.specs.VisitLaws.{queue-room, kept-visits, kept}
 use borrow.Author.Needs.{needs}
 use Rattle.watches.proofs.propagate.keep.Statement.{statement}

@@ -3,9 +3,9 @@ use Prim.Native.Nat.{ℕ, _+_, _*_}
 use mathlib.Core.Path.{_≡_, ap, _∙_}
 use mathlib.Core.List.{List}
 use Rattle.words.specs.Region.{stored}
-use Rattle.watches.specs.Queue.{pushedWords}
-use Rattle.watches.specs.Clauses.{half}
-use Rattle.watches.specs.StepLaws.{replacedWords}
+use Rattle.clauses.specs.Queue.{pushedWords}
+use Rattle.clauses.specs.Clauses.{half}
+use Rattle.clauses.specs.StepLaws.{replacedWords}
 use Rattle.watches.specs.VisitLaws.{moved-room, replaced}
 use borrow.Author.Needs.{needs}
 use Rattle.watches.proofs.visit.replace_watch.Statement.{statement}

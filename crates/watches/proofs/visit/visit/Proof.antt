@@ -4,8 +4,8 @@ use native.Mathlib.Omega.{arith}
 use Prim.Native.Nat.{ℕ, _+_}
 use lib.ListN.{getD}
 use Rattle.words.specs.Region.{region}
-use Rattle.watches.specs.Clauses.{clauseAt, half}
-use Rattle.watches.specs.State.{clauseOf}
+use Rattle.clauses.specs.Clauses.{clauseAt, half}
+use Rattle.clauses.specs.State.{clauseOf}
 use Rattle.watches.specs.VisitLaws.{slot-first, slot-second, slot-neither, dropped-visits, end-fits, literal-fits, other-of-first, other-of-second}
 use borrow.Author.Needs.{needs}
 use Rattle.watches.proofs.visit.visit.Statement.{statement}

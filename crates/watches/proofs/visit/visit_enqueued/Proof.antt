@@ -1,7 +1,7 @@
 -- `visit_enqueued` meets its contract: by the other literal's value after the push. Assumes nothing.
 use Prim.Native.Nat.{ℕ}
 use mathlib.Core.Path.{_≡_, ap, _∙_}
-use Rattle.watches.specs.Queue.{pushedWords}
+use Rattle.clauses.specs.Queue.{pushedWords}
 use Rattle.watches.specs.VisitLaws.{queue-room, enqueued-true, enqueued-false, enqueued-assigned, assign-room, kept-visits}
 use borrow.Author.Needs.{needs}
 use Rattle.watches.proofs.visit.visit_enqueued.Statement.{statement}

@@ -1,8 +1,8 @@
 -- `visit_other` meets its contract: by whether the other literal is true, and by the replacement. Assumes nothing.
 use Prim.Native.Nat.{ℕ}
 use mathlib.Core.Path.{_≡_, ap, sym, _∙_}
-use Rattle.watches.specs.Queue.{pushedWords}
-use Rattle.watches.specs.State.{placeOf}
+use Rattle.clauses.specs.Queue.{pushedWords}
+use Rattle.clauses.specs.State.{placeOf}
 use Rattle.watches.specs.VisitLaws.{queue-room, other-true, other-replaced, other-enqueued}
 use borrow.Author.Needs.{needs}
 use Rattle.watches.proofs.visit.visit_other.Statement.{statement}

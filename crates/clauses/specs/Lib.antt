@@ -1,0 +1,16 @@
+pub mod Tabulate
+pub mod Members
+pub mod Queue
+pub mod Sound
+pub mod Clauses
+pub mod State
+pub mod ClauseLaws
+pub mod StepLaws
+pub mod AddLaws
+pub mod EncodeLaws
+pub mod PoolLaws
+pub mod GateLaws
+pub mod ClearLaws
+pub mod AssumptionLaws
+pub mod StartLaws
+pub mod OrderLaws

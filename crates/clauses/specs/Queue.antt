@@ -1,0 +1,168 @@
+-- The watch queues: a head, a tail and a count for each literal, and a link for each cell; a queue is the walk of `count` cells from its head. Assumes nothing.
+use mathlib.Core.Path.{_≡_, refl, ap}
+use mathlib.Core.Bool.{Bool, true, false, cond}
+use mathlib.Core.List.{List, [], _∷_, _++_}
+use Prim.Native.Nat.{ℕ, zero, suc, _+_, _<_, _≤_}
+use native.Mathlib.Omega.{arith}
+use native.Mathlib.Numerals.{add-one}
+use lib.Dec.{eqb}
+use borrow.Author.Tests.{ne-eqb, eqb-false}
+use lib.ListN.{set, getD, length, List·getD-eq-default}
+use lib.Seq.{getD-set-same, getD-set-other, set-out}
+use Rattle.words.specs.Region.{region, stored, stores, length-region}
+use Rattle.clauses.specs.Members.{Free, Ends, EndsIn}
+
+-- the four regions of the queues
+pub record Queues : Type 0 where
+  pub heads : List ℕ
+  pub tails : List ℕ
+  pub counts : List ℕ
+  pub links : List ℕ
+
+-- the queues in lent words
+unfoldable pub queuesOf : List ℕ → Queues
+queuesOf w = record { heads = region 1703936 w; tails = region 1835008 w; counts = region 1966080 w; links = region 3670016 w }
+
+-- n cells from p on, each but the first the link of the one before
+unfoldable pub walk : List ℕ → ℕ → ℕ → List ℕ
+walk links zero p = []
+walk links (suc n) p = p ∷ walk links n (getD links p 0)
+
+-- the cells of the queue of l, in order
+unfoldable pub queue : Queues → ℕ → List ℕ
+unfolding walk
+queue q l = walk (q .links) (getD (q .counts) l 0) (getD (q .heads) l 0)
+
+pub length-walk : (ls : List ℕ) (n p : ℕ) → length (walk ls n p) ≡ n
+unfolding walk
+length-walk ls zero p = refl
+length-walk ls (suc n) p = ap suc (length-walk ls n (getD ls p 0))
+
+pub length-queue : (q : Queues) (l : ℕ) → length (queue q l) ≡ getD (q .counts) l 0
+unfolding queue
+length-queue q l = length-walk _ _ _
+
+-- a link of a cell that the walk does not pass
+pub walk-free : (ls : List ℕ) (t x n p : ℕ) → Free t (walk ls n p) → walk (set ls t x) n p ≡ walk ls n p
+unfolding walk
+walk-free ls t x zero p f = refl
+walk-free ls t x (suc n) p f = ap (λ (r : List ℕ). p ∷ r) (rw (getD-set-other ls t p x 0 (f .0)) (walk-free ls t x n (getD ls p 0) (f .1)))
+
+-- the link of the last cell: one cell more
+walk-more : (ls : List ℕ) (t x n p : ℕ) → t < length ls → Ends t p (walk ls n (getD ls p 0)) → walk (set ls t x) (suc (suc n)) p ≡ walk ls (suc n) p ++ (x ∷ [])
+unfolding walk
+walk-more ls t x zero p h e = rw (e, getD-set-same)
+walk-more ls t x (suc n) p h e = ap (λ (r : List ℕ). p ∷ r) (rw (getD-set-other ls t p x 0 (e .0)) (walk-more ls t x n (getD ls p 0) h (e .1)))
+
+-- ---- a cell at the end of a queue
+
+-- the queues with x at the end of the queue of l
+unfoldable pub pushed : Queues → ℕ → ℕ → Queues
+pushed q l x = let n = getD (q .counts) l 0 in record {
+  heads = cond (eqb n 0) (set (q .heads) l x) (q .heads);
+  tails = set (q .tails) l x;
+  counts = set (q .counts) l (n + 1);
+  links = cond (eqb n 0) (q .links) (set (q .links) (getD (q .tails) l 0) x);
+}
+
+-- what a push to the queue of l needs: its tail's cell is the last of its queue and in no other
+pub record Ready (q : Queues) (l : ℕ) : Type 0 where
+  pub room : (l < length (q .heads)) × (l < length (q .counts))
+  pub cell : 0 < getD (q .counts) l 0 → getD (q .tails) l 0 < length (q .links)
+  pub own : EndsIn (getD (q .tails) l 0) (queue q l)
+  pub others : 0 < getD (q .counts) l 0 → (k : ℕ) → (k ≡ l → ⊥) → Free (getD (q .tails) l 0) (queue q k)
+
+-- a push appends
+pub push-own : (q : Queues) (l x : ℕ) → Ready q l → queue (pushed q l x) l ≡ queue q l ++ (x ∷ [])
+unfolding queue pushed walk
+push-own q l x r = go (getD (q .counts) l 0) refl
+  where
+    go : (n : ℕ) → getD (q .counts) l 0 ≡ n → queue (pushed q l x) l ≡ queue q l ++ (x ∷ [])
+    go zero e = rw (getD-set-same (q .counts) l _ 0 (r .room .1), e, getD-set-same (q .heads) l x 0 (r .room .0))
+    go (suc n) e = rw (getD-set-same (q .counts) l _ 0 (r .room .1), e, add-one, ne-eqb (suc n) 0 (λ (z : suc n ≡ 0). omega arith))
+        (walk-more (q .links) _ x n _ (r .cell (omega arith)) (rw e at (r .own)))
+
+-- a walk that does not pass the tail of l is not changed by a push to l
+pub push-walk : (q : Queues) (l x n p : ℕ) → (0 < getD (q .counts) l 0 → Free (getD (q .tails) l 0) (walk (q .links) n p))
+    → walk (pushed q l x .links) n p ≡ walk (q .links) n p
+unfolding pushed
+push-walk q l x n p f = go (eqb (getD (q .counts) l 0) 0) refl
+  where
+    go : (b : Bool) → eqb (getD (q .counts) l 0) 0 ≡ b → walk (cond b (q .links) (set (q .links) (getD (q .tails) l 0) x)) n p ≡ walk (q .links) n p
+    go true e = refl
+    go false e = walk-free (q .links) (getD (q .tails) l 0) x n p (f (omega (arith, eqb-false (getD (q .counts) l 0) 0 e)))
+
+counts-other : (q : Queues) (l x k : ℕ) → (k ≡ l → ⊥) → getD (pushed q l x .counts) k 0 ≡ getD (q .counts) k 0
+unfolding pushed
+counts-other q l x k h = getD-set-other (q .counts) l k (getD (q .counts) l 0 + 1) 0 h
+
+heads-other : (q : Queues) (l x k : ℕ) → (k ≡ l → ⊥) → getD (pushed q l x .heads) k 0 ≡ getD (q .heads) k 0
+unfolding pushed
+heads-other q l x k h = go (eqb (getD (q .counts) l 0) 0)
+  where
+    go : (b : Bool) → getD (cond b (set (q .heads) l x) (q .heads)) k 0 ≡ getD (q .heads) k 0
+    go true = getD-set-other (q .heads) l k x 0 h
+    go false = refl
+
+-- a push leaves the other queues alone
+pub push-other : (q : Queues) (l x k : ℕ) → (k ≡ l → ⊥) → (0 < getD (q .counts) l 0 → Free (getD (q .tails) l 0) (queue q k)) → queue (pushed q l x) k ≡ queue q k
+unfolding queue
+push-other q l x k h f = rw (counts-other q l x k h, heads-other q l x k h) (push-walk q l x (getD (q .counts) k 0) (getD (q .heads) k 0) f)
+
+-- a push to a number past the regions does nothing
+pub push-past : (q : Queues) (l x : ℕ) → length (q .heads) ≤ l → length (q .tails) ≤ l → length (q .counts) ≤ l → pushed q l x ≡ q
+unfolding pushed
+push-past q l x h t c = rw (List·getD-eq-default (q .counts) 0 c, set-out (q .heads) l x h, set-out (q .tails) l x t, set-out (q .counts) l 1 c)
+
+-- the words after the head or the link of a push
+unfoldable pub linked : List ℕ → ℕ → ℕ → List ℕ
+linked w l x = cond (eqb (getD (region 1966080 w) l 0) 0) (stored 1703936 w l x) (stored 3670016 w (getD (region 1835008 w) l 0) x)
+
+-- the words after a push
+unfoldable pub pushedWords : List ℕ → ℕ → ℕ → List ℕ
+unfolding linked
+pushedWords w l x = stored 1966080 (stored 1835008 (linked w l x) l x) l (getD (region 1966080 w) l 0 + 1)
+
+region-cond : (b : ℕ) (t : Bool) (u v : List ℕ) → region b (cond t u v) ≡ cond t (region b u) (region b v)
+region-cond b true u v = refl
+region-cond b false u v = refl
+
+cond-same : (t : Bool) (u : List ℕ) → cond t u u ≡ u
+cond-same true u = refl
+cond-same false u = refl
+
+pub push-law : (w : List ℕ) (l x : ℕ) → queuesOf (pushedWords w l x) ≡ pushed (queuesOf w) l x
+unfolding queuesOf pushed linked pushedWords
+push-law w l x = simp (stores, region-cond, cond-same)
+
+-- ---- a queue taken
+
+-- the queues with the queue of l empty
+unfoldable pub taken : Queues → ℕ → Queues
+taken q l = record { heads = q .heads; tails = q .tails; counts = set (q .counts) l 0; links = q .links }
+
+pub take-law : (w : List ℕ) (l : ℕ) → queuesOf (stored 1966080 w l 0) ≡ taken (queuesOf w) l
+unfolding queuesOf taken
+take-law w l = simp stores
+
+pub take-own : (q : Queues) (l : ℕ) → l < length (q .counts) → queue (taken q l) l ≡ []
+unfolding queue taken walk
+take-own q l h = rw (getD-set-same (q .counts) l 0 0 h)
+
+pub take-other : (q : Queues) (l k : ℕ) → (k ≡ l → ⊥) → queue (taken q l) k ≡ queue q k
+unfolding queue taken
+take-other q l k h = rw (getD-set-other (q .counts) l k 0 0 h)
+
+-- ---- facts of the regions
+
+pub lengths : (w : List ℕ) → 8388608 ≤ length w
+    → (length (queuesOf w .heads) ≡ 131072) × (length (queuesOf w .tails) ≡ 131072) × (length (queuesOf w .counts) ≡ 131072) × (length (queuesOf w .links) ≡ 1048576)
+unfolding queuesOf
+lengths w h = (length-region 1703936 w (omega arith), length-region 1835008 w (omega arith), length-region 1966080 w (omega arith), length-region 3670016 w (omega arith))
+
+pub queue-some : (q : Queues) (l : ℕ) → 0 < getD (q .counts) l 0 → queue q l ≡ [] → ⊥
+queue-some q l p e = let k : length (queue q l) ≡ 0 = ap length e in omega (arith, length-queue q l)
+
+pub tails-pushed : (q : Queues) (l x : ℕ) → pushed q l x .tails ≡ set (q .tails) l x
+unfolding pushed
+tails-pushed q l x = refl

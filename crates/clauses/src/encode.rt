@@ -1,0 +1,160 @@
+// The clauses of a graph's conjunctions and of the assumptions.
+ghost use mathlib.Core.Path.{_≡_};
+ghost use mathlib.Core.List.{List, [], _∷_};
+ghost use Prim.Native.Nat.{ℕ, _+_, _*_, _/_, _<_, _≤_};
+ghost use lib.ListN.{length, drop, getD, take};
+ghost use Rattle.model.specs.Sat as Sat;
+ghost use Rattle.model.specs.Aig.{Node, And};
+ghost use Rattle.clauses.specs.State.{solverOf, scored, Sound, Pooled, AddedList, Room, Roomy, Grows, GateOf, Gates, Holds, nodeIn, encodedOf};
+use crate::add::add_clause;
+use crate::clause::negate;
+use crate::state::Encoding;
+use crate::state::Store;
+use assignment::state::Trail;
+use words::GRAPH_LHS;
+use words::GRAPH_RHS;
+use words::LITERALS;
+use words::POOL;
+use words::SMALL;
+use words::fetch;
+use words::stash;
+
+// A literal put into the pool after `count` others of the clause to come.
+pub fn push_literal(words: &mut [u32], store: Store, t: Trail, count: usize, l: u32)
+    requires { ⌜ Sound store t (now words) [] × (store .literals + count < 786432) ⌝ }
+    ensures { λ _. ⌜ Pooled store t (now (words .entry)) count l (now (words .exit)) ⌝ }
+{
+    stash(words, LITERALS, POOL, store.literals + count, l);
+}
+
+// A clause of one literal.
+fn add_one(words: &mut [u32], scores: &mut [f64], store: Store, t: Trail, a: u32) -> Store
+    requires { ⌜ Room store t (now words) (now scores) 1 × (a < t .variables * 2) ⌝ }
+    ensures { λ r. ⌜ AddedList store t (now (words .entry)) (now (scores .entry)) (a ∷ []) r (now (words .exit)) (now (scores .exit)) ⌝ }
+{
+    push_literal(words, store, t, 0, a);
+    add_clause(words, scores, store, t, 1)
+}
+
+// A clause of two literals of ascending variables.
+fn add_two(words: &mut [u32], scores: &mut [f64], store: Store, t: Trail, a: u32, b: u32) -> Store
+    requires { ⌜ Room store t (now words) (now scores) 2 × (a / 2 < b / 2) × (b < t .variables * 2) ⌝ }
+    ensures { λ r. ⌜ AddedList store t (now (words .entry)) (now (scores .entry)) (a ∷ b ∷ []) r (now (words .exit)) (now (scores .exit)) ⌝ }
+{
+    push_literal(words, store, t, 0, a);
+    push_literal(words, store, t, 1, b);
+    add_clause(words, scores, store, t, 2)
+}
+
+// A clause of three literals of ascending variables.
+fn add_three(
+    words: &mut [u32],
+    scores: &mut [f64],
+    store: Store,
+    t: Trail,
+    a: u32,
+    b: u32,
+    c: u32,
+) -> Store
+    requires { ⌜ Room store t (now words) (now scores) 3 × (a / 2 < b / 2) × (b / 2 < c / 2) × (c < t .variables * 2) ⌝ }
+    ensures { λ r. ⌜ AddedList store t (now (words .entry)) (now (scores .entry)) (a ∷ b ∷ c ∷ []) r (now (words .exit)) (now (scores .exit)) ⌝ }
+{
+    push_literal(words, store, t, 0, a);
+    push_literal(words, store, t, 1, b);
+    push_literal(words, store, t, 2, c);
+    add_clause(words, scores, store, t, 3)
+}
+
+// The three clauses of a conjunction whose literal is `out`.
+fn add_and(
+    words: &mut [u32],
+    scores: &mut [f64],
+    store: Store,
+    t: Trail,
+    out: u32,
+    lhs: u32,
+    rhs: u32,
+) -> Store
+    requires { ⌜ Roomy store t (now words) (now scores) 3 7 × GateOf t out lhs rhs ⌝ }
+    ensures { λ r. ⌜ Grows store t (now (words .entry)) (now (scores .entry)) 3 7 r (now (words .exit)) (now (scores .exit))
+        × ((s : Sat.Solver) → solverOf (scored s (t .variables) (now (scores .exit))) r t (now (words .exit)) ≡ Sat.addNode (solverOf (scored s (t .variables) (now (scores .entry))) store t (now (words .entry))) out (And lhs rhs)) ⌝ }
+{
+    let first = add_two(words, scores, store, t, lhs, out + 1);
+    let second = add_two(words, scores, first, t, rhs, out + 1);
+    add_three(words, scores, second, t, negate(lhs), negate(rhs), out)
+}
+
+// The clauses of node i of the graph; a variable has none.
+fn add_node(words: &mut [u32], scores: &mut [f64], store: Store, t: Trail, i: usize) -> Store
+    requires { ⌜ Roomy store t (now words) (now scores) 3 7 × Gates (t .variables) (now words) × (0 < i) × (i < t .variables) ⌝ }
+    ensures { λ r. ⌜ Grows store t (now (words .entry)) (now (scores .entry)) 3 7 r (now (words .exit)) (now (scores .exit))
+        × ((s : Sat.Solver) → solverOf (scored s (t .variables) (now (scores .exit))) r t (now (words .exit)) ≡ Sat.addNode (solverOf (scored s (t .variables) (now (scores .entry))) store t (now (words .entry))) (i * 2) (nodeIn (now (words .entry)) i)) ⌝ }
+{
+    let rhs = fetch(words, GRAPH_RHS, SMALL, i);
+    if rhs == 0 {
+        return store;
+    }
+    let lhs = fetch(words, GRAPH_LHS, SMALL, i);
+    add_and(words, scores, store, t, (i * 2) as u32, lhs, rhs)
+}
+
+// The clauses of all nodes from 1 on.
+pub fn add_nodes(words: &mut [u32], scores: &mut [f64], start: Store, t: Trail) -> Store
+    requires { ⌜ Roomy start t (now words) (now scores) (3 * t .variables) (7 * t .variables) × Gates (t .variables) (now words) ⌝ }
+    ensures { λ r. ⌜ Grows start t (now (words .entry)) (now (scores .entry)) (3 * t .variables) (7 * t .variables) r (now (words .exit)) (now (scores .exit))
+        × ((s : Sat.Solver) (g : List Node) → Holds (t .variables) (now (words .entry)) g
+        → solverOf (scored s (t .variables) (now (scores .exit))) r t (now (words .exit)) ≡ Sat.addNodes (solverOf (scored s (t .variables) (now (scores .entry))) start t (now (words .entry))) 1 (drop 1 g)) ⌝ }
+{
+    let mut store = start;
+    let mut i: usize = 1;
+    while i < t.variables {
+        store = add_node(words, scores, store, t, i);
+        i += 1;
+    }
+    store
+}
+
+// A clause for one assumption: none for the true literal, and the false one makes the search inconsistent.
+fn add_assumption(words: &mut [u32], scores: &mut [f64], e: Encoding, t: Trail, l: u32) -> Encoding
+    requires { ⌜ Roomy (e .store) t (now words) (now scores) 1 1 × (l < t .variables * 2) ⌝ }
+    ensures { λ r. ⌜ Grows (e .store) t (now (words .entry)) (now (scores .entry)) 1 1 (r .store) (now (words .exit)) (now (scores .exit))
+        × ((s : Sat.Solver) → encodedOf s r t (now (words .exit)) (now (scores .exit)) ≡ Sat.addAigClause (encodedOf s e t (now (words .entry)) (now (scores .entry))) (l ∷ [])) ⌝ }
+{
+    let store = e.store;
+    if l == 0 {
+        return Encoding {
+            store,
+            inconsistent: true,
+        };
+    }
+    if l == 1 {
+        return e;
+    }
+    let next = add_one(words, scores, store, t, l);
+    Encoding {
+        store: next,
+        inconsistent: e.inconsistent,
+    }
+}
+
+// A clause for each of the first `count` assumptions.
+pub fn add_assumptions(
+    words: &mut [u32],
+    scores: &mut [f64],
+    literals: &[u32],
+    count: usize,
+    start: Encoding,
+    t: Trail,
+) -> Encoding
+    requires { ⌜ Roomy (start .store) t (now words) (now scores) count count × (count ≤ length (now literals)) × ((i : ℕ) → i < count → getD (now literals) i 0 < t .variables * 2) ⌝ }
+    ensures { λ r. ⌜ Grows (start .store) t (now (words .entry)) (now (scores .entry)) count count (r .store) (now (words .exit)) (now (scores .exit))
+        × ((s : Sat.Solver) → encodedOf s r t (now (words .exit)) (now (scores .exit)) ≡ Sat.addAssumptions (encodedOf s start t (now (words .entry)) (now (scores .entry))) (take count (now (literals .entry)))) ⌝ }
+{
+    let mut e = start;
+    let mut i: usize = 0;
+    while i < count {
+        e = add_assumption(words, scores, e, t, literals[i]);
+        i += 1;
+    }
+    e
+}

@@ -1,0 +1,29 @@
+-- `unrolling::cycle::compared_cycle` meets its contract. Assumes nothing.
+use mathlib.Core.Path.{_≡_}
+use native.Mathlib.Omega.{arith}
+use Rattle.unrolling.specs.Cycling.{compared}
+use borrow.Author.Needs.{needs}
+use Rattle.unrolling.proofs.cycle.compared_cycle.Statement.{statement}
+use Rattle.unrolling.proofs.cycle.compared_cycle.Tie as tie
+use Rattle.unrolling.proofs.cycle.compared_cycle.Reads as reads
+use Rattle.unrolling.proofs.cycle.compared_cycle.Lts as lts
+use Rattle.unrolling.proofs.compare.compare_outputs.Reads as compare-outputs-reads
+use Rattle.unrolling.proofs.cycle.import_frames.Reads as import-frames-reads
+
+compare-outputs-requires : tie.Need-compare-outputs-requires
+compare-outputs-requires c κs =
+    let f = c .before .before .before .before .before .before .before .before in
+    let a = f .before .before .before in
+    let m = f .import-frames .ensures in
+    (m .ready, a .pre .paired .gold .output-count, omega (arith, m .within, a .pre .room), m .gold-outputs, rw (a .pre .paired .outputs) at (m .gate-outputs))
+
+returns : tie.Need-returns
+returns c =
+    let o = c .before .before .before .before in
+    let f = o .before .before .before .before .before .before .before .before .before in
+    let a = f .before .before .before in
+    compared _ _ _ _ _ _ _ _ _ _ _ _ _ _ _ _ (a .pre .paired) (f .import-frames .ensures) (o .compare-outputs .ensures)
+
+pub compared-cycle-spec : {M : Type 1} → statement M
+compared-cycle-spec =
+    tie.close (tie.spec (λ c κs. search needs) compare-outputs-requires (λ c. search needs) returns)
