@@ -3,7 +3,6 @@ use Prim.Native.Nat.{ℕ, _+_, _*_, _<_, _≤_}
 use mathlib.Core.Path.{_≡_}
 use mathlib.Core.Bool.{true, false, not, _||_}
 use mathlib.Core.List.{List}
-use native.Mathlib.Nat.{mul-le-mul}
 use native.Mathlib.Numerals.{add-one}
 use lib.Dec.{eqb}
 use borrow.Author.Tests.{lt-ltb, le-ltb}
@@ -26,10 +25,6 @@ bits-more l k h e = rw (add-one, drop-cons l k 0, lt-ltb (getD l k 0) 2 e)
 pub bits-done : (l : List ℕ) (k : ℕ) → length l ≤ k → allBits (drop k l) ≡ true
 unfolding allBits
 bits-done l k h = rw drop-of-length-le
-
--- at most 65 rows of at most 128 bytes each
-pub rows-small : (rows inputs : ℕ) → rows ≤ 65 → inputs ≤ 128 → rows * inputs ≤ 8320
-rows-small rows inputs h l = mul-le-mul h l
 
 -- the claim within 64 cycles
 pub claim-within : (inputs outputs cycle : ℕ) (claim : List ℕ) → cycle ≤ 64 → claimBad inputs outputs cycle claim ≡ (not (eqb (length claim) ((cycle + 1) * inputs + outputs)) || not (allBits claim))

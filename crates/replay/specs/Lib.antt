@@ -1,11 +1,4 @@
-pub mod RunTables
-pub mod RunLaws
-pub mod RowLaws
-pub mod TableLaws
 pub mod ClaimChecks
 pub mod ClaimLaws
-pub mod StepSides
-pub mod StepLaws
-pub mod StepRight
 pub mod ReplayAnswers
 pub mod ReplayRight

@@ -29,19 +29,19 @@ use Rattle.struo_ir.specs.Reading.{readOf}
 use Rattle.struo_ir.specs.declared.reader.Answer.the-variants as Reader
 use Rattle.struo_ir.specs.declared.reader.Reading.{Reading}
 use Rattle.name_order.specs.declared.order.Order.{Order}
-use Rattle.replay.specs.RunTables.{padded}
-use Rattle.replay.specs.RunLaws.{count-registers}
-use Rattle.replay.specs.StepLaws.{padded-taken}
 use Rattle.pair.specs.PairChecks.{Ordered, refusalOn}
 use Rattle.pair.specs.PairCheckLaws.{refusal}
 use Rattle.pair.specs.ReadingRight.{reading-accepted, reading-refused}
 use Rattle.pair.specs.declared.orders.Orders.{Orders}
+use Rattle.run.specs.RunTables.{padded}
+use Rattle.run.specs.RunLaws.{count-registers}
+use Rattle.steps.specs.StepLaws.{padded-taken}
+use Rattle.steps.specs.StepSides.{Sound, Ready, position, stepped, Paired, StepTaken}
+use Rattle.steps.specs.declared.step.Side.{Side}
+use Rattle.steps.specs.declared.step.Position.{Position}
+use Rattle.steps.specs.declared.step.Stepped.{Stepped}
 use Rattle.replay.specs.ClaimChecks.{claimBad, claimFault, laterFault}
-use Rattle.replay.specs.StepSides.{Sound, Ready, position, stepped, Paired, StepTaken}
 use Rattle.replay.specs.ReplayAnswers.{answerOf}
-use Rattle.replay.specs.declared.step.Side.{Side}
-use Rattle.replay.specs.declared.step.Position.{Position}
-use Rattle.replay.specs.declared.step.Stepped.{Stepped}
 
 module _ (s t : List ℕ) (gold gate : Side) (cycle : ℕ) (claim : List ℕ) (start : Replay.Position) where
   -- the position after k steps

@@ -1,6 +1,3 @@
-// The plain run of two decoded designs, and the replay of a claimed trace.
+// The replay of a claimed trace on two decoded designs, and its refusals.
 pub mod claim;
 pub mod replay;
-pub mod run;
-pub mod step;
-pub mod tables;

@@ -4,8 +4,9 @@ use Prim.Native.Nat.{_+_, _-_, _*_}
 use native.Mathlib.Omega.{arith}
 use borrow.Author.Tests.{lt-ltb, eq-eqb, ne-eqb}
 use lib.ListN.{length}
+use Rattle.steps.specs.StepLaws.{rows-small}
 use Rattle.replay.specs.ClaimChecks.{claimBad}
-use Rattle.replay.specs.ClaimLaws.{rows-small, claim-within}
+use Rattle.replay.specs.ClaimLaws.{claim-within}
 use borrow.Author.Needs.{needs}
 use Rattle.replay.proofs.claim.bad_claim.Statement.{statement}
 use Rattle.replay.proofs.claim.bad_claim.Tie as tie

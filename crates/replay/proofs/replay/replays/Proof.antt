@@ -6,15 +6,15 @@ use mathlib.Core.List.{List}
 use lib.ListN.{take}
 use Rattle.model.specs.Replay.{initialPosition, positionAfter}
 use Rattle.struo_ir.specs.Decoded.{decoded}
-use Rattle.replay.specs.StepSides.{Paired}
-use Rattle.replay.specs.StepSides as Sides
+use Rattle.steps.specs.StepSides.{Paired}
+use Rattle.steps.specs.StepSides as Sides
 use Rattle.replay.specs.ReplayRight.{position-more, answer-after, replay-steps}
 use borrow.Author.Needs.{needs}
 use Rattle.replay.proofs.replay.replays.Statement.{statement}
 use Rattle.replay.proofs.replay.replays.Tie as tie
 use Rattle.replay.proofs.replay.replays.Reads as reads
 use Rattle.replay.proofs.replay.replays.Lts as lts
-use Rattle.replay.proofs.step.step.Reads as step-reads
+use Rattle.steps.proofs.step.step.Reads as step-reads
 
 abbrev Inv-loop : tie.InvT-loop
 Inv-loop gold gate inputs cycle claim position₀ k₀ position k =

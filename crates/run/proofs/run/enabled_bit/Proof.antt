@@ -1,0 +1,33 @@
+-- `enabled_bit` goes by the enable's code and its signal. Assumes nothing.
+use mathlib.Core.Path.{_≡_, sym, _∙_}
+use Rattle.model.specs.Record.{levelOf}
+use Rattle.model.specs.Run.{bitAt, asserted}
+use Rattle.run.specs.RowLaws.{enabled-none, enabled-some}
+use borrow.Author.Needs.{needs}
+use Rattle.run.proofs.run.enabled_bit.Statement.{statement}
+use Rattle.run.proofs.run.enabled_bit.Tie as tie
+use Rattle.run.proofs.run.enabled_bit.Reads as reads
+use Rattle.run.proofs.run.enabled_bit.Lts as lts
+use Rattle.run.proofs.run.asserted.Reads as asserted-reads
+use Rattle.run.proofs.run.bit_at.Reads as bit-at-reads
+use Rattle.name_order.proofs.names.wide.Reads as wide-reads
+
+returns : tie.Need-returns
+returns c = let a = c .before .before .before .args in sym (enabled-none (a .values .now) (a .stored) (a .next) (a .cell) (c .if1 .taken))
+
+returns-2 : tie.Need-returns-2
+returns-2 c =
+    let a = c .before .before .before .before .before .before .before .args in
+    let e : c .before .asserted .result ≡ asserted (levelOf (a .cell .enable)) (bitAt (a .values .now) (a .cell .«enable_signal»)) = cc in
+    sym (enabled-some (a .values .now) (a .stored) (a .next) (a .cell) (c .before .before .before .before .if1 .left) ∙ rw (← e, c .if2 .taken))
+
+returns-3 : tie.Need-returns-3
+returns-3 c =
+    let a = c .before .before .before .before .before .before .before .args in
+    let e : c .before .asserted .result ≡ asserted (levelOf (a .cell .enable)) (bitAt (a .values .now) (a .cell .«enable_signal»)) = cc in
+    sym (enabled-some (a .values .now) (a .stored) (a .next) (a .cell) (c .before .before .before .before .if1 .left) ∙ rw (← e, c .if2 .left))
+
+pub enabled-bit-spec : {M : Type 1} → statement M
+enabled-bit-spec =
+    tie.close
+    (tie.spec returns (λ c κs. search needs) (λ c κs. search needs) (λ c κs. search needs) returns-2 returns-3)

@@ -1,0 +1,4 @@
+pub mod RunTables
+pub mod RunLaws
+pub mod RowLaws
+pub mod TableLaws

@@ -1,0 +1,3 @@
+pub mod StepSides
+pub mod StepLaws
+pub mod StepRight
