@@ -1,6 +1,4 @@
 pub mod Proving
-pub mod RefusalLaws
-pub mod Refusals
 pub mod ResultLaws
 pub mod Results
 pub mod Room

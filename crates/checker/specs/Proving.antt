@@ -13,14 +13,15 @@ use Rattle.laws.specs.Queries.Bound.{states-length}
 use Rattle.struo_ir.specs.Decoded.{decoded}
 use Rattle.struo_ir.specs.declared.netlist.Netlist.{Netlist}
 use Rattle.pair.specs.declared.orders.Orders.{Orders}
+use Rattle.refusals.specs.Designs.{Sided}
+use Rattle.refusals.specs.RefusalLaws.{count-inputs, count-outputs, Accepted}
 use Rattle.unrolling.specs.Cycling.{Paired}
 use Rattle.equivalence.specs.Inducing as Inducing
 use Rattle.equivalence.specs.Inducing.{cycleCost}
 use Rattle.queries.specs.Problem.{Provable}
 use Rattle.queries.specs.declared.problem.Problem.{Problem}
-use Rattle.checker.specs.RefusalLaws.{count-inputs, count-outputs, Accepted}
 use Rattle.checker.specs.Room.{side-small, cycles-fit}
-use Rattle.checker.specs.Sides.{Sided, SidesMade}
+use Rattle.checker.specs.Sides.{SidesMade}
 
 module _ (s : List ℕ) (x : Netlist) (a : Orders) (t : List ℕ) (y : Netlist) (b : Orders) (p : Problem) (w : List ℕ) (depth : ℕ) (trace words : List ℕ) (scores : List Float)
     (v : Sided s x a) (u : Sided t y b) (m : SidesMade s x a t y b p w) (k : Accepted (decoded s x) (decoded t y) depth (Model.lentOf trace words scores)) where

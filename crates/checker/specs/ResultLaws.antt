@@ -20,8 +20,8 @@ use Rattle.struo_ir.specs.declared.reader.Answer.the-variants as Reader
 use Rattle.struo_ir.specs.declared.reader.Reading.{Reading}
 use Rattle.pair.specs.PairChecks.{refusalOn}
 use Rattle.pair.specs.ReadingRight.{reading-accepted, reading-refused, reading-within}
-use Rattle.checker.specs.RefusalLaws.{accepted}
-use Rattle.checker.specs.Sides.{Valid}
+use Rattle.refusals.specs.Designs.{Valid}
+use Rattle.refusals.specs.RefusalLaws.{accepted}
 use Rattle.checker.specs.Results.{answerOf, resultOf, Cleared}
 use Rattle.checker.specs.declared.answer.Answer.{Answer}
 

@@ -1,56 +1,27 @@
 -- Both sides stand in the words after the second was lowered, and make the problem of the two designs. Assumes nothing.
 use Prim.Native.Nat.{ℕ, _+_, _≤_}
-use mathlib.Core.Path.{_≡_, refl, sym, ap, ap₂, _∙_}
+use mathlib.Core.Path.{_≡_, refl, sym, ap, _∙_}
 use mathlib.Core.List.{List}
 use native.Mathlib.Omega.{arith}
 use lib.ListN.{length}
 use Rattle.words.specs.Region.{region}
-use Rattle.model.specs.Transition.{TransitionSystem, fromNetlist}
+use Rattle.model.specs.Transition.{fromNetlist}
 use Rattle.model.specs.Check.{problemOf}
 use Rattle.struo_ir.specs.Decoded.{decoded}
 use Rattle.name_order.specs.Places as Orders
 use Rattle.struo_ir.specs.declared.netlist.Netlist.{Netlist}
 use Rattle.pair.specs.declared.orders.Orders.{Orders}
-use Rattle.aig.specs.Graph.{nodesOf, graphAt}
+use Rattle.refusals.specs.Designs.{Sided}
 use Rattle.aig.specs.Made.{heads-all}
 use Rattle.lowering.specs.Firsts.{firsts, Below}
 use Rattle.transition.specs.Side.{Formed, Stands}
+use Rattle.transition.specs.SideLaws.{formed-kept, stands-kept}
 use Rattle.transition.specs.Named as Named
 use Rattle.transition.specs.Named.{Lowerable, SystemMade, Starts, MatchesMade}
 use Rattle.transition.specs.declared.system.System.{System}
 use Rattle.queries.specs.Problem.{StandsFor}
 use Rattle.queries.specs.declared.problem.Problem.{Problem}
-use Rattle.checker.specs.Sides.{Sided, SidesMade}
-
--- ---- a side whose words stay
-
-module _ (y : System) (w w′ : List ℕ) (lhs : region (y .base) w′ ≡ region (y .base) w) (rhs : region (y .base + 65536) w′ ≡ region (y .base + 65536) w) where
-  formed-kept : Formed y w → Formed y w′
-  formed-kept f =
-      record {
-        low = f .low;
-        high = f .high;
-        some = f .some;
-        small = f .small;
-        ordered = rw (lhs, rhs) (f .ordered);
-        input-count = f .input-count;
-        output-count = f .output-count;
-        state-count = f .state-count;
-        outputs = f .outputs;
-        next = f .next;
-        covered = rw rhs (f .covered);
-      }
-
-  stands-kept : (s : TransitionSystem) → Stands y w s → Stands y w′ s
-  unfolding graphAt
-  stands-kept s t =
-      record {
-        aig = ap₂ (λ (ls rs : List ℕ). nodesOf (y .count) ls rs) lhs rhs ∙ t .aig;
-        inputs = t .inputs;
-        outputs = t .outputs;
-        next = t .next;
-        variables = t .variables;
-      }
+use Rattle.checker.specs.Sides.{SidesMade}
 
 -- what the lowering of a side asks, with every head in use
 pub lowerable : (n : Netlist) (o : Orders) (base : ℕ) (w : List ℕ) → 8388608 ≤ length w → 196608 ≤ base → base ≤ 327680 → n .«node_count» ≤ 1024 → n .«register_count» ≤ 128

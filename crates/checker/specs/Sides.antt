@@ -1,32 +1,17 @@
--- What is asked of two accepted designs, and what their sides in the words are. Definitions only.
+-- What the sides of two accepted designs in the words are. Definitions only.
 use mathlib.Core.Path.{_≡_}
 use mathlib.Core.List.{List}
-use mathlib.Core.Option.{none}
 use Prim.Native.Nat.{ℕ, _+_, _≤_}
 use lib.ListN.{length}
-use Rattle.model.specs.Validate.{validate}
 use Rattle.model.specs.Transition.{fromNetlist}
 use Rattle.model.specs.Check.{problemOf}
 use Rattle.struo_ir.specs.Decoded.{decoded}
-use Rattle.struo_ir.specs.Reading.{Padded}
 use Rattle.struo_ir.specs.declared.netlist.Netlist.{Netlist}
-use Rattle.pair.specs.PairChecks.{Within, Ordered}
 use Rattle.pair.specs.declared.orders.Orders.{Orders}
 use Rattle.lowering.specs.Firsts.{Below}
 use Rattle.transition.specs.Side.{Formed}
 use Rattle.queries.specs.Problem.{StandsFor}
 use Rattle.queries.specs.declared.problem.Problem.{Problem}
-
--- a netlist that passed the checks of its record
-pub record Valid (s : List ℕ) (n : Netlist) : Type 0 where
-  pub padded : Padded n
-  pub within : Within s n
-  pub valid : validate (decoded s n) ≡ none
-
--- one with its orders
-pub record Sided (s : List ℕ) (n : Netlist) (o : Orders) : Type 0 where
-  pub valid : Valid s n
-  pub ordered : Ordered s n o
 
 -- Both sides are in the words, and with them the problem by value is that of the two designs.
 pub record SidesMade (s : List ℕ) (x : Netlist) (a : Orders) (t : List ℕ) (y : Netlist) (b : Orders) (p : Problem) (w : List ℕ) : Type 0 where

@@ -14,8 +14,8 @@ use Rattle.aig.specs.Graph.{graphOf}
 use Rattle.aig.specs.Made.{Ready, Same, Made, HeadsBelow, outside, same-refl, same-trans}
 use Rattle.import.specs.Importing.{beyond, same-beyond}
 use Rattle.lowering.specs.Firsts.{firsts, pairs, Below, below-le}
-use Rattle.equivalence.specs.Frames.{comparisonsOf, RowsBelow, beyondFrames}
-use Rattle.equivalence.specs.Rows.{off-beyond, beyond-frames, untouched-frames, off-graph, off-ready, KeptComparison, comparisons-more, rows-more}
+use Rattle.equivalence.specs.Frames.{comparisonsOf, beyondFrames}
+use Rattle.equivalence.specs.Rows.{off-beyond, beyond-frames, untouched-frames, off-graph, off-ready, KeptComparison, comparisons-more}
 use Rattle.unrolling.specs.Cycling.{Paired, paired-kept, paired-same, Standing, standing-kept, standing-same, frameCost, cost-kept, cost-same, Startable, startable-le, Compared}
 use Rattle.equivalence.specs.NamedState.{Started}
 use Rattle.transition.specs.declared.system.System.{System}
@@ -43,7 +43,6 @@ pub record ComparedNext (x y : System) (n c : ℕ) (w gs ts : List ℕ) (m c′ 
   pub gold-state : Below (c′ * 2) (x .«state_count») gs′
   pub gate-state : Below (c′ * 2) (y .«state_count») ts′
   pub mismatch : m′ < c′ * 2
-  pub rows : RowsBelow (c * 2) (x .«input_count») (x .«output_count») n (region 524288 w) → RowsBelow (c′ * 2) (x .«input_count») (x .«output_count») (n + 1) (region 524288 w′)
   pub is : (p : Problem) → Standing x y w p → baseAfter x y (n + 1) c′ w′ gs′ ts′ m′ ≡ counterexampleCycle p (baseAfter x y n c w gs ts m)
 
 module _ (x y : System) (n c : ℕ) (w gs ts : List ℕ) (m : ℕ) (s : Startable (comparedCost x y w) x y c w gs ts)
@@ -87,10 +86,6 @@ module _ (x y : System) (n c : ℕ) (w gs ts : List ℕ) (m : ℕ) (s : Startabl
         gold-state = below-le _ _ _ _ (omega (arith, o .grows)) (k .gold-next);
         gate-state = below-le _ _ _ _ (omega (arith, o .grows)) (k .gate-next);
         mismatch = o .below;
-        rows = λ b.
-            rows-more (c * 2) (c₂ * 2) (x .«input_count») (x .«output_count») n ins go to d w₂ w′ (omega (arith, k .grows, o .grows)) (s .paired .gold .input-count) (s .paired .gold .output-count) r
-            (below-le _ _ _ _ (omega (arith, o .grows)) (k .inputs)) (below-le _ _ _ _ (omega (arith, o .grows)) (k .gold-outputs)) (below-le _ _ _ _ (omega (arith, o .grows)) (k .gate-outputs))
-            (omega (arith, k .mismatch, o .grows)) (rw (same-made .at 524288 refl) b);
         is = next-is;
       }
 
@@ -101,7 +96,6 @@ pub record ComparedLeft (x y : System) (n c₀ : ℕ) (w₀ gs₀ ts₀ : List �
   pub startable : Startable (k * comparedCost x y w) x y c w gs ts
   pub same : Same beyondFrames w₀ w
   pub mismatch : m < c * 2
-  pub rows : RowsBelow (c * 2) (x .«input_count») (x .«output_count») i (region 524288 w)
   pub is : (p : Problem) → Standing x y w₀ p → counterexampleCycles p k (baseAfter x y i c w gs ts m) ≡ counterexampleCycles p n (baseAfter x y 0 c₀ w₀ gs₀ ts₀ m₀)
 
 -- no cycle so far
@@ -112,13 +106,6 @@ compared-none x y n c w gs ts m s b =
       startable = s;
       same = same-refl beyondFrames w;
       mismatch = b;
-      rows =
-          record {
-            inputs = λ c i h l. absurd (omega arith);
-            gold-outputs = λ c i h l. absurd (omega arith);
-            gate-outputs = λ c i h l. absurd (omega arith);
-            mismatches = λ c h. absurd (omega arith);
-          };
       is = λ p t. refl;
     }
 
@@ -144,7 +131,6 @@ compared-left-more x y n c₀ w₀ gs₀ ts₀ m₀ i k c w gs ts m c′ w′ gs
           };
       same = same-trans (s .same) (t .same);
       mismatch = t .mismatch;
-      rows = t .rows (s .rows);
       is = λ p u. ap (λ (z : Base). counterexampleCycles p k z) (t .is p (standing-kept x y w₀ w p q (untouched-frames (s .same)) u)) ∙ s .is p u;
     }
 
@@ -167,7 +153,6 @@ pub record Compares (x y : System) (gs ts : List ℕ) (depth : ℕ) (w : List �
   pub small : c ≤ 65536
   pub same : Same beyondFrames w w′
   pub mismatch : m < c * 2
-  pub rows : RowsBelow (c * 2) (x .«input_count») (x .«output_count») (depth + 1) (region 524288 w′)
   pub is : (p : Problem) → Standing x y w p → Started x y gs ts p
       → record { aig = graphOf c w′; assumptions = m ∷ []; comparisons = comparisonsOf (x .«input_count») (x .«output_count») (depth + 1) (region 524288 w′) }
       ≡ baseCounterexample p depth
@@ -187,7 +172,6 @@ module _ (x y : System) (gs ts : List ℕ) (used depth : ℕ) (w w₁ : List ℕ
         small = omega (arith, k .startable .room);
         same = same-trans (beyond-frames (same-beyond s)) (k .same);
         mismatch = k .mismatch;
-        rows = k .rows;
         is = λ p t v. ap baseQuery (k .is p (standing-same x y w w₁ p (a .paired) (same-beyond s) t) ∙ start p v);
       }
     where

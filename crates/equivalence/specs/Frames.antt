@@ -1,7 +1,7 @@
 -- What the region FRAMES holds: a row of 512 words for each cycle, with its inputs at 0, gold's outputs at 128, gate's at 256 and its mismatch at 384. Definitions only.
 use mathlib.Core.List.{List, []}
 use mathlib.Core.Bool.{Bool, _&&_}
-use Prim.Native.Nat.{ℕ, zero, suc, _+_, _*_, _<_}
+use Prim.Native.Nat.{ℕ, zero, suc, _+_, _*_}
 use lib.ListN.{getD}
 use Rattle.words.specs.Region.{apart}
 use Rattle.model.specs.Lists.{snoc}
@@ -27,13 +27,6 @@ comparisonAt I O fs c =
 unfoldable pub comparisonsOf : ℕ → ℕ → ℕ → List ℕ → List FrameComparison
 comparisonsOf I O zero fs = []
 comparisonsOf I O (suc n) fs = snoc (comparisonsOf I O n fs) (comparisonAt I O fs n)
-
--- every literal of the first `cycles` rows is below k
-pub record RowsBelow (k I O cycles : ℕ) (fs : List ℕ) : Type 0 where
-  pub inputs : (c i : ℕ) → c < cycles → i < I → getD fs (512 * c + i) 0 < k
-  pub gold-outputs : (c i : ℕ) → c < cycles → i < O → getD fs (512 * c + 128 + i) 0 < k
-  pub gate-outputs : (c i : ℕ) → c < cycles → i < O → getD fs (512 * c + 256 + i) 0 < k
-  pub mismatches : (c : ℕ) → c < cycles → getD fs (512 * c + 384) 0 < k
 
 -- the region at b is none of the proof graph's, not IMPORTED and not FRAMES
 abbrev pub beyondFrames : ℕ → Bool

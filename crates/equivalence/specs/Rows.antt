@@ -16,9 +16,9 @@ use Rattle.aig.specs.Graph.{graphOf, graphAt, nodesOf}
 use Rattle.aig.specs.Made.{Ready, Same, both, same-refl, same-trans}
 use Rattle.aig.specs.Side.{side-under}
 use Rattle.import.specs.Importing.{beyond, side-beyond}
-use Rattle.lowering.specs.Firsts.{firsts, pairs, Below}
+use Rattle.lowering.specs.Firsts.{firsts, pairs}
 use Rattle.unrolling.specs.Side.{Untouched}
-use Rattle.equivalence.specs.Frames.{wordsFrom, pairsFrom, comparisonAt, comparisonsOf, RowsBelow, beyondFrames}
+use Rattle.equivalence.specs.Frames.{wordsFrom, pairsFrom, comparisonAt, comparisonsOf, beyondFrames}
 
 -- the region at b shares no word with FRAMES
 abbrev pub offFrames : ℕ → Bool
@@ -166,21 +166,3 @@ pub comparisons-more : (I O n : ℕ) (ins go to : List ℕ) (m : ℕ) (w w′ : 
 unfolding comparisonsOf
 comparisons-more I O n ins go to m w w′ hi ho k =
     rw add-one (ap₂ (λ (xs : List FrameComparison) (x : FrameComparison). snoc xs x) (comparisons-stay I O n _ _ hi ho (k .before)) (comparison-is I O n ins go to m w w′ k))
-
--- one row of literals more
-pub rows-more : (k k′ I O n : ℕ) (ins go to : List ℕ) (m : ℕ) (w w′ : List ℕ) → k ≤ k′ → I ≤ 128 → O ≤ 128 → KeptComparison I O n ins go to m w w′
-    → Below k′ I ins → Below k′ O go → Below k′ O to → m < k′ → RowsBelow k I O n (region 524288 w) → RowsBelow k′ I O (n + 1) (region 524288 w′)
-rows-more k k′ I O n ins go to m w w′ le hi ho r bi bg bt bm b =
-    record {
-      inputs = λ c i h l. by c h (λ z. rw (z, r .inputs i l) (bi .at i l)) (λ z. rw (r .before (512 * c + i) (omega arith)) (omega (arith, b .inputs c i z l)));
-      gold-outputs = λ c i h l. by c h (λ z. rw (z, r .gold-outputs i l) (bg .at i l)) (λ z. rw (r .before (512 * c + 128 + i) (omega arith)) (omega (arith, b .gold-outputs c i z l)));
-      gate-outputs = λ c i h l. by c h (λ z. rw (z, r .gate-outputs i l) (bt .at i l)) (λ z. rw (r .before (512 * c + 256 + i) (omega arith)) (omega (arith, b .gate-outputs c i z l)));
-      mismatches = λ c h. by c h (λ z. rw (z, r .mismatch) bm) (λ z. rw (r .before (512 * c + 384) (omega arith)) (omega (arith, b .mismatches c z)));
-    }
-  where
-    by : {A : Type 0} (c : ℕ) → c < n + 1 → (c ≡ n → A) → (c < n → A) → A
-    by {A} c h f g = pick (eqb c n) refl
-      where
-        pick : (t : Bool) → eqb c n ≡ t → A
-        pick true e = f (eqb-true c n e)
-        pick false e = g (omega (arith, eqb-false c n e))

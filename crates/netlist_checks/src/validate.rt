@@ -167,7 +167,7 @@ fn registers_fault(
     Answer::Accepted
 }
 
-// The table of the registers that drive the nets: the number plus one of the first one, 0 where there is none.
+// For each net one more than the first register that drives it, counted from 0; 0 for none.
 pub fn drivers(registers: [RegisterCell; 128], count: usize) -> [u16; 1024]
     requires { ⌜ count ≤ 128 ⌝ }
     ensures { λ r. ⌜ Drivers registers count r ⌝ }

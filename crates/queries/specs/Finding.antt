@@ -62,17 +62,15 @@ module _ (x : Problem) (limit d : ℕ) (w : List ℕ) (s : List Float) (t : List
   comparisons-are p q = rw frames-kept (ap (λ (y : Model.Query). y .comparisons) (b .is p (q .standing) (started x w p q)))
 
   -- a trace may be written
-  pub traceable : suc d * x .gold .«input_count» + x .gold .«output_count» ≤ length t → Traceable c (x .gold .«input_count») (x .gold .«output_count») (d + 1) w₂ t
+  pub traceable : suc d * x .gold .«input_count» + x .gold .«output_count» ≤ length t → Traceable (x .gold .«input_count») (x .gold .«output_count») (d + 1) w₂ t
   traceable room =
       record {
         long = z .long;
-        nodes = b .small;
         inputs = a .paired .gold .input-count;
         outputs = a .paired .gold .output-count;
         some = omega arith;
         cycles-small = omega (arith, a .shallow);
         room = rw add-one room;
-        rows = rw frames-kept (b .rows);
       }
 
   module _ (k : ℕ) where

@@ -9,22 +9,20 @@ use Rattle.model.specs.Sat as Sat
 use Rattle.model.specs.Equivalence.{firstMismatch, traceBytes}
 use Rattle.model.specs.Check.{overwrite}
 use Rattle.assignment.specs.State.{wordValue, column}
-use Rattle.equivalence.specs.Frames.{comparisonsOf, RowsBelow}
+use Rattle.equivalence.specs.Frames.{comparisonsOf}
 
 -- the model that the values of n variables are
 abbrev pub modelOf : ℕ → List ℕ → List Bool
 modelOf n w = map Sat.isTrue (map wordValue (column n 655360 w))
 
--- What the trace asks: words long enough, literals of n nodes in the rows of all cycles, and room for the bytes.
-pub record Traceable (n I O cycles : ℕ) (w trace : List ℕ) : Type 0 where
+-- What the trace asks: words long enough, few inputs, outputs and cycles, and room for the bytes.
+pub record Traceable (I O cycles : ℕ) (w trace : List ℕ) : Type 0 where
   pub long : 8388608 ≤ length w
-  pub nodes : n ≤ 65536
   pub inputs : I ≤ 128
   pub outputs : O ≤ 128
   pub some : 0 < cycles
   pub cycles-small : cycles ≤ 65
   pub room : cycles * I + O ≤ length trace
-  pub rows : RowsBelow (n * 2) I O cycles (region 524288 w)
 
 -- The first mismatch, and the trace over the lent bytes.
 pub record Traced (n I O cycles : ℕ) (w trace : List ℕ) (m : ℕ) (trace′ : List ℕ) : Type 0 where

@@ -148,7 +148,7 @@ pub fn write_counterexample(
     output_count: usize,
     cycles: usize,
 ) -> u32
-    requires { ⌜ Traceable nodes «input_count» «output_count» cycles (now words) (now trace) ⌝ }
+    requires { ⌜ Traceable «input_count» «output_count» cycles (now words) (now trace) ⌝ }
     ensures { λ r. ⌜ Traced nodes «input_count» «output_count» cycles (now (words .entry)) (now (trace .entry)) r (now (trace .exit)) ⌝ }
 {
     let mismatch = first_mismatch(words, wide(nodes), cycles);

@@ -6,3 +6,4 @@ pub mod Start
 pub mod Match
 pub mod Variables
 pub mod Sorted
+pub mod SideLaws

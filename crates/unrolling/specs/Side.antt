@@ -1,20 +1,15 @@
 -- What a frame keeps of a side in the words, and how many conjunctions its graph has. Assumes nothing.
-use mathlib.Core.Path.{_≡_, refl, ap, ap₂, sym, _∙_}
-use mathlib.Core.Bool.{Bool, true, false}
-use mathlib.Core.List.{List, [], _∷_, _++_, map}
-use Prim.Native.Nat.{ℕ, _+_, _*_, _≤_, _<_}
+use mathlib.Core.Path.{_≡_}
+use mathlib.Core.List.{List}
+use Prim.Native.Nat.{ℕ, _+_, _≤_}
 use native.Mathlib.Omega.{arith}
-use lib.ListN.{getD}
 use Rattle.words.specs.Region.{region}
-use Rattle.model.specs.Literal.{node}
-use Rattle.model.specs.Lists.{member}
-use Rattle.model.specs.Aig.{Aig}
-use Rattle.model.specs.Transition.{Port, StateBit, TransitionSystem}
-use Rattle.aig.specs.Graph.{graphAt, nodesOf, Ordered}
+use Rattle.model.specs.Transition.{TransitionSystem}
+use Rattle.aig.specs.Graph.{graphAt}
 use Rattle.aig.specs.Made.{Same}
 use Rattle.import.specs.Importing.{beyond, side-beyond, conjunctions}
-use Rattle.lowering.specs.Firsts.{firsts, Below}
 use Rattle.transition.specs.Side.{Formed, Stands}
+use Rattle.transition.specs.SideLaws as Laws
 use Rattle.transition.specs.declared.system.System.{System}
 
 -- how many conjunctions the side's graph has
@@ -37,29 +32,14 @@ module _ (y : System) (w w′ : List ℕ) (f : Formed y w) (kept : Untouched w w
   rhs-kept = kept .at (y .base + 65536) (omega (arith, f .low)) (omega (arith, f .high))
 
   graph-kept : graphAt (y .base) (y .count) w′ ≡ graphAt (y .base) (y .count) w
-  unfolding graphAt
-  graph-kept = ap₂ (λ (ls rs : List ℕ). nodesOf (y .count) ls rs) lhs-kept rhs-kept
+  graph-kept = Laws.graph-kept y w w′ lhs-kept rhs-kept
 
   -- so what it is stays
   pub formed-kept : Formed y w′
-  formed-kept =
-      record {
-        low = f .low;
-        high = f .high;
-        some = f .some;
-        small = f .small;
-        ordered = rw (lhs-kept, rhs-kept) (f .ordered);
-        input-count = f .input-count;
-        output-count = f .output-count;
-        state-count = f .state-count;
-        outputs = f .outputs;
-        next = f .next;
-        covered = rw rhs-kept (f .covered);
-      }
+  formed-kept = Laws.formed-kept y w w′ lhs-kept rhs-kept f
 
   pub stands-kept : (s : TransitionSystem) → Stands y w s → Stands y w′ s
-  stands-kept s t =
-      record { aig = graph-kept ∙ t .aig; inputs = t .inputs; outputs = t .outputs; next = t .next; variables = t .variables }
+  stands-kept = Laws.stands-kept y w w′ lhs-kept rhs-kept
 
   pub conjunctions-kept : conjunctionsOf y w′ ≡ conjunctionsOf y w
   conjunctions-kept = rw rhs-kept

@@ -2,7 +2,7 @@
 use mathlib.Core.Path.{sym, ap, _∙_}
 use Rattle.model.specs.Check.{lentOf}
 use Rattle.pair.specs.PairChecks.{faultOf, refusalOn}
-use Rattle.checker.specs.Refusals as Refusals
+use Rattle.refusals.specs.Refusals as Refusals
 use Rattle.checker.specs.ResultLaws.{pair-refused, pair-accepted}
 use borrow.Author.Needs.{needs}
 use Rattle.checker.proofs.call.check_pair.Statement.{statement}

@@ -2,7 +2,7 @@
 use mathlib.Core.Path.{_∙_}
 use Rattle.model.specs.Check.{learnedLimit, checkDesigns}
 use Rattle.checker.specs.Proving.{provable}
-use Rattle.checker.specs.RefusalLaws.{accepted}
+use Rattle.refusals.specs.RefusalLaws.{accepted}
 use Rattle.checker.specs.ResultLaws.{proved, words-enough}
 use borrow.Author.Needs.{needs}
 use Rattle.checker.proofs.call.prove.Statement.{statement}

@@ -4,11 +4,11 @@ use Rattle.model.specs.Pair.{initialFault}
 use Rattle.struo_ir.specs.Decoded.{decoded}
 use Rattle.pair.specs.PairChecks.{faultOf}
 use Rattle.pair.specs.PairCheckLaws.{first-refuses, second-decides, initial-of}
-use Rattle.checker.specs.Refusals.{lentOf, laterFault}
-use Rattle.checker.specs.RefusalLaws.{sizes-of}
+use Rattle.refusals.specs.Refusals.{lentOf, laterFault}
+use Rattle.refusals.specs.RefusalLaws.{sizes-of}
 use borrow.Author.Needs.{needs}
-use Rattle.checker.proofs.refusals.later_fault.Statement.{statement}
-use Rattle.checker.proofs.refusals.later_fault.Tie as tie
+use Rattle.refusals.proofs.later_fault.Statement.{statement}
+use Rattle.refusals.proofs.later_fault.Tie as tie
 
 returns : tie.Need-returns
 unfolding faultOf laterFault

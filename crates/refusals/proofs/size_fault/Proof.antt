@@ -1,10 +1,10 @@
 -- `size_fault` tests 23, then 24. Assumes nothing.
 use Rattle.model.specs.Validate.{_otherwise_, refuseIf}
 use Rattle.pair.specs.PairChecks.{faultOf}
-use Rattle.checker.specs.Refusals.{sizeFault}
+use Rattle.refusals.specs.Refusals.{sizeFault}
 use borrow.Author.Needs.{needs}
-use Rattle.checker.proofs.refusals.size_fault.Statement.{statement}
-use Rattle.checker.proofs.refusals.size_fault.Tie as tie
+use Rattle.refusals.proofs.size_fault.Statement.{statement}
+use Rattle.refusals.proofs.size_fault.Tie as tie
 
 returns : tie.Need-returns
 unfolding faultOf sizeFault refuseIf _otherwise_

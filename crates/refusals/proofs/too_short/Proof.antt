@@ -3,11 +3,11 @@ use Prim.Native.Nat.{_+_, _*_}
 use mathlib.Core.Path.{sym, _∙_}
 use native.Mathlib.Omega.{arith}
 use borrow.Author.Tests.{lt-ltb, le-ltb}
-use Rattle.checker.specs.Refusals.{lentOf}
-use Rattle.checker.specs.RefusalLaws.{product-small, short-within}
+use Rattle.refusals.specs.Refusals.{lentOf}
+use Rattle.refusals.specs.RefusalLaws.{product-small, short-within}
 use borrow.Author.Needs.{needs}
-use Rattle.checker.proofs.refusals.too_short.Statement.{statement}
-use Rattle.checker.proofs.refusals.too_short.Tie as tie
+use Rattle.refusals.proofs.too_short.Statement.{statement}
+use Rattle.refusals.proofs.too_short.Tie as tie
 
 mul-if1 : tie.Need-mul-if1
 mul-if1 c = omega (arith, product-small (c .args .depth + 1) (c .args .inputs) 65 128 (omega arith) (c .pre .0))

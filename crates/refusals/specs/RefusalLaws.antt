@@ -24,8 +24,8 @@ use Rattle.name_order.specs.PortLaws.{count-places}
 use Rattle.struo_ir.specs.Reading.{Padded}
 use Rattle.struo_ir.specs.declared.netlist.Netlist.{Netlist}
 use Rattle.pair.specs.declared.orders.Orders.{Orders}
-use Rattle.checker.specs.Refusals.{framesBy, nodesBy, shortBy, depthFault, sizeFault, laterFault, pairFault}
-use Rattle.checker.specs.Sides.{Sided}
+use Rattle.refusals.specs.Refusals.{framesBy, nodesBy, shortBy, depthFault, sizeFault, laterFault, pairFault}
+use Rattle.refusals.specs.Designs.{Sided}
 
 -- ---- the counts
 

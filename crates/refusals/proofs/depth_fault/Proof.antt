@@ -2,9 +2,9 @@
 use borrow.Author.Tests.{eq-eqb, ne-eqb, lt-ltb, le-ltb}
 use Rattle.model.specs.Validate.{_otherwise_, refuseIf}
 use Rattle.pair.specs.PairChecks.{faultOf}
-use Rattle.checker.specs.Refusals.{depthFault}
-use Rattle.checker.proofs.refusals.depth_fault.Statement.{statement}
-use Rattle.checker.proofs.refusals.depth_fault.Tie as tie
+use Rattle.refusals.specs.Refusals.{depthFault}
+use Rattle.refusals.proofs.depth_fault.Statement.{statement}
+use Rattle.refusals.proofs.depth_fault.Tie as tie
 
 returns : tie.Need-returns
 unfolding faultOf depthFault refuseIf _otherwise_

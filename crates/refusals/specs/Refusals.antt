@@ -8,7 +8,7 @@ use Rattle.model.specs.Netlist.{Design}
 use Rattle.model.specs.Validate.{_otherwise_, refuseIf}
 use Rattle.model.specs.Pair as Pair
 use Rattle.model.specs.Pair.{interfaceFault, initialFault, proofNodes, tooShort}
-use Rattle.checker.specs.declared.refusals.Lent.{Lent}
+use Rattle.refusals.specs.declared.Lent.{Lent}
 
 -- the lengths of the buffers lent
 unfoldable pub lentOf : Lent → Pair.Lent

@@ -1,10 +1,10 @@
 -- `nodes_per_cycle` is document 01's F. Assumes nothing.
 use mathlib.Core.Path.{refl}
 use native.Mathlib.Omega.{arith}
-use Rattle.checker.specs.Refusals.{framesBy}
+use Rattle.refusals.specs.Refusals.{framesBy}
 use borrow.Author.Needs.{needs}
-use Rattle.checker.proofs.refusals.nodes_per_cycle.Statement.{statement}
-use Rattle.checker.proofs.refusals.nodes_per_cycle.Tie as tie
+use Rattle.refusals.proofs.nodes_per_cycle.Statement.{statement}
+use Rattle.refusals.proofs.nodes_per_cycle.Tie as tie
 
 returns : tie.Need-returns
 unfolding framesBy

@@ -2,11 +2,11 @@
 use mathlib.Core.Path.{sym, ap, _∙_}
 use Rattle.pair.specs.PairChecks.{faultOf}
 use Rattle.pair.specs.PairCheckLaws.{first-refuses, second-decides}
-use Rattle.checker.specs.Refusals.{depthFault}
-use Rattle.checker.specs.RefusalLaws.{check-of, depth-small}
+use Rattle.refusals.specs.Refusals.{depthFault}
+use Rattle.refusals.specs.RefusalLaws.{check-of, depth-small}
 use borrow.Author.Needs.{needs}
-use Rattle.checker.proofs.refusals.check_fault.Statement.{statement}
-use Rattle.checker.proofs.refusals.check_fault.Tie as tie
+use Rattle.refusals.proofs.check_fault.Statement.{statement}
+use Rattle.refusals.proofs.check_fault.Tie as tie
 
 pair-fault-requires : tie.Need-pair-fault-requires
 unfolding faultOf

@@ -3,10 +3,10 @@ use mathlib.Core.Path.{sym, ap, _∙_}
 use Rattle.model.specs.Pair.{interfaceFault}
 use Rattle.pair.specs.PairChecks.{faultOf}
 use Rattle.pair.specs.PairCheckLaws.{first-refuses, second-decides}
-use Rattle.checker.specs.Refusals.{pairFault}
+use Rattle.refusals.specs.Refusals.{pairFault}
 use borrow.Author.Needs.{needs}
-use Rattle.checker.proofs.refusals.pair_fault.Statement.{statement}
-use Rattle.checker.proofs.refusals.pair_fault.Tie as tie
+use Rattle.refusals.proofs.pair_fault.Statement.{statement}
+use Rattle.refusals.proofs.pair_fault.Tie as tie
 
 interface-fault-requires : tie.Need-interface-fault-requires
 interface-fault-requires c κs =

@@ -2,11 +2,11 @@
 use Prim.Native.Nat.{_+_}
 use native.Mathlib.Omega.{arith}
 use native.Mathlib.Numerals.{add-one}
-use Rattle.checker.specs.Refusals.{nodesBy}
-use Rattle.checker.specs.RefusalLaws.{product-small}
+use Rattle.refusals.specs.Refusals.{nodesBy}
+use Rattle.refusals.specs.RefusalLaws.{product-small}
 use borrow.Author.Needs.{needs}
-use Rattle.checker.proofs.refusals.too_large.Statement.{statement}
-use Rattle.checker.proofs.refusals.too_large.Tie as tie
+use Rattle.refusals.proofs.too_large.Statement.{statement}
+use Rattle.refusals.proofs.too_large.Tie as tie
 
 mul-result : tie.Need-mul-result
 mul-result c =
