@@ -3,5 +3,3 @@ pub mod Untouched
 pub mod Asking
 pub mod Querying
 pub mod Finding
-pub mod Deciding
-pub mod Depths

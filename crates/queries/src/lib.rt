@@ -1,6 +1,4 @@
-// The queries of equivalence.rs asked, and the loop over depths.
+// Each query of equivalence.rs asked of the search, from a problem by value.
 pub mod ask;
-pub mod depth;
 pub mod problem;
-pub mod prove;
 pub mod query;

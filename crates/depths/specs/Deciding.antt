@@ -12,13 +12,13 @@ use Rattle.unrolling.specs.Side.{Untouched}
 use Rattle.sat.specs.SolveLaws.{answerOf as answered}
 use Rattle.sat.specs.declared.state.Answer.{Answer}
 use Rattle.sat.specs.declared.state.Answer.the-variants as Answers
 use Rattle.queries.specs.Problem.{StandsFor, answerOf}
 use Rattle.queries.specs.Untouched.{untouched-both}
 use Rattle.queries.specs.Querying.{Queryable, stands-for-kept, Queried}
 use Rattle.queries.specs.declared.problem.Problem.{Problem}
 use Rattle.queries.specs.declared.problem.Verdict.the-variants as Verdicts
-use Rattle.queries.specs.declared.depth.Decision.{Decision}
-use Rattle.queries.specs.declared.depth.Decision.the-variants as Decisions
+use Rattle.depths.specs.declared.depth.Decision.{Decision}
+use Rattle.depths.specs.declared.depth.Decision.the-variants as Decisions
 
 -- the decision is the model's, and the trace goes from t to t′ as the model's verdict says
 abbrev pub Agrees : Decision → List ℕ → List ℕ → Proving → Type 0

@@ -1,8 +1,8 @@
--- `queries::depth::at_depth` meets its contract. Assumes nothing.
-use Rattle.queries.specs.Depths.{differs-1, alike-1, gave-up-1}
+-- `depths::depth::at_depth` meets its contract. Assumes nothing.
+use Rattle.depths.specs.Depths.{differs-1, alike-1, gave-up-1}
 use borrow.Author.Needs.{needs}
-use Rattle.queries.proofs.depth.at_depth.Statement.{statement}
-use Rattle.queries.proofs.depth.at_depth.Tie as tie
+use Rattle.depths.proofs.depth.at_depth.Statement.{statement}
+use Rattle.depths.proofs.depth.at_depth.Tie as tie
 
 returns : tie.Need-returns
 returns c =

@@ -1,9 +1,9 @@
 // The loop over depths: prove_sequential_equivalence of equivalence.rs.
 ghost use Rattle.queries.specs.Problem.{Provable, Proves};
 use crate::depth::Decision;
 use crate::depth::at_depth;
-use crate::problem::Problem;
-use crate::problem::Verdict;
+use queries::problem::Problem;
+use queries::problem::Verdict;
 
 // The verdict after depths 1 to `max_depth`, each query under a limit of learned literals; the trace changes for NotEquivalent only.
 pub fn prove_sequential_equivalence(

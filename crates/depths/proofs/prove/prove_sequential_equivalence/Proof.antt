@@ -1,12 +1,12 @@
--- `queries::prove::prove_sequential_equivalence` meets its contract. The invariant: the depths that are left give the verdict of all. Assumes nothing.
+-- `depths::prove::prove_sequential_equivalence` meets its contract. The invariant: the depths that are left give the verdict of all. Assumes nothing.
 use mathlib.Core.Path.{_≡_}
 use Prim.Native.Nat.{_-_, _≤_}
 use native.Mathlib.Omega.{arith}
 use lib.ListN.{length}
-use Rattle.queries.specs.Depths.{Left, left-none, depth-asked, left-more, stopped, ended}
+use Rattle.depths.specs.Depths.{Left, left-none, depth-asked, left-more, stopped, ended}
 use borrow.Author.Needs.{needs}
-use Rattle.queries.proofs.prove.prove_sequential_equivalence.Statement.{statement}
-use Rattle.queries.proofs.prove.prove_sequential_equivalence.Tie as tie
+use Rattle.depths.proofs.prove.prove_sequential_equivalence.Statement.{statement}
+use Rattle.depths.proofs.prove.prove_sequential_equivalence.Tie as tie
 
 abbrev Inv-loop : tie.InvT-loop
 Inv-loop problem words₀ scores₀ trace₀ limit max-depth depth₀ words scores trace depth =

@@ -1,8 +1,8 @@
--- `queries::depth::query_2` meets its contract. Assumes nothing.
-use Rattle.queries.specs.Deciding.{differ-2, alike-2, gave-up-2}
+-- `depths::depth::query_2` meets its contract. Assumes nothing.
+use Rattle.depths.specs.Deciding.{differ-2, alike-2, gave-up-2}
 use borrow.Author.Needs.{needs}
-use Rattle.queries.proofs.depth.query_2.Statement.{statement}
-use Rattle.queries.proofs.depth.query_2.Tie as tie
+use Rattle.depths.proofs.depth.query_2.Statement.{statement}
+use Rattle.depths.proofs.depth.query_2.Tie as tie
 
 returns : tie.Need-returns
 returns c =

@@ -13,19 +13,19 @@ use Rattle.model.specs.Answers.{acceptedAnswer, statusNumber}
 use Rattle.model.specs.Equivalence as Model
 use Rattle.model.specs.Equivalence.{Proving, undecided, decided, baseCounterexample, traceBytes, notEquivalentAt, askedToo, afterQuery1, query1, atDepth, depths, proveSequentialEquivalence}
 use Rattle.model.specs.Check.{overwrite, verdictAnswer, verdictTrace}
 use Rattle.queries.specs.Problem.{StandsFor, Provable, answerOf, Proves}
 use Rattle.unrolling.specs.Side.{Untouched}
 use Rattle.queries.specs.Untouched.{untouched-none, untouched-both}
 use Rattle.queries.specs.Querying.{Queryable, stands-for-kept, queryable-at, queryable-kept}
 use Rattle.queries.specs.Finding.{FoundBy, Finds}
-use Rattle.queries.specs.Deciding.{Agrees, Decides, goal2}
+use Rattle.depths.specs.Deciding.{Agrees, Decides, goal2}
 use Rattle.queries.specs.declared.problem.Problem.{Problem}
 use Rattle.queries.specs.declared.problem.Verdict.{Verdict}
 use Rattle.queries.specs.declared.problem.Verdict.the-variants as Verdicts
 use Rattle.queries.specs.declared.query.Counterexample.{Counterexample}
 use Rattle.queries.specs.declared.query.Counterexample.the-variants as Found
-use Rattle.queries.specs.declared.depth.Decision.{Decision}
-use Rattle.queries.specs.declared.depth.Decision.the-variants as Decisions
+use Rattle.depths.specs.declared.depth.Decision.{Decision}
+use Rattle.depths.specs.declared.depth.Decision.the-variants as Decisions
 
 -- From w to w′ the queries of depth d were asked, and what is decided is the model's, whatever was asked before.
 pub record Passes (x : Problem) (limit d : ℕ) (w t : List ℕ) (r : Decision) (w′ t′ : List ℕ) : Type 0 where

@@ -1,8 +1,8 @@
--- `queries::depth::query_4` meets its contract. Assumes nothing.
-use Rattle.queries.specs.Deciding.{open-4, closed-4, gave-up-4}
+-- `depths::depth::query_4` meets its contract. Assumes nothing.
+use Rattle.depths.specs.Deciding.{open-4, closed-4, gave-up-4}
 use borrow.Author.Needs.{needs}
-use Rattle.queries.proofs.depth.query_4.Statement.{statement}
-use Rattle.queries.proofs.depth.query_4.Tie as tie
+use Rattle.depths.proofs.depth.query_4.Statement.{statement}
+use Rattle.depths.proofs.depth.query_4.Tie as tie
 
 returns : tie.Need-returns
 returns c =

@@ -1,8 +1,8 @@
--- `queries::depth::query_3` meets its contract. Assumes nothing.
-use Rattle.queries.specs.Deciding.{open-3, closed-3, gave-up-3}
+-- `depths::depth::query_3` meets its contract. Assumes nothing.
+use Rattle.depths.specs.Deciding.{open-3, closed-3, gave-up-3}
 use borrow.Author.Needs.{needs}
-use Rattle.queries.proofs.depth.query_3.Statement.{statement}
-use Rattle.queries.proofs.depth.query_3.Tie as tie
+use Rattle.depths.proofs.depth.query_3.Statement.{statement}
+use Rattle.depths.proofs.depth.query_3.Tie as tie
 
 returns : tie.Need-returns
 returns c =

@@ -1,15 +1,15 @@
 // The queries of one depth in the order of equivalence.rs, until one decides.
 ghost use Prim.Native.Nat.{suc, _+_, _*_, _≤_};
 ghost use lib.ListN.{length};
 ghost use Rattle.queries.specs.Querying.{Queryable};
-ghost use Rattle.queries.specs.Deciding.{Decides, goal2, goal3, goal4};
-ghost use Rattle.queries.specs.Depths.{Passes};
-use crate::problem::Problem;
-use crate::problem::Verdict;
-use crate::query::Counterexample;
-use crate::query::find_counterexample;
-use crate::query::induction_fails;
-use crate::query::named_state_differs;
+ghost use Rattle.depths.specs.Deciding.{Decides, goal2, goal3, goal4};
+ghost use Rattle.depths.specs.Depths.{Passes};
+use queries::problem::Problem;
+use queries::problem::Verdict;
+use queries::query::Counterexample;
+use queries::query::find_counterexample;
+use queries::query::induction_fails;
+use queries::query::named_state_differs;
 use sat::state::Answer;
 
 // What the queries so far decide.

@@ -1,0 +1,3 @@
+// The queries of a depth one after another, and the loop over depths: prove_sequential_equivalence.
+pub mod depth;
+pub mod prove;
