@@ -1,14 +1,11 @@
 // Runs the cases of document 01 that are run, and writes what each check answers.
-mod designs;
-mod record;
-
 use designs::conjunction;
 use designs::counter;
 use designs::holding;
+use designs::record::Record;
 use designs::wide;
 use lender::text::first;
 use libc::STDOUT_FILENO;
-use record::Record;
 
 // A number after its name.
 fn tell_number(name: &[u8], value: u32) {

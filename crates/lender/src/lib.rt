@@ -25,3 +25,10 @@ pub fn trace() -> [u8; 16384]
 {
     [0; 16384]
 }
+
+// The bytes of a record or a claim: more than any call takes.
+pub fn record() -> [u8; 131072]
+    ensures { λ r. ⌜ 131072 ≡ length r ⌝ }
+{
+    [0; 131072]
+}

@@ -1,10 +1,10 @@
 // The command `check`.
-use crate::file::given;
-use crate::file::load;
-use crate::file::numeral;
 use crate::tell::tell_refusal;
 use crate::tell::tell_verdict;
-use crate::trace::tell_trace;
+use console::file::given;
+use console::file::load;
+use console::file::numeral;
+use console::trace::tell_trace;
 use lender::text::first;
 
 // Checks a pair in memory of its own and says the verdict, with the trace where the designs differ.

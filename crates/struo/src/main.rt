@@ -3,11 +3,9 @@
 // outputs that differ. `struo replay GOLD GATE CYCLE CLAIM` says whether a claimed trace shows a difference.
 // A program of this toolchain always ends with status 0: the first word of what is written is the answer.
 mod check;
-mod file;
 mod read;
 mod replay;
 mod tell;
-mod trace;
 
 use lender::text::begins;
 use libc::STDOUT_FILENO;

@@ -1,7 +1,7 @@
 // The command `read`.
-use crate::file::given;
-use crate::file::load;
 use crate::tell::tell_refusal;
+use console::file::given;
+use console::file::load;
 use lender::text::first;
 use libc::STDOUT_FILENO;
 

@@ -1,8 +1,8 @@
 // The command `replay`.
-use crate::file::given;
-use crate::file::load;
-use crate::file::numeral;
 use crate::tell::tell_refusal;
+use console::file::given;
+use console::file::load;
+use console::file::numeral;
 use lender::text::first;
 use libc::STDOUT_FILENO;
 

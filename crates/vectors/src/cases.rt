@@ -1,11 +1,5 @@
 // One line of the list: its call is made and its answer compared.
 use crate::checks::run_check;
-use crate::outcome::NUMBER;
-use crate::outcome::Outcome;
-use crate::outcome::PLACE;
-use crate::outcome::SIDE;
-use crate::outcome::YES;
-use crate::outcome::compared;
 use lender::text::begins;
 use lender::text::equals;
 use lender::text::first;
@@ -13,6 +7,12 @@ use lender::text::hex;
 use lender::text::number;
 use lender::text::space;
 use lender::text::yes_or_no;
+use recorded::outcome::NUMBER;
+use recorded::outcome::Outcome;
+use recorded::outcome::PLACE;
+use recorded::outcome::SIDE;
+use recorded::outcome::YES;
+use recorded::outcome::compared;
 
 // The answer for a record, compared with the numbers at an offset of the line.
 fn judge_read(line: &[u8], from: usize, gold: &[u8], n: usize) -> Outcome {
@@ -29,9 +29,10 @@ fn judge_read(line: &[u8], from: usize, gold: &[u8], n: usize) -> Outcome {
 }
 
 // A `read` line: `read HEX = NUMBER SIDE PLACE`.
-fn run_read(line: &[u8], gold: &mut [u8]) -> Outcome {
-    let bytes = hex(line, 5, gold);
-    judge_read(line, bytes.next, gold, bytes.count)
+fn run_read(line: &[u8]) -> Outcome {
+    let mut gold = lender::record();
+    let bytes = hex(line, 5, &mut gold);
+    judge_read(line, bytes.next, &gold, bytes.count)
 }
 
 // The answer for a claim, compared with the numbers and the word at an offset of the line.
@@ -62,42 +63,37 @@ fn judge_replay(
 }
 
 // A `replay` line: `replay GOLDHEX GATEHEX CYCLE CLAIMHEX = NUMBER SIDE PLACE YESNO`.
-fn run_replay(line: &[u8], gold: &mut [u8], gate: &mut [u8], claim: &mut [u8]) -> Outcome {
-    let first_record = hex(line, 7, gold);
-    let second_record = hex(line, space(line, first_record.next), gate);
+fn run_replay(line: &[u8]) -> Outcome {
+    let mut gold = lender::record();
+    let mut gate = lender::record();
+    let mut claim = lender::record();
+    let first_record = hex(line, 7, &mut gold);
+    let second_record = hex(line, space(line, first_record.next), &mut gate);
     let cycle = number(line, space(line, second_record.next));
-    let bytes = hex(line, space(line, cycle.next), claim);
+    let bytes = hex(line, space(line, cycle.next), &mut claim);
     judge_replay(
         line,
         bytes.next,
-        gold,
+        &gold,
         first_record.count,
-        gate,
+        &gate,
         second_record.count,
         cycle.value,
-        claim,
+        &claim,
         bytes.count,
     )
 }
 
 // A line of the list.
-pub fn run_line(
-    line: &[u8],
-    gold: &mut [u8],
-    gate: &mut [u8],
-    claim: &mut [u8],
-    trace: &mut [u8],
-    words: &mut [u32],
-    scores: &mut [f64],
-) -> Outcome {
+pub fn run_line(line: &[u8]) -> Outcome {
     if begins(line, b"read ") {
-        return run_read(line, gold);
+        return run_read(line);
     }
     if begins(line, b"replay ") {
-        return run_replay(line, gold, gate, claim);
+        return run_replay(line);
     }
     if begins(line, b"check ") {
-        return run_check(line, gold, gate, claim, trace, words, scores);
+        return run_check(line);
     }
     Outcome::Malformed
 }

@@ -1,13 +1,12 @@
 // Runs a file of recorded calls, compares every answer with the recorded one, and says how many lines differ.
 mod cases;
 mod checks;
-mod lent;
-mod outcome;
-mod tally;
+mod lines;
 
-use tally::Tally;
-use tally::feed;
-use tally::tell;
+use lines::feed;
+use recorded::tally::Tally;
+use recorded::tally::line;
+use recorded::tally::tell;
 
 // A part of the file, and whether it was the last one.
 struct Part {
@@ -16,17 +15,7 @@ struct Part {
 }
 
 // Reads once and runs the lines that end in what came.
-fn some_lines(
-    fd: i32,
-    line: &mut [u8],
-    gold: &mut [u8],
-    gate: &mut [u8],
-    claim: &mut [u8],
-    trace: &mut [u8],
-    words: &mut [u32],
-    scores: &mut [f64],
-    t: Tally,
-) -> Part {
+fn some_lines(fd: i32, line: &mut [u8], t: Tally) -> Part {
     let mut buf = io::large_buffer();
     let n = io::read_full(fd, &mut buf);
     if n == 0 {
@@ -35,7 +24,7 @@ fn some_lines(
             more: false,
         };
     }
-    let next = feed(&buf[..n], line, gold, gate, claim, trace, words, scores, t);
+    let next = feed(&buf[..n], line, t);
     Part {
         tally: next,
         more: true,
@@ -43,16 +32,7 @@ fn some_lines(
 }
 
 // The whole file. Nothing says that a file ends, so the turns are counted down from a number that no run uses up.
-fn all_lines(
-    fd: i32,
-    line: &mut [u8],
-    gold: &mut [u8],
-    gate: &mut [u8],
-    claim: &mut [u8],
-    trace: &mut [u8],
-    words: &mut [u32],
-    scores: &mut [f64],
-) -> Tally {
+fn all_lines(fd: i32, line: &mut [u8]) -> Tally {
     let mut t = Tally {
         held: 0,
         ended: 0,
@@ -61,7 +41,7 @@ fn all_lines(
     };
     let mut turns = u64::MAX;
     while 0 < turns {
-        let part = some_lines(fd, line, gold, gate, claim, trace, words, scores, t);
+        let part = some_lines(fd, line, t);
         t = part.tally;
         if !part.more {
             return t;
@@ -83,23 +63,8 @@ fn main() {
         os::fail(&path[..length]);
         return;
     }
-    let mut line = [0u8; 524288];
-    let mut gold = [0u8; 131072];
-    let mut gate = [0u8; 131072];
-    let mut claim = [0u8; 131072];
-    let mut trace = lender::trace();
-    let mut words = lender::words();
-    let mut scores = lender::scores();
-    let t = all_lines(
-        fd,
-        &mut line,
-        &mut gold,
-        &mut gate,
-        &mut claim,
-        &mut trace,
-        &mut words,
-        &mut scores,
-    );
+    let mut held = line();
+    let t = all_lines(fd, &mut held);
     libc::close(fd);
     tell(t);
 }

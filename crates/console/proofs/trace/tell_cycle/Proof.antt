@@ -1,0 +1,18 @@
+-- `tell_cycle` ends. Assumes nothing.
+use Prim.Native.Nat.{ℕ, _+_, _-_, _*_, _<_, _≤_}
+use mathlib.Core.Path.{_≡_}
+use native.Mathlib.Omega.{arith}
+use borrow.Author.Needs.{needs}
+use Rattle.console.proofs.trace.tell_cycle.Statement.{statement}
+use Rattle.console.proofs.trace.tell_cycle.Tie as tie
+
+abbrev Inv-loop : tie.InvT-loop
+Inv-loop gold order trace cycle from count i₀ next₀ t11 i next = Unit {0}
+
+abbrev μ-loop : tie.MeasureT-loop
+μ-loop gold order trace cycle from count i₀ next₀ t11 i next = count - i
+
+pub tell-cycle-spec : {M : Type 1} → statement M
+tell-cycle-spec =
+    tie.close
+    (tie.spec Inv-loop μ-loop (λ c. search needs) (λ c κs. search needs) (λ c κs. search needs) (λ c. search needs) (λ c κs. search needs) (λ c. search needs) (λ c κs. search needs) (λ c κs. search needs) (λ c κs. search needs) (λ c. search needs) (λ c. search needs) (λ c. search needs) (λ c. search needs) (λ c κs. search needs) (λ c. search needs))

@@ -1,0 +1,19 @@
+-- `word_fault` ends. Assumes nothing.
+use Prim.Native.Nat.{ℕ, _+_, _-_, _*_, _<_, _≤_}
+use mathlib.Core.Path.{_≡_}
+use lib.ListN.{length}
+use native.Mathlib.Omega.{arith}
+use borrow.Author.Needs.{needs}
+use Rattle.recorded.proofs.lent.word_fault.Statement.{statement}
+use Rattle.recorded.proofs.lent.word_fault.Tie as tie
+
+abbrev Inv-loop : tie.InvT-loop
+Inv-loop words end inside i₀ i = Unit {0}
+
+abbrev μ-loop : tie.MeasureT-loop
+μ-loop words end inside i₀ i = length words - i
+
+pub word-fault-spec : {M : Type 1} → statement M
+word-fault-spec =
+    tie.close
+    (tie.spec Inv-loop μ-loop (λ c. search needs) (λ c. search needs) (λ c. search needs) (λ c. search needs) (λ c. search needs) (λ c. search needs) (λ c. search needs) (λ c. search needs))

@@ -1,0 +1,147 @@
+// A line of the call check: the buffers that it asks for, the answer recorded in it, and what the buffers hold after the call.
+ghost use Prim.Native.Nat.{_≤_};
+use crate::lent::HELD_WORD;
+use crate::lent::score_fault;
+use crate::lent::trace_fault;
+use crate::lent::word_fault;
+use crate::outcome::Outcome;
+use crate::outcome::SCORES;
+use crate::outcome::TRACE;
+use crate::outcome::WORDS;
+use crate::outcome::compared;
+use lender::text::Bytes;
+use lender::text::equals;
+use lender::text::hex;
+use lender::text::number;
+use lender::text::space;
+
+// What a line asks for: the lengths of the records, the depth and the lengths of the buffers; and the offset after them.
+pub struct Asked {
+    pub gold: usize,
+    pub gate: usize,
+    pub depth: u64,
+    pub trace: usize,
+    pub words: usize,
+    pub scores: usize,
+    pub next: usize,
+}
+
+fn asks(line: &[u8], gold: usize, gate: Bytes) -> Asked {
+    let depth = number(line, space(line, gate.next));
+    let trace = number(line, space(line, depth.next));
+    let words = number(line, space(line, trace.next));
+    let scores = number(line, space(line, words.next));
+    Asked {
+        gold: gold,
+        gate: gate.count,
+        depth: depth.value,
+        trace: trace.value as usize,
+        words: words.value as usize,
+        scores: scores.value as usize,
+        next: scores.next,
+    }
+}
+
+// What a line asks for after gold's record; gate's record is put into `gate`.
+pub fn asked_of(line: &[u8], gold: Bytes, gate: &mut [u8]) -> Asked {
+    let second_record = hex(line, space(line, gold.next), gate);
+    asks(line, gold.count, second_record)
+}
+
+// Number, side and place of a recorded answer, and the offset after them.
+pub struct Refusal {
+    pub number: u64,
+    pub side: u64,
+    pub place: u64,
+    pub next: usize,
+}
+
+fn told_refusal(line: &[u8], from: usize) -> Refusal {
+    let told = number(line, equals(line, from));
+    let side = number(line, space(line, told.next));
+    let place = number(line, space(line, side.next));
+    Refusal {
+        number: told.value,
+        side: side.value,
+        place: place.value,
+        next: place.next,
+    }
+}
+
+// Status, depth, mismatch and query of a recorded answer, and the offset after them.
+pub struct Verdict {
+    pub status: u64,
+    pub depth: u64,
+    pub mismatch: u64,
+    pub query: u64,
+    pub next: usize,
+}
+
+fn told_verdict(line: &[u8], from: usize) -> Verdict {
+    let status = number(line, space(line, from));
+    let depth = number(line, space(line, status.next));
+    let mismatch = number(line, space(line, depth.next));
+    let query = number(line, space(line, mismatch.next));
+    Verdict {
+        status: status.value,
+        depth: depth.value,
+        mismatch: mismatch.value,
+        query: query.value,
+        next: query.next,
+    }
+}
+
+// A recorded answer: its numbers, how many bytes of the trace are written, and the offset after it.
+pub struct Recorded {
+    pub refusal: Refusal,
+    pub verdict: Verdict,
+    pub accepted: bool,
+    pub written: usize,
+    pub next: usize,
+}
+
+// The recorded answer at an offset; the trace's bytes are put into `claim`.
+pub fn recorded_answer(line: &[u8], from: usize, claim: &mut [u8]) -> Recorded {
+    let r = told_refusal(line, from);
+    let v = told_verdict(line, r.next);
+    let bytes = hex(line, space(line, v.next), claim);
+    let learned = number(line, space(line, bytes.next));
+    Recorded {
+        refusal: r,
+        verdict: v,
+        accepted: r.number == 0,
+        written: bytes.count,
+        next: learned.next,
+    }
+}
+
+// What the buffers hold after the call, compared; `accepted` says that words and scores have to be zero where they were lent.
+pub fn buffers(
+    numbers_told: Outcome,
+    q: Asked,
+    accepted: bool,
+    written: &[u8],
+    trace: &[u8],
+    words: &[u32],
+    scores: &[f64],
+) -> Outcome {
+    let byte = trace_fault(trace, written);
+    let trace_told = compared(numbers_told, TRACE, trace.len() as u64, byte as u64);
+    let inside = if accepted { 0 } else { HELD_WORD };
+    let word = word_fault(words, q.words, inside);
+    let words_told = compared(trace_told, WORDS, words.len() as u64, word as u64);
+    let score = score_fault(scores, q.scores, accepted);
+    compared(words_told, SCORES, scores.len() as u64, score as u64)
+}
+
+// The smaller one.
+pub fn least(a: usize, b: usize) -> usize
+    ensures { λ r. ⌜ r ≤ b ⌝ }
+{
+    if a < b { a } else { b }
+}
+
+// Whether the line ends with its answer, and so much as it asks for can be lent.
+pub fn fits(line: &[u8], q: Asked, t: Recorded, trace: usize, words: usize, scores: usize) -> bool {
+    t.next == line.len() && q.trace <= trace && q.words <= words && q.scores <= scores
+}
