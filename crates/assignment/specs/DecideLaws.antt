@@ -5,12 +5,13 @@ use mathlib.Core.List.{List, [], _∷_, map}
 use Prim.Native.Nat.{ℕ, zero, suc, _+_, _*_, _<_, _≤_}
 use native.Mathlib.Omega.{arith}
 use borrow.Author.Tests.{eq-eqb}
-use lib.ListN.{length, getD, replicate, List·getD-map, replicate-append-replicate}
-use Rattle.words.specs.Region.{region, sizeOf, stored, stores, stored-in}
+use lib.ListN.{length, getD, replicate, List·getD-map}
+use Rattle.words.specs.Fill.{take-filled}
+use Rattle.words.specs.Region.{region, sizeOf, stored, stores, cleared, cleared-in, length-region}
 use Rattle.model.specs.Lists as Lists
 use Rattle.model.specs.Sat as Sat
 use Rattle.assignment.specs.State.{wordValue, wordReason, wordBit, assignmentOf, column, lists, Ready, assignmentRegions, Becomes, Assigns, decided, Cleared, News}
-use Rattle.assignment.specs.StateLaws.{bit-true, set-end, take-set, unchanged-none, unchanged-both, unchanged-stored, unchanged-within, trail-length}
+use Rattle.assignment.specs.StateLaws.{bit-true, set-end, take-set, unchanged-none, unchanged-both, unchanged-stored, unchanged-cleared, unchanged-within, trail-length}
 use Rattle.assignment.specs.declared.state.Trail.{Trail}
 
 -- ---- a decision
@@ -62,34 +63,14 @@ decides t u r w w₁ w₂ v l e p a =
 listed-alone : (b : ℕ) → lists b (b ∷ []) ≡ true
 listed-alone b = rw (eq-eqb b b refl)
 
--- the first i words of a region are 0, the words being w
-pub record Clearing (base n : ℕ) (w₀ : List ℕ) (i : ℕ) (w : List ℕ) : Type 0 where
-  pub inside : i ≤ n
-  pub long : length w ≡ length w₀
-  pub cleared : Cleared base i w₀ w
-
-pub clearing-start : (base n : ℕ) (w : List ℕ) → 8388608 ≤ length w → Clearing base n w 0 w
-clearing-start base n w h = record { inside = omega arith; long = refl; cleared = record { zeros = refl; frame = unchanged-none (base ∷ []) w; words = h } }
-
-pub clearing-step : (base n : ℕ) (w₀ w w′ : List ℕ) (i : ℕ) → n ≤ sizeOf base → base + sizeOf base ≤ 8388608 → Clearing base n w₀ i w → i < n → w′ ≡ stored base w i 0 → length w′ ≡ length w
-    → Clearing base n w₀ (i + 1) w′
-clearing-step base n w₀ w w′ i h b c k e l =
-    let d = c .cleared in
-    let m : i < sizeOf base = omega arith in
-    let q : base + sizeOf base ≤ length w = omega arith in
+-- the first n words of a region cleared
+pub clears : (base n : ℕ) (w w′ : List ℕ) → n ≤ sizeOf base → base + sizeOf base ≤ length w → w′ ≡ cleared base w n → 8388608 ≤ length w′ → Cleared base n w w′
+clears base n w w′ h k e l =
     record {
-      inside = omega arith;
-      long = l ∙ c .long;
-      cleared =
-          record {
-            zeros = rw (e, stored-in base w i 0, take-set (i + 1) (region base w) i 0, set-end base w i 0 m q, d .zeros) (replicate-append-replicate i 1 0);
-            frame = unchanged-stored (base ∷ []) base i 0 (listed-alone base) (d .frame) e;
-            words = omega arith;
-          };
+      zeros = rw (e, cleared-in base w n) (take-filled 0 n (region base w) (omega (arith, length-region base w k)));
+      frame = unchanged-cleared (base ∷ []) base n (listed-alone base) (unchanged-none (base ∷ []) w) e;
+      words = l;
     }
-
-pub clearing-end : (base n : ℕ) (w₀ w : List ℕ) (i : ℕ) → Clearing base n w₀ i w → n ≤ i → Cleared base n w₀ w
-clearing-end base n w₀ w i c h = let e : i ≡ n = omega arith in rw e at (c .cleared)
 
 pub map-replicate : {A B : Type 0} (f : A → B) (n : ℕ) (a : A) → map f (replicate n a) ≡ replicate n (f a)
 map-replicate f zero a = refl

@@ -107,15 +107,6 @@ unfoldable pub enqueued : Bool → Assignment → Option Assignment
 enqueued true a = some a
 enqueued false a = none
 
--- of `enqueue`; where it is not ok the assignment is as it was
-pub record Enqueues (t : Trail) (w : List ℕ) (l reason : ℕ) (r : Enqueued) (w′ : List ℕ) : Type 0 where
-  pub is : enqueued (r .ok) (assignmentOf (r .trail) w′) ≡ Sat.enqueue (assignmentOf t w) l (wordReason reason)
-  pub kept : r .ok ≡ false → assignmentOf (r .trail) w′ ≡ assignmentOf t w
-  pub frame : Unchanged assignmentRegions w w′
-  pub ready : Ready (r .trail) w′
-  pub variables : r .trail .variables ≡ t .variables
-  pub level : r .trail .level ≡ t .level
-
 -- of a function that makes the assignment another one, for the same variables
 pub record Becomes (t : Trail) (w : List ℕ) (a : Assignment) (r : Trail) (w′ : List ℕ) : Type 0 where
   pub is : assignmentOf r w′ ≡ a
@@ -127,7 +118,7 @@ pub record Becomes (t : Trail) (w : List ℕ) (a : Assignment) (r : Trail) (w′
 unfoldable pub decided : Assignment → ℕ → Assignment
 decided a v = Sat.assign (Sat.pushLimit a) (Sat.decision a v) none
 
--- of `clear`: the first n words of a region are 0
+-- the first n words of a region are 0
 pub record Cleared (base n : ℕ) (w w′ : List ℕ) : Type 0 where
   pub zeros : column n base w′ ≡ replicate n 0
   pub frame : Unchanged (base ∷ []) w w′

@@ -2,7 +2,6 @@
 use mathlib.Core.Path.{_≡_, refl, ap, sym, _∙_}
 use mathlib.Core.Bool.{Bool, true, false, not, _&&_}
 use mathlib.Core.List.{List, [], _∷_, _++_, map}
-use mathlib.Core.Option.{some}
 use mathlib.Core.Logic.{_⊎_, inl, inr, ⊎-elim}
 use Prim.Native.Nat.{ℕ, zero, suc, _+_, _-_, _/_, _%_, _<_, _≤_}
 use native.Mathlib.Omega.{arith}
@@ -10,14 +9,12 @@ use lib.Dec.{eqb, ltb}
 use borrow.Author.Tests.{eqb-true, eqb-false, ltb-true, ltb-false}
 use lib.ListN.{length, take, set, getD, length-take, length-map, List·getD-map, List·getD-eq-default}
 use lib.Seq.{take-set-lt, take-set-le, set-out, length-take-le}
-use Rattle.words.specs.Region.{region, sizeOf, apart, stored, stores, stored-out, push, length-region}
+use Rattle.words.specs.Region.{region, sizeOf, apart, stored, stores, stored-out, cleared, cleared-out, push, length-region}
 use Rattle.model.specs.Literal as Literals
 use Rattle.model.specs.Lists as Lists
 use Rattle.model.specs.Sat as Sat
-use Rattle.assignment.specs.State.{wordValue, wordReason, wordBit, assignmentOf, column, apartFrom, lists, within, spares, Unchanged, Ready, assignmentRegions, Assigns, Enqueues, valueOf, enqueued}
+use Rattle.assignment.specs.State.{wordValue, wordReason, wordBit, assignmentOf, column, apartFrom, lists, within, spares, Unchanged, Ready, assignmentRegions, Assigns}
 use Rattle.assignment.specs.declared.state.Trail.{Trail}
-use Rattle.assignment.specs.declared.state.Value.{Value}
-use Rattle.assignment.specs.declared.state.Value.the-variants as Variants
 
 -- ---- lists
 
@@ -142,6 +139,11 @@ pub unchanged-stored : (listed : List ℕ) (c i v : ℕ) {u w w′ : List ℕ} �
 unchanged-stored listed c i v {u} {w} {w′} m f e =
     record { same = λ b k. ap (λ (x : List ℕ). region b x) e ∙ stored-out b w c i v (apart-of listed b c m k) ∙ f .same b k }
 
+-- the first words of a listed region cleared
+pub unchanged-cleared : (listed : List ℕ) (c n : ℕ) {u w w′ : List ℕ} → lists c listed ≡ true → Unchanged listed u w → w′ ≡ cleared c w n → Unchanged listed u w′
+unchanged-cleared listed c n {u} {w} {w′} m f e =
+    record { same = λ b k. ap (λ (x : List ℕ). region b x) e ∙ cleared-out b w c n (apart-of listed b c m k) ∙ f .same b k }
+
 -- the assignment is as it was where other regions are written
 pub assignment-kept : (listed : List ℕ) (t : Trail) {w w′ : List ℕ} → spares listed assignmentRegions ≡ true → Unchanged listed w w′ → assignmentOf t w′ ≡ assignmentOf t w
 unfolding assignmentOf
@@ -214,44 +216,3 @@ module _ (t : Trail) (l reason v : ℕ) {w w₁ w₂ w₃ w₄ w₅ : List ℕ} 
         variables = refl;
         level = refl;
       }
-
--- ---- enqueue, by the value that was found
-
-pub enqueues-true : (t : Trail) (w : List ℕ) (l reason : ℕ) {v : Value} → Ready t w → valueOf v ≡ Sat.value (assignmentOf t w) l → v ≡ Variants.True
-    → Enqueues t w l reason (record { ok = true; trail = t }) w
-unfolding Sat.enqueue Sat.enqueueValued enqueued
-enqueues-true t w l reason {v} r e k =
-    record {
-      is = let h : Sat.value (assignmentOf t w) l ≡ Sat.True = sym e ∙ ap valueOf k in rw h;
-      kept = λ b. refl;
-      frame = unchanged-none assignmentRegions w;
-      ready = r;
-      variables = refl;
-      level = refl;
-    }
-
-pub enqueues-false : (t : Trail) (w : List ℕ) (l reason : ℕ) {v : Value} → Ready t w → valueOf v ≡ Sat.value (assignmentOf t w) l → v ≡ Variants.False
-    → Enqueues t w l reason (record { ok = false; trail = t }) w
-unfolding Sat.enqueue Sat.enqueueValued enqueued
-enqueues-false t w l reason {v} r e k =
-    record {
-      is = let h : Sat.value (assignmentOf t w) l ≡ Sat.False = sym e ∙ ap valueOf k in rw h;
-      kept = λ b. refl;
-      frame = unchanged-none assignmentRegions w;
-      ready = r;
-      variables = refl;
-      level = refl;
-    }
-
-pub enqueues-unassigned : (t : Trail) (w w′ : List ℕ) (l reason : ℕ) (r : Trail) {v : Value} → valueOf v ≡ Sat.value (assignmentOf t w) l → v ≡ Variants.Unassigned
-    → Assigns t w l reason r w′ → Enqueues t w l reason (record { ok = true; trail = r }) w′
-unfolding Sat.enqueue Sat.enqueueValued enqueued
-enqueues-unassigned t w w′ l reason r {v} e k a =
-    record {
-      is = let h : Sat.value (assignmentOf t w) l ≡ Sat.Unassigned = sym e ∙ ap valueOf k in rw h (ap some (a .is));
-      kept = λ (b : _≡_ true false). absurd (let z : _≡_ {A = ℕ} 0 1 = cc b in omega arith);
-      frame = a .frame;
-      ready = a .ready;
-      variables = a .variables;
-      level = a .level;
-    }

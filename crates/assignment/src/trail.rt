@@ -1,11 +1,10 @@
-// Values, enqueue and backtrack, as sat.rs has them, over the words of a search.
+// Values, a literal made true, and backtrack, as sat.rs has them, over the words of a search.
 ghost use mathlib.Core.Path.{_≡_};
 ghost use Prim.Native.Nat.{_+_, _<_, _≤_, min};
 ghost use lib.ListN.{length, getD, take, drop};
 ghost use Rattle.words.specs.Region.{region, sizeOf};
 ghost use Rattle.model.specs.Sat as Sat;
-ghost use Rattle.assignment.specs.State.{assignmentOf, valueOf, Ready, Assigns, Enqueues, Becomes, decided, Cleared, News};
-use crate::state::Enqueued;
+ghost use Rattle.assignment.specs.State.{assignmentOf, valueOf, Ready, Assigns, Becomes, decided, News};
 use crate::state::Trail;
 use crate::state::Value;
 use words::LEVELS;
@@ -15,6 +14,7 @@ use words::REASONS;
 use words::SMALL;
 use words::TRAIL;
 use words::VALUES;
+use words::clear;
 use words::fetch;
 use words::stash;
 use words::wide;
@@ -66,27 +66,6 @@ pub fn assign(words: &mut [u32], t: Trail, literal: u32, reason: u32) -> Trail
         length: n + 1,
         head: t.head,
         level: t.level,
-    }
-}
-
-// A literal made true with its reason; not ok where it is false.
-pub fn enqueue(words: &mut [u32], t: Trail, literal: u32, reason: u32) -> Enqueued
-    requires { ⌜ Ready t (now words) × (t .length < 65536) ⌝ }
-    ensures { λ r. ⌜ Enqueues t (now (words .entry)) literal reason r (now (words .exit)) ⌝ }
-{
-    match value(words, t, literal) {
-        Value::True => Enqueued { ok: true, trail: t },
-        Value::False => Enqueued {
-            ok: false,
-            trail: t,
-        },
-        Value::Unassigned => {
-            let next = assign(words, t, literal, reason);
-            Enqueued {
-                ok: true,
-                trail: next,
-            }
-        }
     }
 }
 
@@ -179,18 +158,6 @@ pub fn decide(words: &mut [u32], t: Trail, variable: u32) -> Trail
     let literal = decision(words, t, variable);
     let deeper = push_limit(words, t);
     assign(words, deeper, literal, 0)
-}
-
-// The first `count` words of a region zeroed.
-pub fn clear(words: &mut [u32], base: usize, size: usize, count: usize)
-    requires { ⌜ (8388608 ≤ length (now words)) × (base + size ≤ 8388608) × (size ≡ sizeOf base) × (count ≤ size) ⌝ }
-    ensures { λ _. ⌜ Cleared base count (now (words .entry)) (now (words .exit)) ⌝ }
-{
-    let mut i: usize = 0;
-    while i < count {
-        stash(words, base, size, i, 0);
-        i += 1;
-    }
 }
 
 // The assignment of a new search of so many variables, counted with variable 0.

@@ -4,48 +4,20 @@ use mathlib.Core.List.{List, []}
 use mathlib.Core.Logic.{⊎-elim}
 use Prim.Native.Nat.{ℕ, zero, suc, _+_, _*_, _<_, _≤_}
 use native.Mathlib.Omega.{arith}
-use native.Mathlib.Numerals.{add-one}
 use lib.ListN.{getD, length, replicate, length-replicate, getD-replicate, List·getD-eq-default}
-use lib.Seq.{ext-getD, getD-set-same, getD-set-other}
-use Rattle.words.specs.Region.{region, stored, stored-in, stored-out, length-stored, length-region}
+use lib.Seq.{ext-getD, getD-set-same}
+use Rattle.words.specs.Fill.{filled, length-filled, getD-filled}
+use Rattle.words.specs.Region.{region, stored, stored-in, stored-out, length-stored, cleared, cleared-in, length-cleared, length-region}
 use Rattle.model.specs.Lists.{member}
 use Rattle.assignment.specs.State.{Unchanged}
-use Rattle.assignment.specs.StateLaws.{unchanged-none, unchanged-stored}
+use Rattle.assignment.specs.StateLaws.{unchanged-none, unchanged-stored, unchanged-cleared}
 use Rattle.clauses.specs.Tabulate.{tabulate, length-tabulate, getD-tabulate}
 use Rattle.clauses.specs.Members.{In, Once}
 use Rattle.clauses.specs.Queue.{Queues, queuesOf, queue, walk}
 use Rattle.clauses.specs.Sound.{SoundQueues, lists}
 use Rattle.clauses.specs.Clauses.{clausesOf, watchesOf, watchers, below}
-use Rattle.clauses.specs.State.{watchRegions, clearedTo, clearedWords, Cleared}
+use Rattle.clauses.specs.State.{watchRegions, clearedWords, Cleared}
 use Rattle.clauses.specs.StepLaws.{same-assignment}
-
-pub cleared-more : (n : ℕ) (w : List ℕ) → clearedTo (n + 1) w ≡ stored 1966080 (clearedTo n w) n 0
-unfolding clearedTo
-cleared-more n w = rw add-one
-
-pub cleared-none : (w : List ℕ) → w ≡ clearedTo 0 w
-unfolding clearedTo
-cleared-none w = refl
-
-cleared-unchanged : (n : ℕ) (w : List ℕ) → Unchanged watchRegions w (clearedTo n w)
-unfolding clearedTo member
-cleared-unchanged zero w = unchanged-none watchRegions w
-cleared-unchanged (suc n) w = unchanged-stored watchRegions 1966080 n 0 refl (cleared-unchanged n w) refl
-
-cleared-length : (n : ℕ) (w : List ℕ) → length (clearedTo n w) ≡ length w
-unfolding clearedTo
-cleared-length zero w = refl
-cleared-length (suc n) w = length-stored 1966080 (clearedTo n w) n 0 ∙ cleared-length n w
-
-cleared-count : (n : ℕ) (w : List ℕ) → 8388608 ≤ length w → n ≤ 131072 → (l : ℕ) → l < n → getD (region 1966080 (clearedTo n w)) l 0 ≡ 0
-unfolding clearedTo
-cleared-count zero w h k l b = absurd (omega arith)
-cleared-count (suc n) w h k l b = rw (stored-in 1966080 (clearedTo n w) n 0) (⊎-elim
-    (λ (c : l < n). rw (getD-set-other (region 1966080 (clearedTo n w)) n l 0 0 (λ z. omega arith)) (cleared-count n w h (omega arith) l c))
-    (λ (c : n ≤ l). let e : l ≡ n = omega arith in
-    let i : n < length (region 1966080 (clearedTo n w)) = omega (arith, length-region 1966080 (clearedTo n w) (omega (arith, cleared-length n w))) in
-    rw (e, getD-set-same (region 1966080 (clearedTo n w)) n 0 0 i))
-    (below l n))
 
 -- queues without cells are sound
 empty-sound : (q : Queues) → ((l : ℕ) → queue q l ≡ []) → SoundQueues q 0 []
@@ -68,9 +40,9 @@ empty-sound q e = record {
 module _ (w : List ℕ) (h : 8388608 ≤ length w) where
   all-zero : (l : ℕ) → getD (region 1966080 (clearedWords w)) l 0 ≡ 0
   unfolding clearedWords
-  all-zero l = rw (stored-out 1966080 (clearedTo 131072 w) 2097152 0 0 refl) (⊎-elim
-      (λ (c : l < 131072). cleared-count 131072 w h (omega arith) l c)
-      (λ (c : 131072 ≤ l). List·getD-eq-default (region 1966080 (clearedTo 131072 w)) 0 (omega (arith, length-region 1966080 (clearedTo 131072 w) (omega (arith, cleared-length 131072 w)))))
+  all-zero l = rw (stored-out 1966080 (cleared 1966080 w 131072) 2097152 0 0 refl, cleared-in 1966080 w 131072) (⊎-elim
+      (λ (c : l < 131072). getD-filled 0 131072 (region 1966080 w) l c)
+      (λ (c : 131072 ≤ l). List·getD-eq-default (filled 0 131072 (region 1966080 w)) 0 (omega (arith, length-filled 0 131072 (region 1966080 w), length-region 1966080 w (omega arith))))
       (below l 131072))
 
   no-cells : (l : ℕ) → queue (queuesOf (clearedWords w)) l ≡ []
@@ -79,11 +51,11 @@ module _ (w : List ℕ) (h : 8388608 ≤ length w) where
 
   words-unchanged : Unchanged watchRegions w (clearedWords w)
   unfolding clearedWords member
-  words-unchanged = unchanged-stored watchRegions 2097152 0 0 refl (cleared-unchanged 131072 w) refl
+  words-unchanged = unchanged-stored watchRegions 2097152 0 0 refl (unchanged-cleared watchRegions 1966080 131072 refl (unchanged-none watchRegions w) refl) refl
 
   words-length : length (clearedWords w) ≡ length w
   unfolding clearedWords
-  words-length = length-stored 2097152 (clearedTo 131072 w) 0 0 ∙ cleared-length 131072 w
+  words-length = length-stored 2097152 (cleared 1966080 w 131072) 0 0 ∙ length-cleared 1966080 w 131072
 
   no-watches : (n : ℕ) → watchesOf n (clearedWords w) ≡ replicate (n * 2) []
   unfolding watchesOf watchers
@@ -93,12 +65,12 @@ module _ (w : List ℕ) (h : 8388608 ≤ length w) where
 
   first-start : getD (region 2097152 (clearedWords w)) 0 0 ≡ 0
   unfolding clearedWords
-  first-start = rw (stored-in 2097152 (clearedTo 131072 w) 0 0)
-      (getD-set-same (region 2097152 (clearedTo 131072 w)) 0 0 0 (omega (arith, length-region 2097152 (clearedTo 131072 w) (omega (arith, cleared-length 131072 w)))))
+  first-start = rw (stored-in 2097152 (cleared 1966080 w 131072) 0 0)
+      (getD-set-same (region 2097152 (cleared 1966080 w 131072)) 0 0 0 (omega (arith, length-region 2097152 (cleared 1966080 w 131072) (omega (arith, length-cleared 1966080 w 131072)))))
 
-  pub cleared : (u : List ℕ) → u ≡ clearedWords w → Cleared w (record { clauses = 0; literals = 0 }) u
+  pub no-clause : (u : List ℕ) → u ≡ clearedWords w → Cleared w (record { clauses = 0; literals = 0 }) u
   unfolding clausesOf tabulate
-  cleared u e = record {
+  no-clause u e = record {
     frame = rw e words-unchanged;
     clauses = refl;
     literals = refl;

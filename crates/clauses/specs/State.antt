@@ -7,7 +7,7 @@ use Prim.Native.Nat.{ℕ, zero, suc, _+_, _-_, _*_, _/_, _%_, _<_, _≤_}
 use lib.ListN.{getD, set, length, take, replicate}
 use lib.Ieee.{Float}
 use lib.Seq.{slice}
-use Rattle.words.specs.Region.{region, stored}
+use Rattle.words.specs.Region.{region, stored, cleared}
 use Rattle.model.specs.Lists.{snoc}
 use Rattle.model.specs.Aig.{Node, Constant, Variable, And}
 use Rattle.model.specs.Sat as Sat
@@ -310,14 +310,9 @@ pub record UnitStep (m : Store) (t : Trail) (w : List ℕ) (r : Enqueued) (w′ 
 
 -- ---- the start
 
--- the words with the counts of the first n queues 0
-unfoldable pub clearedTo : ℕ → List ℕ → List ℕ
-clearedTo zero w = w
-clearedTo (suc n) w = stored 1966080 (clearedTo n w) n 0
-
--- and with no clause
+-- the words with the counts of all queues 0, and with no clause
 unfoldable pub clearedWords : List ℕ → List ℕ
-clearedWords w = stored 2097152 (clearedTo 131072 w) 0 0
+clearedWords w = stored 2097152 (cleared 1966080 w 131072) 0 0
 
 -- no clause and no watch: with an assignment whose trail has room for its unassigned variables all is sound
 pub record Cleared (w : List ℕ) (m : Store) (w′ : List ℕ) : Type 0 where

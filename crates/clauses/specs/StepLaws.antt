@@ -266,7 +266,7 @@ unfolding assignmentOf
 length-trail t w r = length-take-le (t .length) (region 983040 w) (omega (arith, length-region 983040 w (omega (arith, r .words)), r .literals))
 
 -- a variable assigned leaves one fewer unassigned
-one-fewer : (vs : List Sat.Value) (i : ℕ) (b : Bool) → i < length vs → getD vs i Sat.Unassigned ≡ Sat.Unassigned → suc (unassigned (set vs i (Sat.makingTrue b))) ≡ unassigned vs
+pub one-fewer : (vs : List Sat.Value) (i : ℕ) (b : Bool) → i < length vs → getD vs i Sat.Unassigned ≡ Sat.Unassigned → suc (unassigned (set vs i (Sat.makingTrue b))) ≡ unassigned vs
 unfolding unassigned Sat.makingTrue
 one-fewer [] i b h e = absurd (omega arith)
 one-fewer (Sat.Unassigned ∷ vs) zero true h e = refl

@@ -1,8 +1,7 @@
 // The start of a search: no clause and empty queues; then the clauses of a graph and its assumptions.
-ghost use mathlib.Core.Path.{_≡_};
 ghost use Prim.Native.Nat.{_≤_};
 ghost use lib.ListN.{length};
-ghost use Rattle.clauses.specs.State.{clearedTo, Cleared, Encodable, Encodes};
+ghost use Rattle.clauses.specs.State.{Cleared, Encodable, Encodes};
 use crate::encode::add_assumptions;
 use crate::encode::add_nodes;
 use crate::state::Encoded;
@@ -14,26 +13,15 @@ use words::CLAUSE_STARTS;
 use words::DOUBLE;
 use words::STARTS;
 use words::WATCH_COUNTS;
+use words::clear;
 use words::stash;
-
-// All watch queues empty.
-fn clear_counts(words: &mut [u32])
-    requires { ⌜ 8388608 ≤ length (now words) ⌝ }
-    ensures { λ _. ⌜ (now (words .exit) ≡ clearedTo 131072 (now (words .entry))) × (8388608 ≤ length (now (words .exit))) ⌝ }
-{
-    let mut l: usize = 0;
-    while l < DOUBLE {
-        stash(words, WATCH_COUNTS, DOUBLE, l, 0);
-        l += 1;
-    }
-}
 
 // No clause and no watch, whatever the words held before.
 pub fn clear_watches(words: &mut [u32]) -> Store
     requires { ⌜ 8388608 ≤ length (now words) ⌝ }
     ensures { λ r. ⌜ Cleared (now (words .entry)) r (now (words .exit)) ⌝ }
 {
-    clear_counts(words);
+    clear(words, WATCH_COUNTS, DOUBLE, DOUBLE);
     stash(words, CLAUSE_STARTS, STARTS, 0, 0);
     Store {
         clauses: 0,

@@ -1,5 +1,6 @@
 -- Records: what the reader leaves, and what an accepted design has. Assumes nothing.
 pub mod Reader
+pub mod Ports
 pub mod Limits
 pub mod Accepted
 pub mod Valid

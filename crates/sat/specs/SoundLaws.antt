@@ -14,7 +14,7 @@ use Rattle.assignment.specs.StateLaws.{assignment-kept, trail-length, variables
 use Rattle.assignment.specs.declared.state.Trail.{Trail}
 use Rattle.clauses.specs.Clauses.{watchesOf, same-clauses, same-queues}
 use Rattle.clauses.specs.State.{solverOf, unassigned, Formed, Sound}
-use Rattle.clauses.specs.StepLaws.{formed-kept, assigned-clauses, assigned-queues}
+use Rattle.clauses.specs.StepLaws.{formed-kept, assigned-clauses, assigned-queues, one-fewer}
 use Rattle.clauses.specs.declared.state.Store.{Store}
 use Rattle.analysis.specs.Analysis.{analysisRegions}
 
@@ -107,18 +107,6 @@ unfolding solverOf Sat.withAssignment watchesOf
 solver-becomes s m t r w w′ a b = rw (assigned-clauses (m .clauses) w w′ (b .frame), assigned-queues w w′ (b .frame), b .is, b .variables)
 
 -- ---- a decision
-
--- a variable assigned leaves one fewer unassigned
-one-fewer : (vs : List Sat.Value) (i : ℕ) (b : Bool) → i < length vs → getD vs i Sat.Unassigned ≡ Sat.Unassigned → suc (unassigned (set vs i (Sat.makingTrue b))) ≡ unassigned vs
-unfolding unassigned Sat.makingTrue
-one-fewer [] i b h e = absurd (omega arith)
-one-fewer (Sat.Unassigned ∷ vs) zero true h e = refl
-one-fewer (Sat.Unassigned ∷ vs) zero false h e = refl
-one-fewer (Sat.False ∷ vs) zero b h e = absurd (let z : _≡_ {A = ℕ} 0 1 = cc e in omega arith)
-one-fewer (Sat.True ∷ vs) zero b h e = absurd (let z : _≡_ {A = ℕ} 0 1 = cc e in omega arith)
-one-fewer (Sat.Unassigned ∷ vs) (suc i) b h e = ap suc (one-fewer vs i b (omega arith) e)
-one-fewer (Sat.False ∷ vs) (suc i) b h e = one-fewer vs i b (omega arith) e
-one-fewer (Sat.True ∷ vs) (suc i) b h e = one-fewer vs i b (omega arith) e
 
 -- the literal of a decision is of its variable
 decision-node : (t : Sat.Assignment) (v : ℕ) → node (Sat.decision t v) ≡ v

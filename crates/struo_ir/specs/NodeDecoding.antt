@@ -1,17 +1,17 @@
 -- A node as the reader keeps it stands for the definition's node; the ports among the nodes. Assumes nothing.
-use Prim.Native.Nat.{ℕ, suc, _+_}
+use Prim.Native.Nat.{ℕ, _+_}
 use mathlib.Core.Path.{_≡_, refl, sym, ap, _∙_}
 use mathlib.Core.Bool.{Bool, true, false, cond, _||_}
 use mathlib.Core.List.{List, [], _∷_, _++_}
-use mathlib.Core.Option.{Option, none, some}
 use native.Mathlib.Omega.{arith}
 use lib.ListN.{length, getD}
 use lib.Dec.{eqb}
 use borrow.Author.Tests.{eqb-true}
-use Rattle.model.specs.Names.{Name, Place}
+use Rattle.model.specs.Names.{Name}
 use Rattle.model.specs.Netlist as Model
-use Rattle.model.specs.Netlist.{Input, Constant, RegisterOutput, Not, Output, And, Or, Xor, Mux, inputName, outputName, placeIf, portsFrom}
+use Rattle.model.specs.Netlist.{inputName, outputName, portsFrom}
 use Rattle.model.specs.Record.{got, Reader, pure, goOn, _>>=_, code, guard, room, listedKind, name, nameIf, valueIf, codeBelow, numbers, hasName, hasValue, inputsPerKind, nodeOf, node}
+use Rattle.laws.specs.Record.Ports.{inputs-append, outputs-append}
 use Rattle.struo_ir.specs.declared.netlist.Node.{Node}
 use Rattle.fields.specs.Fields.{mapStep, placed, roomFor, kindAt}
 use Rattle.struo_ir.specs.Decoded.{nameAt, decodedNode}
@@ -73,60 +73,10 @@ module _ (s : List ℕ) where
 
 -- ---- the ports among the nodes
 
--- the count of a name
-one-if : Option Name → ℕ
-one-if none = 0
-one-if (some n) = 1
-
-placeIf-length : (i : ℕ) (r : Option Name) (ps : List Place) → length (placeIf i r ps) ≡ one-if r + length ps
-unfolding placeIf one-if
-placeIf-length i none ps = omega arith
-placeIf-length i (some n) ps = omega arith
-
-ports-append : (named : Model.Node → Option Name) (i : ℕ) (ns : List Model.Node) (n : Model.Node) → length (portsFrom named i (ns ++ (n ∷ []))) ≡ length (portsFrom named i ns) + one-if (named n)
-unfolding portsFrom
-ports-append named i [] n = omega (arith, placeIf-length i (named n) [])
-ports-append named i (m ∷ ns) n =
-    omega (arith, placeIf-length i (named m) (portsFrom named (suc i) (ns ++ (n ∷ []))), placeIf-length i (named m) (portsFrom named (suc i) ns), ports-append named (suc i) ns n)
-
--- one more port where the kind is that of the port
-is-input : (k : ℕ) (n : Name) (v : ℕ) (ins : List ℕ) → one-if (inputName (nodeOf k n v ins)) ≡ cond (eqb k 0x00) 1 0
-unfolding nodeOf inputName one-if
-is-input k n v ins = go (eqb k 0x00) (eqb k 0x01) (eqb k 0x02) (eqb k 0x10) (eqb k 0x11) (eqb k 0x20) (eqb k 0x21) (eqb k 0x22)
-  where
-    go : (z a b c d e f g : Bool) → one-if (inputName (cond z (Input n) (cond a (Constant (eqb v 1)) (cond b RegisterOutput (cond c (Not (getD ins 0 0)) (cond d (Output n (getD ins 0 0)) (cond e (And (getD ins 0 0) (getD ins 1 0)) (cond f (Or (getD ins 0 0) (getD ins 1 0)) (cond g (Xor (getD ins 0 0) (getD ins 1 0)) (Mux (getD ins 0 0) (getD ins 1 0) (getD ins 2 0))))))))))) ≡ cond z 1 0
-    go true a b c d e f g = refl
-    go false true b c d e f g = refl
-    go false false true c d e f g = refl
-    go false false false true d e f g = refl
-    go false false false false true e f g = refl
-    go false false false false false true f g = refl
-    go false false false false false false true g = refl
-    go false false false false false false false true = refl
-    go false false false false false false false false = refl
-
-is-output : (k : ℕ) (n : Name) (v : ℕ) (ins : List ℕ) → one-if (outputName (nodeOf k n v ins)) ≡ cond (eqb k 0x11) 1 0
-unfolding nodeOf outputName one-if
-is-output k n v ins = by (eqb k 0x11) refl
-  where
-    go : (z a b c e f g : Bool) → one-if (outputName (cond z (Input n) (cond a (Constant (eqb v 1)) (cond b RegisterOutput (cond c (Not (getD ins 0 0)) (cond e (And (getD ins 0 0) (getD ins 1 0)) (cond f (Or (getD ins 0 0) (getD ins 1 0)) (cond g (Xor (getD ins 0 0) (getD ins 1 0)) (Mux (getD ins 0 0) (getD ins 1 0) (getD ins 2 0)))))))))) ≡ 0
-    go true a b c e f g = refl
-    go false true b c e f g = refl
-    go false false true c e f g = refl
-    go false false false true e f g = refl
-    go false false false false true f g = refl
-    go false false false false false true g = refl
-    go false false false false false false true = refl
-    go false false false false false false false = refl
-
-    by : (d : Bool) → eqb k 0x11 ≡ d → one-if (outputName (nodeOf k n v ins)) ≡ cond (eqb k 0x11) 1 0
-    by true h = rw (eqb-true k 0x11 h)
-    by false h = rw h (go (eqb k 0x00) (eqb k 0x01) (eqb k 0x02) (eqb k 0x10) (eqb k 0x20) (eqb k 0x21) (eqb k 0x22))
-
 pub inputs-more : (s : List ℕ) (ns : List Model.Node) (n : Node) → length (portsFrom inputName 0 (ns ++ (decodedNode s n ∷ []))) ≡ length (portsFrom inputName 0 ns) + cond (eqb (n .kind) 0x00) 1 0
 unfolding decodedNode
-inputs-more s ns n = ports-append inputName 0 ns (decodedNode s n) ∙ ap (λ (x : ℕ). length (portsFrom inputName 0 ns) + x) (is-input (n .kind) _ _ _)
+inputs-more s ns n = inputs-append (n .kind) _ _ _ 0 ns
 
 pub outputs-more : (s : List ℕ) (ns : List Model.Node) (n : Node) → length (portsFrom outputName 0 (ns ++ (decodedNode s n ∷ []))) ≡ length (portsFrom outputName 0 ns) + cond (eqb (n .kind) 0x11) 1 0
 unfolding decodedNode
-outputs-more s ns n = ports-append outputName 0 ns (decodedNode s n) ∙ ap (λ (x : ℕ). length (portsFrom outputName 0 ns) + x) (is-output (n .kind) _ _ _)
+outputs-more s ns n = outputs-append (n .kind) _ _ _ 0 ns

@@ -4,7 +4,7 @@ use mathlib.Core.List.{List, [], _∷_}
 use Prim.Native.Nat.{ℕ, zero, suc, _+_, _≤_, _<_}
 use native.Mathlib.Omega.{arith}
 use native.Mathlib.Numerals.{add-one}
-use lib.ListN.{length, set, getD, replicate}
+use lib.ListN.{length, take, set, getD, replicate}
 
 -- the list with its first n elements replaced by a
 unfoldable pub filled : {A : Type 0} → A → ℕ → List A → List A
@@ -57,3 +57,10 @@ getD-filled a zero xs i h = absurd (omega arith)
 getD-filled a (suc n) [] i h = refl
 getD-filled a (suc n) (x ∷ xs) zero h = refl
 getD-filled a (suc n) (x ∷ xs) (suc i) h = getD-filled a n xs i (omega arith)
+
+-- the filled elements
+pub take-filled : {A : Type 0} (a : A) (n : ℕ) (xs : List A) → n ≤ length xs → take n (filled a n xs) ≡ replicate n a
+unfolding filled
+take-filled a zero xs h = refl
+take-filled a (suc n) [] h = absurd (omega arith)
+take-filled a (suc n) (x ∷ xs) h = ap (λ ys. a ∷ ys) (take-filled a n xs (omega arith))

@@ -3,16 +3,15 @@ use Prim.Native.Nat.{ℕ, zero, suc, _+_, _≤_}
 use mathlib.Core.Path.{_≡_, refl, sym, ap, _∙_, subst}
 use mathlib.Core.Bool.{Bool, true, false, not, cond, _&&_}
 use mathlib.Core.List.{List, [], _∷_, _++_}
-use mathlib.Core.Option.{Option, none, some}
 use native.Mathlib.Omega.{arith}
-use lib.ListN.{length, getD, length-append}
+use lib.ListN.{length, length-append}
 use lib.Dec.{eqb, leb}
 use borrow.Author.Tests.{leb-true, leb-false, not-true}
-use Rattle.model.specs.Names.{Name, Place}
-use Rattle.model.specs.Netlist.{Node, Input, Constant, RegisterOutput, Not, Output, And, Or, Xor, Mux, Register, Design, inputName, outputName, placeIf, portsFrom}
+use Rattle.model.specs.Netlist.{Node, Register, Design, inputName, outputName, portsFrom}
 use Rattle.model.specs.Record.{got, Reader, pure, number, code, guard, room, nameIf, valueIf, hasName, hasValue, numbers, inputsPerKind, nodeOf, node, nodesFrom, nodes, register, registersFrom, registers, end, name, listedKind, version1, parsed, parse}
 use Rattle.laws.specs.Bools.{and-both}
 use Rattle.laws.specs.Record.Reader.{Both, bind-got, Passed, guard-got, parse-version1}
+use Rattle.laws.specs.Record.Ports.{inputs-append, outputs-append}
 
 -- ---- registers
 
@@ -32,61 +31,10 @@ registers-length one qs s i j h =
 
 -- ---- ports
 
--- the count of a name
-oneIf : Option Name → ℕ
-oneIf none = 0
-oneIf (some n) = 1
-
-placeIf-length : (i : ℕ) (r : Option Name) (ps : List Place) → length (placeIf i r ps) ≡ oneIf r + length ps
-unfolding placeIf oneIf
-placeIf-length i none ps = omega arith
-placeIf-length i (some n) ps = omega arith
-
-ports-append : (named : Node → Option Name) (i : ℕ) (ns : List Node) (n : Node) → length (portsFrom named i (ns ++ (n ∷ []))) ≡ length (portsFrom named i ns) + oneIf (named n)
-unfolding portsFrom
-ports-append named i [] n = omega (arith, placeIf-length i (named n) [])
-ports-append named i (m ∷ ns) n =
-    omega (arith, placeIf-length i (named m) (portsFrom named (suc i) (ns ++ (n ∷ []))), placeIf-length i (named m) (portsFrom named (suc i) ns), ports-append named (suc i) ns n)
-
--- a node of another kind than 00 is no Input, and of another kind than 11 no Output
-no-input : (k : ℕ) (n : Name) (v : ℕ) (ins : List ℕ) → eqb k 0x00 ≡ false → inputName (nodeOf k n v ins) ≡ none
-unfolding nodeOf inputName
-no-input k n v ins h = rw h (go (eqb k 0x01) (eqb k 0x02) (eqb k 0x10) (eqb k 0x11) (eqb k 0x20) (eqb k 0x21) (eqb k 0x22))
-  where
-    go : (a b c d e f g : Bool) → inputName (cond a (Constant (eqb v 1)) (cond b RegisterOutput (cond c (Not (getD ins 0 0)) (cond d (Output n (getD ins 0 0)) (cond e (And (getD ins 0 0) (getD ins 1 0)) (cond f (Or (getD ins 0 0) (getD ins 1 0)) (cond g (Xor (getD ins 0 0) (getD ins 1 0)) (Mux (getD ins 0 0) (getD ins 1 0) (getD ins 2 0))))))))) ≡ none
-    go true b c d e f g = refl
-    go false true c d e f g = refl
-    go false false true d e f g = refl
-    go false false false true e f g = refl
-    go false false false false true f g = refl
-    go false false false false false true g = refl
-    go false false false false false false true = refl
-    go false false false false false false false = refl
-
-no-output : (k : ℕ) (n : Name) (v : ℕ) (ins : List ℕ) → eqb k 0x11 ≡ false → outputName (nodeOf k n v ins) ≡ none
-unfolding nodeOf outputName
-no-output k n v ins h = rw h (go (eqb k 0x00) (eqb k 0x01) (eqb k 0x02) (eqb k 0x10) (eqb k 0x20) (eqb k 0x21) (eqb k 0x22))
-  where
-    go : (z a b c e f g : Bool) → outputName (cond z (Input n) (cond a (Constant (eqb v 1)) (cond b RegisterOutput (cond c (Not (getD ins 0 0)) (cond e (And (getD ins 0 0) (getD ins 1 0)) (cond f (Or (getD ins 0 0) (getD ins 1 0)) (cond g (Xor (getD ins 0 0) (getD ins 1 0)) (Mux (getD ins 0 0) (getD ins 1 0) (getD ins 2 0))))))))) ≡ none
-    go true a b c e f g = refl
-    go false true b c e f g = refl
-    go false false true c e f g = refl
-    go false false false true e f g = refl
-    go false false false false true f g = refl
-    go false false false false false true g = refl
-    go false false false false false false true = refl
-    go false false false false false false false = refl
-
-one-if-le : (r : Option Name) → oneIf r ≤ 1
-unfolding oneIf
-one-if-le none = omega arith
-one-if-le (some n) = omega arith
-
 -- room for the kind, or another kind
-room-count : (b : Bool) (k n : ℕ) (r : Option Name) → not (b && leb 64 n) ≡ true → (b ≡ false → r ≡ none) → n ≤ 64 → n + oneIf r ≤ 64
-unfolding oneIf
-room-count true k n r h f l = omega (arith, leb-false 64 n (not-true (leb 64 n) h), one-if-le r)
-room-count false k n r h f l = rw (f refl) (omega arith)
+room-count : (b : Bool) (n : ℕ) → not (b && leb 64 n) ≡ true → n ≤ 64 → n + cond b 1 0 ≤ 64
+room-count true n h l = omega (arith, leb-false 64 n (not-true (leb 64 n) h))
+room-count false n h l = omega arith
 
 -- a node keeps the ports within 64
 node-ports : (listed : ℕ → Bool) (ns : List Node) (n : Node) (s : List ℕ) (i j : ℕ) → node listed ns s i ≡ got n j → length (portsFrom inputName 0 ns) ≤ 64 → length (portsFrom outputName 0 ns) ≤ 64 → (length (portsFrom inputName 0 (ns ++ (n ∷ []))) ≤ 64) × (length (portsFrom outputName 0 (ns ++ (n ∷ []))) ≤ 64)
@@ -100,9 +48,9 @@ node-ports listed ns n s i j h li lo =
     let d = bind-got (valueIf (hasValue k)) _ s (c .at) n j (c .second) in
     let e = bind-got (numbers (inputsPerKind k)) _ s (d .at) n j (d .second) in
     let f : nodeOf k (c .value) (d .value) (e .value) ≡ n = cc in
-    let x = room-count (eqb k 0x00) k (length (portsFrom inputName 0 ns)) (inputName n) (r .0) (λ z. ap inputName (sym f) ∙ no-input k (c .value) (d .value) (e .value) z) li in
-    let y = room-count (eqb k 0x11) k (length (portsFrom outputName 0 ns)) (outputName n) (r .1) (λ z. ap outputName (sym f) ∙ no-output k (c .value) (d .value) (e .value) z) lo in
-    (omega (arith, ports-append inputName 0 ns n, x), omega (arith, ports-append outputName 0 ns n, y))
+    let x = room-count (eqb k 0x00) (length (portsFrom inputName 0 ns)) (r .0) li in
+    let y = room-count (eqb k 0x11) (length (portsFrom outputName 0 ns)) (r .1) lo in
+    rw (← f) (omega (arith, inputs-append k (c .value) (d .value) (e .value) 0 ns, x), omega (arith, outputs-append k (c .value) (d .value) (e .value) 0 ns, y))
 
 nodesFrom-ports : (listed : ℕ → Bool) (k : ℕ) (ns ms : List Node) (s : List ℕ) (i j : ℕ) → nodesFrom listed k ns s i ≡ got ms j → length (portsFrom inputName 0 ns) ≤ 64 → length (portsFrom outputName 0 ns) ≤ 64 → (length (portsFrom inputName 0 ms) ≤ 64) × (length (portsFrom outputName 0 ms) ≤ 64)
 unfolding nodesFrom pure

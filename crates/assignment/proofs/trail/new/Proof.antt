@@ -1,4 +1,4 @@
-use Rattle.assignment.specs.DecideLaws.{news}
+use Rattle.assignment.specs.DecideLaws.{clears, news}
 use borrow.Author.Needs.{needs}
 use Rattle.assignment.proofs.trail.new.Statement.{statement}
 use Rattle.assignment.proofs.trail.new.Tie as tie
@@ -10,7 +10,11 @@ returns c =
     let c2 = c3 .before .before .before .before in
     let c1 = c2 .before .before .before .before in
     let s = c1 .before .before .before in
-    news _ _ _ _ _ _ (s .pre .1) (c1 .clear .ensures) (c2 .clear2 .ensures) (c3 .clear3 .ensures) (c4 .clear4 .ensures)
+    news _ _ _ _ _ _ (s .pre .1)
+    (clears _ _ _ _ (search needs) (search needs) (c1 .clear .ensures .0) (c1 .clear .ensures .1))
+    (clears _ _ _ _ (search needs) (search needs) (c2 .clear2 .ensures .0) (c2 .clear2 .ensures .1))
+    (clears _ _ _ _ (search needs) (search needs) (c3 .clear3 .ensures .0) (c3 .clear3 .ensures .1))
+    (clears _ _ _ _ (search needs) (search needs) (c4 .clear4 .ensures .0) (c4 .clear4 .ensures .1))
 
 pub new-spec : {M : Type 1} → statement M
 new-spec =
