@@ -1,6 +1,6 @@
 -- The lookup of an earlier pair: chains of nodes by their larger literal, newest first, find the first position in the node list. Assumes nothing.
 use mathlib.Core.Path.{_≡_, refl, sym, _∙_}
-use mathlib.Core.Bool.{Bool, true, false, _&&_, cond, false≢true}
+use mathlib.Core.Bool.{Bool, true, false, _&&_, cond, false≢true, and-false, and-true}
 use mathlib.Core.List.{List, [], _∷_}
 use mathlib.Core.Option.{Option, none, some}
 use Prim.Native.Nat.{ℕ, zero, suc, _+_, _*_, _≤_, _<_}
@@ -98,18 +98,10 @@ unfolding isAnd nodeOf
 is-other l r zero a b n = refl
 is-other l r (suc i) a zero n = refl
 is-other l r (suc i) a (suc b) n = rw (ne-eqb r (suc b) (λ e. n (sym e))) (and-false (eqb l a))
-  where
-    and-false : (t : Bool) → (t && false) ≡ false
-    and-false true = refl
-    and-false false = refl
 
 is-same : (l i a b : ℕ) → isAnd l (suc b) (nodeOf (suc i) a (suc b)) ≡ eqb l a
 unfolding isAnd nodeOf
 is-same l i a b = rw (eq-eqb (suc b) (suc b) refl) (and-true (eqb l a))
-  where
-    and-true : (t : Bool) → (t && true) ≡ t
-    and-true true = refl
-    and-true false = refl
 
 -- the newest conjunction of l and r is in the chain of r
 pub in-chain : (ls rs : List ℕ) (l r n : ℕ) → getD rs 0 0 ≡ 0 → lastAnd ls rs l (suc r) n ≡ chained ls rs l (suc r) (latest rs (suc r) n)
@@ -164,6 +156,12 @@ pair-of l r (suc n) a (suc b) e = go (eqb l a) (eqb r (suc b)) refl refl e
     go true false p q e = absurd (false≢true e)
     go false t p q e = absurd (false≢true e)
 
+-- the place of a node that was found
+pub place-some : (m : ℕ) → 0 < m → some m ≡ place m
+unfolding place
+place-some zero h = absurd (omega arith)
+place-some (suc m) h = refl
+
 -- THE LOOKUP: the newest conjunction of a pair is the first position of it in the node list
 pub first-position : (ls rs : List ℕ) (l r n : ℕ)
     → ((i : ℕ) → i < n → 0 < getD rs i 0 → lastAnd ls rs (getD ls i 0) (getD rs i 0) i ≡ 0)
@@ -176,10 +174,6 @@ first-position ls rs l r zero once = start
 first-position ls rs l r (suc n) once =
     rw (position-snoc (isAnd l r) (nodesOf n ls rs) (nodeAt ls rs n), length-nodes, first-position ls rs l r n (λ i h. once i (omega arith))) (go (isAnd l r (nodeAt ls rs n)) refl)
   where
-    some-of : (m : ℕ) → 0 < m → some m ≡ place m
-    some-of zero h = absurd (omega arith)
-    some-of (suc m) h = refl
-
     absent : (m : ℕ) → orElse (place m) n false ≡ place m
     absent zero = refl
     absent (suc m) = refl
@@ -188,7 +182,7 @@ first-position ls rs l r (suc n) once =
     go true e =
         let p : (l ≡ getD ls n 0) × (r ≡ getD rs n 0) × (0 < n) × (0 < getD rs n 0) = pair-of l r n (getD ls n 0) (getD rs n 0) e in
         let z : lastAnd ls rs l r n ≡ 0 = rw (p .0, p .1) (once n (omega arith) (p .3)) in
-        rw z (some-of n (p .2))
+        rw z (place-some n (p .2))
     go false e = absent (lastAnd ls rs l r n)
 
 -- ---- the chains of a graph with one node more

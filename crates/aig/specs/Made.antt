@@ -1,15 +1,16 @@
 -- What an operation on the proof graph in lent words leaves: the model's graph and literal, the chains, and every other region as it was. Assumes nothing.
 use mathlib.Core.Path.{_≡_, refl, ap, sym, _∙_}
-use mathlib.Core.Bool.{Bool, true, false, _&&_, cond, false≢true}
+use mathlib.Core.Bool.{Bool, true, false, _&&_, cond, or-comm}
 use mathlib.Core.List.{List}
 use mathlib.Core.Option.{none}
 use Prim.Native.Nat.{ℕ, zero, suc, _+_, _*_, _≤_, _<_}
 use native.Mathlib.Omega.{arith}
 use lib.ListN.{length, getD, set}
 use lib.Seq.{getD-set-same}
-use lib.Dec.{eqb, ltb}
+use lib.Dec.{eqb, ltb, leb}
 use borrow.Author.Tests.{ltb-true, ltb-false}
-use Rattle.words.specs.Region.{region, apart, stored, cleared, stores, length-region, length-stored, length-cleared, read-out}
+use Rattle.facts.specs.Bools.{and-both}
+use Rattle.words.specs.Region.{region, apart, stored, cleared, stores, length-region, length-stored, length-cleared, read-out, sizeOf, stored-out}
 use Rattle.words.specs.Fill.{filled, getD-filled, getD-filled-past}
 use Rattle.model.specs.Lists.{snoc}
 use Rattle.model.specs.Aig.{Node, Variable, And, Built, new, variable, andFound}
@@ -32,16 +33,12 @@ same-refl p w = record { at = λ b _. refl }
 pub same-trans : {p : ℕ → Bool} {w w′ w″ : List ℕ} → Same p w w′ → Same p w′ w″ → Same p w w″
 same-trans f g = record { at = λ b e. g .at b e ∙ f .at b e }
 
-pub both : (s t : Bool) → (s && t) ≡ true → (s ≡ true) × (t ≡ true)
-both true t e = (refl, e)
-both false t e = absurd (false≢true e)
-
 -- the four tests of `outside`
 pub outside-parts : (b : ℕ) → outside b ≡ true → (apart b 0 ≡ true) × (apart b 65536 ≡ true) × (apart b 131072 ≡ true) × (apart b 1572864 ≡ true)
 outside-parts b e =
-    let p : (apart b 0 ≡ true) × ((apart b 65536 && (apart b 131072 && apart b 1572864)) ≡ true) = both _ _ e in
-    let q : (apart b 65536 ≡ true) × ((apart b 131072 && apart b 1572864) ≡ true) = both _ _ (p .1) in
-    let r : (apart b 131072 ≡ true) × (apart b 1572864 ≡ true) = both _ _ (q .1) in
+    let p : (apart b 0 ≡ true) × ((apart b 65536 && (apart b 131072 && apart b 1572864)) ≡ true) = and-both _ _ e in
+    let q : (apart b 65536 ≡ true) × ((apart b 131072 && apart b 1572864) ≡ true) = and-both _ _ (p .1) in
+    let r : (apart b 131072 ≡ true) × (apart b 1572864 ≡ true) = and-both _ _ (q .1) in
     (p .0, q .0, r .0, r .1)
 
 -- ---- the graph in the words
@@ -51,6 +48,24 @@ pub record Ready (n : ℕ) (w : List ℕ) : Type 0 where
   pub positive : 0 < n
   pub long : 8388608 ≤ length w
   pub indexed : Indexed n (region 0 w) (region 65536 w) (region 131072 w) (region 1572864 w)
+
+-- a store outside the graph leaves it
+module _ (b c : ℕ) (w : List ℕ) (i v : ℕ) (out : outside b ≡ true) where
+  graph-words : (x : ℕ) → apart b x ≡ true → region x (stored b w i v) ≡ region x w
+  graph-words x e = stored-out x w b i v (or-comm (leb (x + sizeOf x) b) (leb (b + sizeOf b) x) ∙ e)
+
+  pub ready-stored : Ready c w → Ready c (stored b w i v)
+  ready-stored r =
+      let p = outside-parts b out in
+      record {
+        positive = r .positive;
+        long = simp length-stored (r .long);
+        indexed = rw (graph-words 0 (p .0), graph-words 65536 (p .1), graph-words 131072 (p .2), graph-words 1572864 (p .3)) (r .indexed);
+      }
+
+  pub graph-stored : graphOf c (stored b w i v) ≡ graphOf c w
+  unfolding graphAt
+  graph-stored = let p = outside-parts b out in rw (graph-words 0 (p .0), graph-words 65536 (p .1))
 
 -- From n nodes in w an operation made m, in w′ with n′ nodes: at most k more.
 pub record Made (k n : ℕ) (w : List ℕ) (n′ : ℕ) (w′ : List ℕ) (literal : ℕ) (m : Built) : Type 0 where

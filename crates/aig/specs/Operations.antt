@@ -13,7 +13,7 @@ use Rattle.model.specs.Literal.{node, inverted, negate}
 use Rattle.model.specs.Lists.{position}
 use Rattle.model.specs.Aig.{Aig, Built, isAnd, andFound, andShortcut, andUnless, and, or, xorShortcut, xorUnless, xor, muxShortcut, muxUnless, mux, evaluate}
 use Rattle.aig.specs.Graph.{graphAt, graphOf}
-use Rattle.aig.specs.Index.{place, lastAnd, first-position}
+use Rattle.aig.specs.Index.{place, lastAnd, first-position, place-some}
 use Rattle.aig.specs.Made.{Ready, Made, same-trans, made-none}
 use Rattle.aig.specs.Shortcut.{Under, negate-below, and-under, xor-under, mux-under}
 
@@ -32,11 +32,6 @@ place-none : (m : ℕ) → place 0 ≡ place m → m ≡ 0
 unfolding place
 place-none zero e = refl
 place-none (suc m) e = absurd (let z : _≡_ {A = ℕ} 0 1 = cc in omega arith)
-
-place-some : (m : ℕ) → 0 < m → some m ≡ place m
-unfolding place
-place-some zero h = absurd (omega arith)
-place-some (suc m) h = refl
 
 -- where the lookup finds nothing, no node is the pair
 pub fresh : (n : ℕ) (w : List ℕ) → Ready n w → (l r : ℕ) → place 0 ≡ position (isAnd l r) (graphOf n w) → lastAnd (region 0 w) (region 65536 w) l r n ≡ 0

@@ -10,11 +10,12 @@ use borrow.Author.Tests.{lt-ltb, le-ltb, eq-eqb, ne-eqb}
 use lib.ListN.{length, getD, replicate}
 use lib.Seq.{slice}
 use lib.Ieee.{Float}
+use Rattle.facts.specs.Numbers.{below}
 use Rattle.words.specs.Region.{region}
 use Rattle.model.specs.Literal as Literals
 use Rattle.model.specs.Sat as Sat
 use Rattle.assignment.specs.State.{assignmentOf, Unchanged, Ready}
-use Rattle.assignment.specs.StateLaws.{below, unchanged-none, unchanged-both, assignment-kept, variables-are, trail-length}
+use Rattle.assignment.specs.StateLaws.{unchanged-none, unchanged-both, assignment-kept, variables-are, trail-length}
 use Rattle.assignment.specs.Scores.{scoresOf, Fixed, Others}
 use Rattle.assignment.specs.ScoreLaws.{others-none, others-both}
 use Rattle.assignment.specs.declared.state.Trail.{Trail}

@@ -10,11 +10,12 @@ use borrow.Author.Tests.{lt-ltb, le-ltb}
 use lib.ListN.{length, getD, List·getD-map}
 use lib.Seq.{slice, take-all}
 use lib.Ieee.{Float}
+use Rattle.facts.specs.Numbers.{below}
 use Rattle.words.specs.Region.{region, stored, stores, length-region}
 use Rattle.model.specs.Literal as Literals
 use Rattle.model.specs.Sat as Sat
 use Rattle.assignment.specs.State.{wordBit, wordReason, column, assignmentOf, Ready, Cleared}
-use Rattle.assignment.specs.StateLaws.{bit-true, below, unchanged-none, unchanged-stored, unchanged-within}
+use Rattle.assignment.specs.StateLaws.{bit-true, unchanged-none, unchanged-stored, unchanged-within}
 use Rattle.assignment.specs.DecideLaws.{map-replicate}
 use Rattle.assignment.specs.declared.state.Trail.{Trail}
 use Rattle.assignment.specs.declared.state.Activity.{Activity}

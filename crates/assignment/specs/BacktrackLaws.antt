@@ -8,11 +8,12 @@ use native.Mathlib.Numerals.{add-one}
 use borrow.Author.Tests.{le-leb, lt-leb}
 use lib.ListN.{length, take, drop, getD, drop-of-length-le, length-take}
 use lib.Seq.{drop-cons, take-take, take-all, getD-take}
+use Rattle.facts.specs.Numbers.{below}
 use Rattle.words.specs.Region.{region, stored, stores}
 use Rattle.model.specs.Literal as Literals
 use Rattle.model.specs.Sat as Sat
 use Rattle.assignment.specs.State.{wordValue, wordReason, assignmentOf, column, Unchanged, Ready, assignmentRegions, Becomes}
-use Rattle.assignment.specs.StateLaws.{take-set, map-set, unchanged-none, unchanged-both, unchanged-stored, trail-length, level-is, below}
+use Rattle.assignment.specs.StateLaws.{take-set, map-set, unchanged-none, unchanged-both, unchanged-stored, trail-length, level-is}
 use Rattle.assignment.specs.declared.state.Trail.{Trail}
 
 -- ---- one literal

@@ -1,7 +1,7 @@
 -- Laws of the scores: a score raised, all of them rescaled, a bump, and the start. Assumes nothing.
 use mathlib.Core.Path.{_≡_, refl, ap, sym, _∙_}
 use mathlib.Core.Bool.{true, false}
-use mathlib.Core.List.{List, [], _∷_, _++_, map}
+use mathlib.Core.List.{List, [], _∷_, map, map-append}
 use Prim.Native.Nat.{ℕ, zero, suc, _+_, _<_, _≤_}
 use native.Mathlib.Omega.{arith}
 use native.Mathlib.Numerals.{add-one}
@@ -52,10 +52,6 @@ unfolding Sat.addScore
 raised-not n s v x h = record { is = sym (set-out (take n s) v _ (simp length-take (omega arith))); others = others-none n s }
 
 -- ---- a function of each of the first n scores, in turn
-
-map-append : (f : Float → Float) (s t : List Float) → map f (s ++ t) ≡ map f s ++ map f t
-map-append f [] t = refl
-map-append f (x ∷ s) t = ap (λ (l : List Float). f x ∷ l) (map-append f s t)
 
 -- the first i of n scores mapped, the scores being s
 pub record Mapping (f : Float → Float) (n : ℕ) (s₀ : List Float) (i : ℕ) (s : List Float) : Type 0 where

@@ -1,14 +1,16 @@
 -- Laws of the assignment in lent words: what a read finds, and what a store makes of it. Assumes nothing.
 use mathlib.Core.Path.{_≡_, refl, ap, sym, _∙_}
-use mathlib.Core.Bool.{Bool, true, false, not, _&&_}
+use mathlib.Core.Bool.{Bool, true, false, not}
 use mathlib.Core.List.{List, [], _∷_, _++_, map}
 use mathlib.Core.Logic.{_⊎_, inl, inr, ⊎-elim}
 use Prim.Native.Nat.{ℕ, zero, suc, _+_, _-_, _/_, _%_, _<_, _≤_}
 use native.Mathlib.Omega.{arith}
-use lib.Dec.{eqb, ltb}
-use borrow.Author.Tests.{eqb-true, eqb-false, ltb-true, ltb-false}
+use lib.Dec.{eqb}
+use borrow.Author.Tests.{eqb-true, eqb-false}
 use lib.ListN.{length, take, set, getD, length-take, length-map, List·getD-map, List·getD-eq-default}
 use lib.Seq.{take-set-lt, take-set-le, set-out, length-take-le}
+use Rattle.facts.specs.Bools.{and-left, and-right, both-and}
+use Rattle.facts.specs.Numbers.{below}
 use Rattle.words.specs.Region.{region, sizeOf, apart, stored, stores, stored-out, cleared, cleared-out, push, length-region}
 use Rattle.model.specs.Literal as Literals
 use Rattle.model.specs.Lists as Lists
@@ -17,14 +19,6 @@ use Rattle.assignment.specs.State.{wordValue, wordReason, wordBit, assig
 use Rattle.assignment.specs.declared.state.Trail.{Trail}
 
 -- ---- lists
-
--- i is below n or not
-pub below : (i n : ℕ) → (i < n) ⊎ (n ≤ i)
-below i n = go (ltb i n) refl
-  where
-    go : (b : Bool) → ltb i n ≡ b → (i < n) ⊎ (n ≤ i)
-    go true e = inl (ltb-true i n e)
-    go false e = inr (ltb-false i n e)
 
 -- a store commutes with a cut, wherever it goes
 pub take-set : {A : Type 0} (n : ℕ) (l : List A) (i : ℕ) (a : A) → take n (set l i a) ≡ set (take n l) i a
@@ -97,15 +91,6 @@ value-is t w l = ap (λ (v : Sat.Value). Sat.literalValue (Literals.inverted l) 
 
 -- ---- the frame
 
-and-left : (x y : Bool) → (x && y) ≡ true → x ≡ true
-and-left true y e = refl
-and-left false y e = e
-
-and-right : (x y : Bool) → (x && y) ≡ true → y ≡ true
-and-right true y e = e
-and-right false true e = refl
-and-right false false e = e
-
 -- a region apart from all those listed is apart from each
 apart-of : (listed : List ℕ) (b c : ℕ) → lists c listed ≡ true → apartFrom listed b ≡ true → apart b c ≡ true
 apart-of [] b c m e = absurd (let z : _≡_ {A = ℕ} 0 1 = cc m in omega arith)
@@ -121,13 +106,10 @@ unchanged-none listed w = record { same = λ b e. refl }
 pub unchanged-both : (listed : List ℕ) {u v w : List ℕ} → Unchanged listed u v → Unchanged listed v w → Unchanged listed u w
 unchanged-both listed f g = record { same = λ b e. g .same b e ∙ f .same b e }
 
-and-both : (x y : Bool) → x ≡ true → y ≡ true → (x && y) ≡ true
-and-both x y e f = rw (e, f)
-
 apart-within : (xs ys : List ℕ) (b : ℕ) → within xs ys ≡ true → apartFrom ys b ≡ true → apartFrom xs b ≡ true
 apart-within [] ys b m e = refl
 apart-within (x ∷ xs) ys b m e =
-    and-both (apart b x) (apartFrom xs b) (apart-of ys b x (and-left (lists x ys) (within xs ys) m) e)
+    both-and (apart b x) (apartFrom xs b) (apart-of ys b x (and-left (lists x ys) (within xs ys) m) e)
     (apart-within xs ys b (and-right (lists x ys) (within xs ys) m) e)
 
 -- what is unchanged apart from a few regions is so apart from more

@@ -10,6 +10,7 @@ use lib.Ieee.{Float}
 use borrow.Author.Tests.{not-true}
 use lib.ListN.{set, getD, length, length-set}
 use lib.Seq.{slice, slice-cons, slice-empty, getD-set-same, getD-set-other}
+use Rattle.facts.specs.Numbers.{below}
 use Rattle.words.specs.Region.{region, stores, length-stored, length-region}
 use Rattle.model.specs.Lists.{snoc, member}
 use Rattle.model.specs.Sat as Sat
@@ -22,7 +23,7 @@ use Rattle.clauses.specs.declared.state.Store.{Store}
 use Rattle.clauses.specs.Tabulate.{tabulate-same, tabulate-suc}
 use Rattle.clauses.specs.Queue.{queuesOf, pushedWords}
 use Rattle.clauses.specs.Sound.{fresh-sound, drop-sound}
-use Rattle.clauses.specs.Clauses.{clauseAt, clausesOf, watchesOf, below, same-watches, length-clauses, count-fits}
+use Rattle.clauses.specs.Clauses.{clauseAt, clausesOf, watchesOf, same-watches, length-clauses, count-fits}
 use Rattle.clauses.specs.State.{solverOf, Formed, Sound, watchRegions, sealedWords, poolLiterals, Attachable, attachedTo, Attached, scored, clean, Added}
 use Rattle.clauses.specs.StepLaws.{same-assignment, pushed-unchanged, push-step, push-solver}
 

@@ -1,14 +1,12 @@
 -- The clauses and the watch lists that lent words stand for, and what stores make of them. Assumes nothing.
-use mathlib.Core.Path.{_≡_, refl, ap, sym}
-use mathlib.Core.Bool.{Bool, true, false}
+use mathlib.Core.Path.{_≡_, ap, sym}
 use mathlib.Core.List.{List, [], _∷_, _++_, map, map-append}
-use mathlib.Core.Logic.{_⊎_, inl, inr, ⊎-elim}
+use mathlib.Core.Logic.{_⊎_, ⊎-elim}
 use Prim.Native.Nat.{ℕ, _+_, _*_, _/_, _<_, _≤_}
 use native.Mathlib.Omega.{arith}
-use lib.Dec.{ltb}
-use borrow.Author.Tests.{ltb-true, ltb-false}
 use lib.ListN.{set, getD, length}
 use lib.Seq.{slice}
+use Rattle.facts.specs.Numbers.{below}
 use Rattle.words.specs.Region.{region, stored}
 use Rattle.model.specs.Lists.{snoc}
 use Rattle.model.specs.Sat as Sat
@@ -44,14 +42,6 @@ unfoldable pub watchesOf : ℕ → List ℕ → List (List ℕ)
 watchesOf n w = tabulate (n * 2) (watchers (queuesOf w))
 
 -- ---- queues in lent words
-
--- l is below n or not
-pub below : (l n : ℕ) → (l < n) ⊎ (n ≤ l)
-below l n = go (ltb l n) refl
-  where
-    go : (b : Bool) → ltb l n ≡ b → (l < n) ⊎ (n ≤ l)
-    go true e = inl (ltb-true l n e)
-    go false e = inr (ltb-false l n e)
 
 module _ (w : List ℕ) (h : 8388608 ≤ length w) where
   -- a push past the regions does nothing

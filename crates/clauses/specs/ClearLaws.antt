@@ -6,6 +6,7 @@ use Prim.Native.Nat.{ℕ, zero, suc, _+_, _*_, _<_, _≤_}
 use native.Mathlib.Omega.{arith}
 use lib.ListN.{getD, length, replicate, length-replicate, getD-replicate, List·getD-eq-default}
 use lib.Seq.{ext-getD, getD-set-same}
+use Rattle.facts.specs.Numbers.{below}
 use Rattle.words.specs.Fill.{filled, length-filled, getD-filled}
 use Rattle.words.specs.Region.{region, stored, stored-in, stored-out, length-stored, cleared, cleared-in, length-cleared, length-region}
 use Rattle.model.specs.Lists.{member}
@@ -15,7 +16,7 @@ use Rattle.clauses.specs.Tabulate.{tabulate, length-tabulate, getD-tabul
 use Rattle.clauses.specs.Members.{In, Once}
 use Rattle.clauses.specs.Queue.{Queues, queuesOf, queue, walk}
 use Rattle.clauses.specs.Sound.{SoundQueues, lists}
-use Rattle.clauses.specs.Clauses.{clausesOf, watchesOf, watchers, below}
+use Rattle.clauses.specs.Clauses.{clausesOf, watchesOf, watchers}
 use Rattle.clauses.specs.State.{watchRegions, clearedWords, Cleared}
 use Rattle.clauses.specs.StepLaws.{same-assignment}
 

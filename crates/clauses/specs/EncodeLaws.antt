@@ -3,32 +3,14 @@ use mathlib.Core.Path.{_≡_, refl, ap, _∙_}
 use mathlib.Core.Bool.{true}
 use mathlib.Core.List.{List, [], _∷_}
 use mathlib.Core.Option.{some}
-use Prim.Native.Nat.{ℕ, zero, suc, _<_, _≤_, compare, Ordering·lt, Ordering·gt, compare·zero-suc, compare·suc-zero, compare·suc-suc}
+use Prim.Native.Nat.{ℕ, zero, suc, _<_, _≤_}
 use native.Mathlib.Omega.{arith}
 use borrow.Author.Tests.{ne-eqb}
 use Rattle.model.specs.Literal.{node}
 use Rattle.model.specs.Sat as Sat
 use Rattle.model.specs.Sat.{Solver}
+use Rattle.laws.specs.Search.Sorting.{insert-first, insert-later}
 use Rattle.clauses.specs.State.{clean}
-
-compare-lt : (m n : ℕ) → m < n → compare m n ≡ Ordering·lt
-compare-lt zero zero h = absurd (omega arith)
-compare-lt zero (suc n) h = compare·zero-suc n
-compare-lt (suc m) zero h = absurd (omega arith)
-compare-lt (suc m) (suc n) h = compare·suc-suc m n ∙ compare-lt m n (omega arith)
-
-compare-gt : (m n : ℕ) → n < m → compare m n ≡ Ordering·gt
-compare-gt zero n h = absurd (omega arith)
-compare-gt (suc m) zero h = compare·suc-zero m
-compare-gt (suc m) (suc n) h = compare·suc-suc m n ∙ compare-gt m n (omega arith)
-
-pub insert-first : (x y : ℕ) (ys : List ℕ) → x < y → Sat.insertLiteral x (y ∷ ys) ≡ x ∷ y ∷ ys
-unfolding Sat.insertLiteral
-insert-first x y ys h = rw (compare-lt x y h, Sat.insertLiteral)
-
-pub insert-later : (x y : ℕ) (ys : List ℕ) → y < x → Sat.insertLiteral x (y ∷ ys) ≡ y ∷ Sat.insertLiteral x ys
-unfolding Sat.insertLiteral
-insert-later x y ys h = rw (compare-gt x y h, Sat.insertLiteral)
 
 -- two literals, the larger one first
 sort-two : (a b : ℕ) → a < b → Sat.sortLiterals (b ∷ a ∷ []) ≡ a ∷ b ∷ []

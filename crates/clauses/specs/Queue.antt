@@ -9,6 +9,7 @@ use lib.Dec.{eqb}
 use borrow.Author.Tests.{ne-eqb, eqb-false}
 use lib.ListN.{set, getD, length, List·getD-eq-default}
 use lib.Seq.{getD-set-same, getD-set-other, set-out}
+use Rattle.facts.specs.Bools.{cond-same}
 use Rattle.words.specs.Region.{region, stored, stores, length-region}
 use Rattle.clauses.specs.Members.{Free, Ends, EndsIn}
 
@@ -126,10 +127,6 @@ pushedWords w l x = stored 1966080 (stored 1835008 (linked w l x) l x) l (getD (
 region-cond : (b : ℕ) (t : Bool) (u v : List ℕ) → region b (cond t u v) ≡ cond t (region b u) (region b v)
 region-cond b true u v = refl
 region-cond b false u v = refl
-
-cond-same : (t : Bool) (u : List ℕ) → cond t u u ≡ u
-cond-same true u = refl
-cond-same false u = refl
 
 pub push-law : (w : List ℕ) (l x : ℕ) → queuesOf (pushedWords w l x) ≡ pushed (queuesOf w) l x
 unfolding queuesOf pushed linked pushedWords

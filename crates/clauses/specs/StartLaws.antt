@@ -11,12 +11,12 @@ use Rattle.model.specs.Sat as Sat
 use Rattle.model.specs.Aig.{Node}
 use Rattle.assignment.specs.State.{assignmentOf, News, Unchanged}
 use Rattle.assignment.specs.Scores.{ZeroScores}
-use Rattle.assignment.specs.StateLaws.{unchanged-both}
+use Rattle.assignment.specs.StateLaws.{unchanged-both, trail-length}
 use Rattle.assignment.specs.declared.state.Trail.{Trail}
 use Rattle.clauses.specs.declared.state.Store.{Store}
 use Rattle.clauses.specs.declared.state.Encoding.{Encoding}
 use Rattle.clauses.specs.State.{solverOf, scored, flagged, encodedOf, unassigned, Sound, Roomy, Grows, Gates, Holds, Cleared, Encodable, Encodes, searchRegions}
-use Rattle.clauses.specs.StepLaws.{watches-only, assignment-only, length-trail}
+use Rattle.clauses.specs.StepLaws.{watches-only, assignment-only}
 use Rattle.clauses.specs.GateLaws.{others-both}
 
 all-unassigned : (n : ℕ) → unassigned (replicate n Sat.Unassigned) ≡ n
@@ -28,7 +28,7 @@ module _ (n : ℕ) (w : List ℕ) (x : List Float) (ls : List ℕ) (count : ℕ)
     (t : Trail) (w1 : List ℕ) (b : News n w t w1) (x1 : List Float) (z : ZeroScores n x x1) where
   no-trail : t .length ≡ 0
   unfolding Sat.new
-  no-trail = sym (length-trail t w1 (b .ready)) ∙ ap (λ (q : Sat.Assignment). length (q .trail)) (b .is)
+  no-trail = sym (trail-length t w1 (b .ready)) ∙ ap (λ (q : Sat.Assignment). length (q .trail)) (b .is)
 
   new-room : unassigned (assignmentOf t w1 .assignments) + t .length ≤ t .variables
   unfolding Sat.new

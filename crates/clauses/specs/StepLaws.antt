@@ -1,40 +1,35 @@
 -- What a push, a change of a watched place and an assignment make of the solver that the words stand for. Assumes nothing.
 use mathlib.Core.Path.{_≡_, refl, ap, sym, _∙_}
-use mathlib.Core.Bool.{Bool, true, false, _&&_, cond}
+use mathlib.Core.Bool.{Bool, true, false, cond}
 use mathlib.Core.List.{List, [], _∷_, _++_}
 use mathlib.Core.Logic.{_⊎_, inl, inr}
 use mathlib.Core.Option.{some}
 use Prim.Native.Nat.{ℕ, zero, suc, _+_, _*_, _<_, _≤_}
 use native.Mathlib.Omega.{arith}
 use lib.Dec.{eqb}
-use lib.ListN.{set, getD, length, length-map, length-append}
-use lib.Seq.{getD-set-same, getD-set-other, length-take-le}
+use lib.ListN.{set, getD, length, length-append}
+use lib.Seq.{getD-set-same, getD-set-other}
+use Rattle.facts.specs.Bools.{and-left, and-right}
+use Rattle.facts.specs.Numbers.{below}
 use Rattle.words.specs.Region.{region, apart, stored, stores, stored-in, stored-out, length-stored, length-region}
 use Rattle.model.specs.Literal as Literals
 use Rattle.model.specs.Lists.{snoc, member}
 use Rattle.model.specs.Sat as Sat
 use Rattle.model.specs.Sat.{Solver}
-use Rattle.assignment.specs.State.{assignmentOf, assignmentRegions, apartFrom, Ready, Unchanged, Assigns, wordReason}
-use Rattle.assignment.specs.StateLaws.{unchanged-none, unchanged-both, unchanged-stored}
+use Rattle.assignment.specs.State.{assignmentOf, assignmentRegions, apartFrom, Unchanged, Assigns, wordReason}
+use Rattle.assignment.specs.StateLaws.{unchanged-none, unchanged-both, unchanged-stored, variables-are, trail-length}
 use Rattle.assignment.specs.declared.state.Trail.{Trail}
+use Rattle.laws.specs.Search.Values.{unset-literal}
 use Rattle.clauses.specs.declared.state.Store.{Store}
 use Rattle.clauses.specs.declared.state.Clause.{Clause}
 use Rattle.clauses.specs.Tabulate.{tabulate-set}
 use Rattle.clauses.specs.Queue.{queuesOf, linked, pushedWords, walk}
 use Rattle.clauses.specs.Sound.{SoundQueues}
-use Rattle.clauses.specs.Clauses.{clauseAt, clausesOf, watchesOf, half, below, same-clauses, same-queues, same-watches, pushed-sound, pushed-pending, pushed-watches}
+use Rattle.clauses.specs.Clauses.{clauseAt, clausesOf, watchesOf, half, same-clauses, same-queues, same-watches, pushed-sound, pushed-pending, pushed-watches}
 use Rattle.clauses.specs.State.{solverOf, Formed, Sound, Step, watchRegions, searchRegions, unassigned, slotOf}
 use Rattle.clauses.specs.ClauseLaws.{slice-in, slice-out}
 
 -- ---- frames
-
-and-left : (x y : Bool) → (x && y) ≡ true → x ≡ true
-and-left true y e = refl
-and-left false y e = e
-
-and-right : (x y : Bool) → (x && y) ≡ true → y ≡ true
-and-right true y e = e
-and-right false y e = absurd (let z : _≡_ {A = ℕ} 0 1 = cc e in omega arith)
 
 apart-left : (xs ys : List ℕ) (b : ℕ) → apartFrom (xs ++ ys) b ≡ true → apartFrom xs b ≡ true
 apart-left [] ys b e = refl
@@ -257,14 +252,6 @@ module _ (m : Store) (t : Trail) (w : List ℕ) (x k i l : ℕ) (p : List ℕ) (
 
 -- ---- an assignment
 
-pub length-values : (t : Trail) (w : List ℕ) → Ready t w → length (assignmentOf t w .assignments) ≡ t .variables
-unfolding assignmentOf
-length-values t w r = rw length-map (length-take-le (t .variables) (region 655360 w) (omega (arith, length-region 655360 w (omega (arith, r .words)), r .variables)))
-
-pub length-trail : (t : Trail) (w : List ℕ) → Ready t w → length (assignmentOf t w .trail) ≡ t .length
-unfolding assignmentOf
-length-trail t w r = length-take-le (t .length) (region 983040 w) (omega (arith, length-region 983040 w (omega (arith, r .words)), r .literals))
-
 -- a variable assigned leaves one fewer unassigned
 pub one-fewer : (vs : List Sat.Value) (i : ℕ) (b : Bool) → i < length vs → getD vs i Sat.Unassigned ≡ Sat.Unassigned → suc (unassigned (set vs i (Sat.makingTrue b))) ≡ unassigned vs
 unfolding unassigned Sat.makingTrue
@@ -277,23 +264,14 @@ one-fewer (Sat.Unassigned ∷ vs) (suc i) b h e = ap suc (one-fewer vs i b (omeg
 one-fewer (Sat.False ∷ vs) (suc i) b h e = one-fewer vs i b (omega arith) e
 one-fewer (Sat.True ∷ vs) (suc i) b h e = one-fewer vs i b (omega arith) e
 
--- an unassigned literal has an unassigned variable
-unassigned-variable : (b : Bool) (v : Sat.Value) → Sat.literalValue b v ≡ Sat.Unassigned → v ≡ Sat.Unassigned
-unfolding Sat.literalValue
-unassigned-variable b Sat.Unassigned e = refl
-unassigned-variable true Sat.True e = absurd (let z : _≡_ {A = ℕ} 0 1 = cc e in omega arith)
-unassigned-variable true Sat.False e = absurd (let z : _≡_ {A = ℕ} 0 1 = cc e in omega arith)
-unassigned-variable false Sat.True e = absurd (let z : _≡_ {A = ℕ} 0 1 = cc e in omega arith)
-unassigned-variable false Sat.False e = absurd (let z : _≡_ {A = ℕ} 0 1 = cc e in omega arith)
-
 module _ (m : Store) (t : Trail) (w : List ℕ) (l : ℕ) (f : Formed m t w) (b : l < t .variables * 2) (u : Sat.value (assignmentOf t w) l ≡ Sat.Unassigned) where
   in-range : Literals.node l < length (assignmentOf t w .assignments)
   unfolding Literals.node
-  in-range = omega (arith, length-values t w (f .ready))
+  in-range = omega (arith, variables-are t w (f .ready))
 
   unset : getD (assignmentOf t w .assignments) (Literals.node l) Sat.Unassigned ≡ Sat.Unassigned
   unfolding Sat.value
-  unset = unassigned-variable (Literals.inverted l) _ u
+  unset = unset-literal (Literals.inverted l) _ u
 
   fewer : suc (unassigned (set (assignmentOf t w .assignments) (Literals.node l) (Sat.makingTrue (Literals.inverted l)))) ≡ unassigned (assignmentOf t w .assignments)
   fewer = one-fewer (assignmentOf t w .assignments) (Literals.node l) (Literals.inverted l) in-range unset
@@ -310,8 +288,8 @@ module _ (m : Store) (t : Trail) (w : List ℕ) (l : ℕ) (f : Formed m t w) (b 
     assigned-length : r .length ≡ t .length + 1
     unfolding Sat.assign snoc
     assigned-length =
-        sym (length-trail r w′ (a .ready)) ∙ ap (λ (x : Sat.Assignment). length (x .trail)) (a .is)
-        ∙ length-append (assignmentOf t w .trail) (l ∷ []) ∙ ap (λ (n : ℕ). n + 1) (length-trail t w (f .ready))
+        sym (trail-length r w′ (a .ready)) ∙ ap (λ (x : Sat.Assignment). length (x .trail)) (a .is)
+        ∙ length-append (assignmentOf t w .trail) (l ∷ []) ∙ ap (λ (n : ℕ). n + 1) (trail-length t w (f .ready))
 
     assigned-head : r .head ≡ t .head
     unfolding Sat.assign assignmentOf

@@ -1,6 +1,6 @@
 -- Query 3 and 4: a cycle's mismatch assumed, cycle after cycle. Assumes nothing.
 use mathlib.Core.Path.{_≡_, refl, ap, ap₂, sym, _∙_}
-use mathlib.Core.Bool.{Bool, true, false, not, false≢true}
+use mathlib.Core.Bool.{Bool, true, false}
 use mathlib.Core.List.{List, [], _∷_, _++_, map}
 use Prim.Native.Nat.{ℕ, zero, suc, _+_, _*_, _≤_, _<_}
 use native.Mathlib.Omega.{arith}
@@ -23,15 +23,6 @@ use Rattle.unrolling.specs.Side.{conjunctionsOf}
 use Rattle.transition.specs.Side.{Stands}
 use Rattle.unrolling.specs.Cycling.{Paired, paired-same, Standing, standing-same, frameCost, cost-same, Startable, startable-le, Compared}
 use Rattle.transition.specs.declared.system.System.{System}
-
--- what the test of a negation says
-pub not-true : (b : Bool) → not b ≡ true → b ≡ false
-not-true true e = absurd (false≢true e)
-not-true false e = refl
-
-pub not-false : (b : Bool) → not b ≡ false → b ≡ true
-not-false true e = refl
-not-false false e = absurd (false≢true (sym e))
 
 -- a mismatch joined to that of the named states where these are included
 unfoldable pub joinNamed : Bool → ℕ → List ℕ → List ℕ → List ℕ → Built → Built

@@ -1,6 +1,6 @@
 -- A cycle's comparison put into its row of FRAMES: the row reads as the comparison, the rows before it and the other regions stay. Assumes nothing.
 use mathlib.Core.Path.{_≡_, refl, ap₂, _∙_}
-use mathlib.Core.Bool.{Bool, true, false, _&&_}
+use mathlib.Core.Bool.{Bool, true, false}
 use mathlib.Core.List.{List}
 use Prim.Native.Nat.{ℕ, zero, suc, _+_, _*_, _≤_, _<_}
 use native.Mathlib.Omega.{arith}
@@ -9,11 +9,12 @@ use lib.Dec.{eqb}
 use borrow.Author.Tests.{eqb-true, eqb-false}
 use lib.ListN.{length, getD}
 use lib.Seq.{getD-set-same, getD-set-other}
+use Rattle.facts.specs.Bools.{and-both, both-and}
 use Rattle.words.specs.Region.{region, apart, stored, stores, length-region, length-stored}
 use Rattle.model.specs.Lists.{snoc}
 use Rattle.model.specs.Equivalence.{FrameComparison}
 use Rattle.aig.specs.Graph.{graphOf, graphAt, nodesOf}
-use Rattle.aig.specs.Made.{Ready, Same, both, same-refl, same-trans}
+use Rattle.aig.specs.Made.{Ready, Same, same-refl, same-trans}
 use Rattle.aig.specs.Side.{side-under}
 use Rattle.import.specs.Importing.{beyond, side-beyond}
 use Rattle.lowering.specs.Firsts.{firsts, pairs}
@@ -27,16 +28,13 @@ offFrames b = apart b 524288
 -- ---- what stays
 
 pub off-beyond : {w w′ : List ℕ} → Same offFrames w w′ → Same beyondFrames w w′
-off-beyond s = record { at = λ b e. s .at b (both (beyond b) (apart b 524288) e .1) }
+off-beyond s = record { at = λ b e. s .at b (and-both (beyond b) (apart b 524288) e .1) }
 
 pub beyond-frames : {w w′ : List ℕ} → Same beyond w w′ → Same beyondFrames w w′
-beyond-frames s = record { at = λ b e. s .at b (both (beyond b) (apart b 524288) e .0) }
+beyond-frames s = record { at = λ b e. s .at b (and-both (beyond b) (apart b 524288) e .0) }
 
 pub untouched-frames : {w w′ : List ℕ} → Same beyondFrames w w′ → Untouched w w′
-untouched-frames s = record { at = λ b lo hi. s .at b (joined (beyond b) (apart b 524288) (side-beyond b lo hi) (side-under b lo hi 524288 (omega arith))) }
-  where
-    joined : (p q : Bool) → p ≡ true → q ≡ true → (p && q) ≡ true
-    joined p q a b = rw (a, b)
+untouched-frames s = record { at = λ b lo hi. s .at b (both-and (beyond b) (apart b 524288) (side-beyond b lo hi) (side-under b lo hi 524288 (omega arith))) }
 
 -- the graph's words stay
 pub off-graph : (c : ℕ) (w w′ : List ℕ) → Same offFrames w w′ → graphOf c w′ ≡ graphOf c w

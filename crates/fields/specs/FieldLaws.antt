@@ -9,6 +9,7 @@ use lib.ListN.{length, getD, take, drop}
 use lib.Seq.{drop-cons, drop-length}
 use lib.Dec.{leb, ltb}
 use borrow.Author.Tests.{le-leb, lt-leb, lt-ltb, le-ltb, leb-true, leb-false}
+use Rattle.facts.specs.Bools.{and-both}
 use Rattle.model.specs.Answers.{Refusal}
 use Rattle.model.specs.Record.{Step, got, refused, Reader, refuse, goOn, _>>=_, tested, guard, bytes, byte, number, nameByte, nameBytes, name, inputTable, inputsPerKind}
 use Rattle.fields.specs.Fields.{mapStep, placed}
@@ -157,10 +158,6 @@ module _ (s : List ℕ) (i : ℕ) where
 allAtMost : ℕ → List ℕ → Bool
 allAtMost k [] = true
 allAtMost k (x ∷ xs) = let rest = allAtMost k xs in leb x k && rest
-
-and-both : (x y : Bool) → (x && y) ≡ true → (x ≡ true) × (y ≡ true)
-and-both true y h = (refl, h)
-and-both false y h = absurd (let z : _≡_ {A = ℕ} 0 1 = cc in omega arith)
 
 at-most : (k : ℕ) (xs : List ℕ) → allAtMost k xs ≡ true → (i : ℕ) → getD xs i 0 ≤ k
 unfolding allAtMost

@@ -9,13 +9,14 @@ use lib.Dec.{eqb}
 use lib.ListN.{length, getD, set, take}
 use lib.Seq.{getD-take, getD-set-other, getD-set-same, set-getD, take-suc-set}
 use borrow.Author.Tests.{eqb-true, eqb-false, ne-eqb}
-use Rattle.words.specs.Region.{region, apart, stored, stores, length-region, length-stored}
+use Rattle.facts.specs.Bools.{and-both}
+use Rattle.words.specs.Region.{region, apart, stored, stores, length-region}
 use Rattle.model.specs.Literal.{Literal, FALSE, node, inverted, negate}
 use Rattle.model.specs.Lists.{snoc, lookup}
 use Rattle.model.specs.Aig.{Node, Aig, Built, and}
 use Rattle.model.specs.Equivalence.{Import, remapLiteral, withImported, importNode, importNodes, importAig}
 use Rattle.aig.specs.Graph.{nodeOf, nodeAt, nodesOf, graphAt, graphOf, Ordered}
-use Rattle.aig.specs.Made.{Ready, Same, Made, outside, both, same-refl, same-trans}
+use Rattle.aig.specs.Made.{Ready, Same, Made, outside, same-refl, same-trans, ready-stored, graph-stored}
 use Rattle.aig.specs.Shortcut.{negate-below}
 use Rattle.aig.specs.Side.{side-above, side-under}
 
@@ -37,7 +38,7 @@ module _ (b : ℕ) (lo : 196608 ≤ b) (hi : b ≤ 393216) where
 
 -- a change of the graph alone leaves the regions beyond
 pub same-beyond : {w w′ : List ℕ} → Same outside w w′ → Same beyond w w′
-same-beyond f = record { at = λ b e. f .at b (both (outside b) (apart b 458752) e .0) }
+same-beyond f = record { at = λ b e. f .at b (and-both (outside b) (apart b 458752) e .0) }
 
 -- ---- one node
 
@@ -125,16 +126,9 @@ conjunctions-mono m (suc n) rs h = go (λ k. conjunctions-mono m n rs k) (eqb m 
     go f true e = rw (eqb-true m (suc n) e) (omega arith)
     go f false e = omega (arith, f (omega (arith, eqb-false m (suc n) e)), conjunctions-grow n rs)
 
--- the graph's words after a store into the imported literals
-pub ready-imported : (c : ℕ) (w : List ℕ) (i v : ℕ) → Ready c w → Ready c (stored 458752 w i v)
-ready-imported c w i v r = record { positive = r .positive; long = simp length-stored (r .long); indexed = simp stores (r .indexed) }
-
-pub graph-imported : (c : ℕ) (w : List ℕ) (i v : ℕ) → graphOf c (stored 458752 w i v) ≡ graphOf c w
-unfolding graphAt
-graph-imported c w i v = simp stores
-
+-- a store into the imported literals leaves the regions beyond
 pub same-imported : (w : List ℕ) (i v : ℕ) → Same beyond w (stored 458752 w i v)
-same-imported w i v = record { at = λ b e. let q = both (outside b) (apart b 458752) e .1 in simp (stores, q) }
+same-imported w i v = record { at = λ b e. let q = and-both (outside b) (apart b 458752) e .1 in simp (stores, q) }
 
 module _ (b i c : ℕ) (w : List ℕ) (able : Importable b i c w) where
   -- a variable
@@ -162,13 +156,13 @@ module _ (b i c : ℕ) (w : List ℕ) (able : Importable b i c w) where
       let one : getD (region 458752 (stored 458752 w′ i l)) i 0 ≡ l =
       simp stores (rw kept (getD-set-same (region 458752 w) i l 0 (omega (arith, able .small)))) in
       record {
-        ready = ready-imported c′ w′ i l (made .ready);
+        ready = ready-stored 458752 c′ w′ i l refl (made .ready);
         same = same-trans (same-beyond (made .same)) (same-imported w′ i l);
         grows = made .grows;
         within = omega (arith, conjunctions-and i (region (b + 65536) w) h, made .within);
         below = rw one (made .below);
         stores-one = rw one (simp stores (rw kept));
-        built = rw (one, graph-imported) (made .built ∙ conj (getD (region (b + 65536) w) i 0) h);
+        built = rw (one, graph-stored 458752 c′ w′ i l refl) (made .built ∙ conj (getD (region (b + 65536) w) i 0) h);
       }
     where
       conj : (r : ℕ) → 0 < r → and (graphOf c w) (remapLiteral (region 458752 w) (getD (region b w) i 0)) (remapLiteral (region 458752 w) r)
@@ -300,13 +294,13 @@ module _ (b n c₀ : ℕ) (w₀ : List ℕ) (low : 196608 ≤ b) (high : b ≤ 3
       let zero-at : getD (region 458752 (stored 458752 w₀ 0 0)) 0 0 ≡ 0 = simp stores (getD-set-same (region 458752 w₀) 0 0 0 (omega arith)) in
       let first : take 1 (region 458752 (stored 458752 w₀ 0 0)) ≡ 0 ∷ [] = simp stores (take-suc-set (region 458752 w₀) 0 0 (omega arith)) in
       record {
-        ready = ready-imported c₀ w₀ 0 0 r;
+        ready = ready-stored 458752 c₀ w₀ 0 0 refl r;
         same = same-imported w₀ 0 0;
         grows = omega arith;
         within = omega arith;
         inside = record { at = λ j m. let e : j ≡ 0 = omega arith in rw (e, zero-at) (omega (arith, r .positive)) };
         later = λ j m. simp stores (getD-set-other (region 458752 w₀) 0 j 0 0 (λ e. omega arith));
-        is = λ vs g. ap₂ (λ (x : Aig) (xs : List ℕ). record { aig = x; imported = xs }) (graph-imported c₀ w₀ 0 0) first;
+        is = λ vs g. ap₂ (λ (x : Aig) (xs : List ℕ). record { aig = x; imported = xs }) (graph-stored 458752 c₀ w₀ 0 0 refl) first;
       }
 
 -- What the import of a graph asks: a side's graph in order, room for its conjunctions, and literals of the target for its variables.

@@ -4,7 +4,7 @@ use mathlib.Core.Path.{_≡_, refl, ap, ap₂}
 use mathlib.Core.List.{List, [], _∷_, _++_, map}
 use lib.ListN.{length, getD}
 use Rattle.model.specs.Lists.{snoc}
-use Rattle.laws.specs.Lists.{All}
+use Rattle.facts.specs.Lists.{All}
 
 -- two lists whose elements are related in order
 abbrev pub Pairwise : {A B : Type 0} → (A → B → Type 0) → List A → List B → Type 0

@@ -12,7 +12,7 @@ use Rattle.model.specs.Netlist.{Design, inputCount}
 use Rattle.model.specs.Run.{StoredBits, InputSequence, bitAt, storedAt, outputsAt}
 use Rattle.model.specs.Replay.{Position, Stepped, claimBit, claimInputs, bitsDiffer, differAsMarked, differAt, agreeBefore, differAsClaimed, replays, initialPosition, advance, stepIf, step, positionAfter, stepsReplay}
 use Rattle.laws.specs.Terms.{Yes}
-use Rattle.laws.specs.Bools.{and-both, both-and, not-xor, xor-not}
+use Rattle.facts.specs.Bools.{and-both, both-and, not-xor, xor-not}
 
 module _ (gold gate : Design) (s t : StoredBits) (cycle : ℕ) (claim : List ℕ) where
   -- the position that the run gives at the start of cycle n

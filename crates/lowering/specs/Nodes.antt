@@ -17,7 +17,7 @@ use Rattle.model.specs.Netlist as Model
 use Rattle.model.specs.Record.{nodeOf}
 use Rattle.model.specs.Validate.{driver}
 use Rattle.model.specs.Transition.{Lowering, driverReset, shown, lowerNode, lowerNodes, noNodes}
-use Rattle.laws.specs.Bools.{by-cond}
+use Rattle.facts.specs.Bools.{by-cond}
 use Rattle.struo_ir.specs.Decoded.{decodedNode, nameAt}
 use Rattle.struo_ir.specs.declared.netlist.Node.{Node}
 use Rattle.struo_ir.specs.declared.netlist.RegisterCell.{RegisterCell}

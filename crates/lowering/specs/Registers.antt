@@ -8,6 +8,7 @@ use native.Mathlib.Numerals.{add-one}
 use lib.Dec.{eqb}
 use lib.ListN.{length, getD, take, set, length-take, length-map, List·getD-map}
 use lib.Seq.{take-suc, take-suc-set, getD-take}
+use Rattle.facts.specs.Lists.{set-any}
 use Rattle.words.specs.Region.{region}
 use Rattle.model.specs.Literal.{Literal, FALSE, node, constantLiteral}
 use Rattle.model.specs.Lists.{snoc, lookup}
@@ -22,7 +23,7 @@ use Rattle.aig.specs.Made.{Same, Made, outside, same-refl, same-trans}
 use Rattle.lowering.specs.declared.resets.ResetCell.{ResetCell}
 use Rattle.lowering.specs.Firsts.{map-snoc}
 use Rattle.lowering.specs.Gate.{Netted, Alike}
-use Rattle.lowering.specs.Walk.{Walked, set-below}
+use Rattle.lowering.specs.Walk.{Walked}
 use Rattle.lowering.specs.Step.{resetOf, resetMuxBy, reset-alike, netted-made, by-code}
 use Rattle.lowering.specs.Driver.{registersOf}
 
@@ -203,6 +204,6 @@ module _ (n : ℕ) (rs : List RegisterCell) (c₀ : ℕ) (w₀ : List ℕ) where
           same = same-trans (a .same) (t .same);
           within = omega (arith, a .within, t .within);
           grows = omega (arith, a .grows, t .grows);
-          below = set-below next i l (c′ * 2) (λ k. omega (arith, a .below k, t .grows)) (t .below);
+          below = λ k. set-any (λ x. x < c′ * 2) next i k l 0 (omega (arith, a .below k, t .grows)) (t .below);
           held = now-held;
         }

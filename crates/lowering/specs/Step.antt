@@ -8,7 +8,9 @@ use native.Mathlib.Omega.{arith}
 use lib.Dec.{eqb}
 use lib.ListN.{length, set}
 use borrow.Author.Tests.{eq-eqb, ne-eqb}
-use Rattle.words.specs.Region.{region, apart, stored, stores, length-region, length-stored}
+use Rattle.facts.specs.Bools.{and-both}
+use Rattle.facts.specs.Lists.{set-any}
+use Rattle.words.specs.Region.{region, apart, stored, stores, length-region}
 use Rattle.model.specs.Literal.{Literal, constantLiteral}
 use Rattle.model.specs.Lists.{snoc}
 use Rattle.model.specs.Aig.{Aig, Built, variable, mux}
@@ -17,11 +19,11 @@ use Rattle.model.specs.Record.{levelOf, bit}
 use Rattle.model.specs.Validate.{driver}
 use Rattle.model.specs.Transition.{Lowering, assertedLiteral, netLiteral, driverReset, withNet, withLiteral, lowerInput, lowerOutput, resetMux, shown, lowerShown, lowerRegisterOutput, lowerNode}
 use Rattle.struo_ir.specs.Decoded.{decodedReset}
-use Rattle.aig.specs.Graph.{graphAt, graphOf}
+use Rattle.aig.specs.Graph.{graphOf}
 use Rattle.aig.specs.Shortcut.{negate-below}
-use Rattle.aig.specs.Made.{Ready, Same, Made, outside, both, same-trans}
+use Rattle.aig.specs.Made.{Same, Made, outside, same-trans, ready-stored, graph-stored}
 use Rattle.lowering.specs.Gate.{gateOf, gate-alike, Alike, Netted, made-as}
-use Rattle.lowering.specs.Walk.{Walked, elsewhere, alike-more, length-more, set-below, states-more, fresh-more}
+use Rattle.lowering.specs.Walk.{Walked, elsewhere, alike-more, length-more, states-more, fresh-more}
 use Rattle.lowering.specs.declared.resets.ResetCell.{ResetCell}
 
 -- the reset that the fields say
@@ -38,18 +40,12 @@ netted-made k c w c′ w′ l m n d =
       states = λ a. rw (d .same .at 458752 refl) (omega (arith, n .states a, d .grows));
     }
 
-ready-net : (c : ℕ) (w : List ℕ) (i v : ℕ) → Ready c w → Ready c (stored 589824 w i v)
-ready-net c w i v r = record { positive = r .positive; long = simp length-stored (r .long); indexed = simp stores (r .indexed) }
-
-ready-state : (c : ℕ) (w : List ℕ) (i v : ℕ) → Ready c w → Ready c (stored 458752 w i v)
-ready-state c w i v r = record { positive = r .positive; long = simp length-stored (r .long); indexed = simp stores (r .indexed) }
-
 pub netted-net : (c : ℕ) (w : List ℕ) (i v : ℕ) → Netted c w → v < c * 2 → Netted c (stored 589824 w i v)
 unfolding netLiteral
 netted-net c w i v n h =
     record {
-      ready = ready-net c w i v (n .ready);
-      nets = λ a. simp stores (set-below (region 589824 w) i v (c * 2) (n .nets) h a);
+      ready = ready-stored 589824 c w i v refl (n .ready);
+      nets = λ a. simp stores (set-any (λ l. l < c * 2) (region 589824 w) i a v 0 (n .nets a) h);
       states = λ a. simp stores (n .states a);
     }
 
@@ -57,16 +53,16 @@ pub netted-state : (c : ℕ) (w : List ℕ) (i v : ℕ) → Netted c w → v < c
 unfolding netLiteral
 netted-state c w i v n h =
     record {
-      ready = ready-state c w i v (n .ready);
+      ready = ready-stored 458752 c w i v refl (n .ready);
       nets = λ a. simp stores (n .nets a);
-      states = λ a. simp stores (set-below (region 458752 w) i v (c * 2) (n .states) h a);
+      states = λ a. simp stores (set-any (λ l. l < c * 2) (region 458752 w) i a v 0 (n .states a) h);
     }
 
 -- the tests of `elsewhere`
 pub elsewhere-parts : (b : ℕ) → elsewhere b ≡ true → (outside b ≡ true) × (apart b 589824 ≡ true) × (apart b 458752 ≡ true)
 elsewhere-parts b e =
-    let p : (outside b ≡ true) × ((apart b 589824 && apart b 458752) ≡ true) = both _ _ e in
-    let q : (apart b 589824 ≡ true) × (apart b 458752 ≡ true) = both _ _ (p .1) in
+    let p : (outside b ≡ true) × ((apart b 589824 && apart b 458752) ≡ true) = and-both _ _ e in
+    let q : (apart b 589824 ≡ true) × (apart b 458752 ≡ true) = and-both _ _ (p .1) in
     (p .0, q .0, q .1)
 
 pub same-elsewhere : {w w′ : List ℕ} → Same outside w w′ → Same elsewhere w w′
@@ -77,14 +73,6 @@ same-net w i v = record { at = λ b e. let q = elsewhere-parts b e in simp (stor
 
 pub same-state : (w : List ℕ) (i v : ℕ) → Same elsewhere w (stored 458752 w i v)
 same-state w i v = record { at = λ b e. let q = elsewhere-parts b e in simp (stores, q .2) }
-
-graph-net : (c : ℕ) (w : List ℕ) (i v : ℕ) → graphOf c (stored 589824 w i v) ≡ graphOf c w
-unfolding graphAt
-graph-net c w i v = simp stores
-
-graph-state : (c : ℕ) (w : List ℕ) (i v : ℕ) → graphOf c (stored 458752 w i v) ≡ graphOf c w
-unfolding graphAt
-graph-state c w i v = simp stores
 
 -- ---- a node entered
 
@@ -109,7 +97,7 @@ entered-gate net c w c′ w′ l m n d =
       within = d .within;
       states = simp stores (d .same .at 458752 refl);
       nets = simp stores (ap₂ (λ (xs : List ℕ) (v : ℕ). set xs net v) (d .same .at 589824 refl) (ap (λ (x : Built). x .literal) (d .built)));
-      graph = graph-net c′ w′ net l ∙ ap (λ (x : Built). x .aig) (d .built);
+      graph = graph-stored 589824 c′ w′ net l refl ∙ ap (λ (x : Built). x .aig) (d .built);
     }
 
 -- a register output: its state's variable, then what it shows
@@ -117,7 +105,7 @@ pub entered-register : (net c : ℕ) (w : List ℕ) (c₁ : ℕ) (w₁ : List �
     → Made 1 c w c₁ w₁ state m → Made 3 c₁ (stored 458752 w₁ net state) c₂ w₂ l (shown (graphOf c₁ (stored 458752 w₁ net state)) (region 589824 (stored 458752 w₁ net state)) r state)
     → Entered 4 net c w c₂ (stored 589824 w₂ net l) (set (region 458752 w) net (m .literal)) (shown (m .aig) (region 589824 w) r (m .literal))
 entered-register net c w c₁ w₁ state c₂ w₂ l m r n d e =
-    let g : graphOf c₁ (stored 458752 w₁ net state) ≡ m .aig = graph-state c₁ w₁ net state ∙ ap (λ (x : Built). x .aig) (d .built) in
+    let g : graphOf c₁ (stored 458752 w₁ net state) ≡ m .aig = graph-stored 458752 c₁ w₁ net state refl ∙ ap (λ (x : Built). x .aig) (d .built) in
     let s : state ≡ m .literal = ap (λ (x : Built). x .literal) (d .built) in
     let nets : region 589824 (stored 458752 w₁ net state) ≡ region 589824 w = simp stores (d .same .at 589824 refl) in
     let n₁ : Netted c₁ (stored 458752 w₁ net state) = netted-state c₁ w₁ net state (netted-made 1 c w c₁ w₁ state m n d) (d .below) in

@@ -8,6 +8,7 @@ use lib.Dec.{eqb, ltb}
 use lib.ListN.{length, getD, take, set, length-take, length-map, List·getD-eq-default}
 use lib.Seq.{getD-set-other, getD-set-same, take-all}
 use borrow.Author.Tests.{eqb-true, eqb-false, ltb-true, ltb-false}
+use Rattle.facts.specs.Bools.{and-both}
 use Rattle.words.specs.Fill.{filled, getD-filled, length-filled}
 use Rattle.words.specs.Region.{region, apart, sizeOf, stored, cleared, stores, stored-in, stored-out, length-region}
 use Rattle.model.specs.Lists.{lookup}
@@ -16,7 +17,7 @@ use Rattle.model.specs.Transition.{Lowering, Registers, netLiteral, lowerNodes,
 use Rattle.struo_ir.specs.Decoded.{decoded}
 use Rattle.struo_ir.specs.declared.netlist.Netlist.{Netlist}
 use Rattle.aig.specs.Graph.{graphAt, graphOf, Ordered, nodes-agree, ordered-agree}
-use Rattle.aig.specs.Made.{Ready, Same, outside, both, same-refl, same-trans, HeadsBelow}
+use Rattle.aig.specs.Made.{Ready, Same, outside, same-refl, same-trans, HeadsBelow}
 use Rattle.aig.specs.Side.{side-size, side-above, side-after, side-under, side-before}
 use Rattle.lowering.specs.Gate.{Netted, Alike}
 use Rattle.lowering.specs.Walk.{Walked, elsewhere}
@@ -102,7 +103,7 @@ module _ (base : ℕ) (lo : 196608 ≤ base) (hi : base ≤ 327680) (w₀ : List
       where
         kept : Same (offSide base) w (copied base w i)
         kept = record {
-          at = λ b e. let q = both (apart b base) (apart b (base + 65536)) e in stored-out b _ (base + 65536) i _ (q .1) ∙ stored-out b w base i _ (q .0);
+          at = λ b e. let q = and-both (apart b base) (apart b (base + 65536)) e in stored-out b _ (base + 65536) i _ (q .1) ∙ stored-out b w base i _ (q .0);
         }
 
         lhs′ : (j : ℕ) → j < i + 1 → (t : Bool) → eqb j i ≡ t → getD (region base (copied base w i)) j 0 ≡ getD (region 0 w₀) j 0
@@ -184,7 +185,7 @@ module _ (n : Netlist) (base : ℕ) (lo : 196608 ≤ base) (hi : base ≤ 327680
         small = omega (arith, walk .within, regs .within);
         same = record {
           at = λ b e.
-              let p = both (elsewhere b) (offSide base b) e in
+              let p = and-both (elsewhere b) (offSide base b) e in
               copy .same .at b (p .1) ∙ same-elsewhere (regs .same) .at b (p .0) ∙ walk .same .at b (p .0) ∙ start .same .at b (p .0);
         };
         ordered = ordered-agree c₂ _ _ (region 0 w₃) (region 65536 w₃) (copy .lhs) (copy .rhs) (regs .netted .ready .indexed .ordered);

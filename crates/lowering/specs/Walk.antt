@@ -5,7 +5,7 @@ use mathlib.Core.List.{List, [], _∷_, _++_}
 use Prim.Native.Nat.{ℕ, _+_, _≤_, _<_}
 use native.Mathlib.Omega.{arith}
 use lib.Dec.{eqb, ltb}
-use lib.ListN.{length, getD, set, length-append, length-set, List·getD-append, List·getD-eq-default}
+use lib.ListN.{length, getD, set, length-append, List·getD-append, List·getD-eq-default}
 use lib.Seq.{getD-set-other, getD-set-same, getD-append-seam}
 use borrow.Author.Tests.{eqb-true, eqb-false, ne-eqb, ltb-true, ltb-false}
 use Rattle.words.specs.Region.{region, apart}
@@ -50,17 +50,6 @@ module _ (xs nets : List ℕ) (net l : ℕ) (alike : Alike xs nets) (count : len
 pub length-more : (nets : List ℕ) (l net : ℕ) → length nets ≡ net → length (snoc nets l) ≡ net + 1
 unfolding snoc
 length-more nets l net e = simp length-append (omega arith)
-
--- a store keeps literals below a bound
-pub set-below : (xs : List ℕ) (i l m : ℕ) → ((a : ℕ) → getD xs a 0 < m) → l < m → (a : ℕ) → getD (set xs i l) a 0 < m
-set-below xs i l m h k a = go (eqb a i) refl (ltb i (length xs)) refl
-  where
-    go : (t : Bool) → eqb a i ≡ t → (u : Bool) → ltb i (length xs) ≡ u → getD (set xs i l) a 0 < m
-    go true e true f = rw (eqb-true a i e, getD-set-same xs i l 0 (ltb-true i (length xs) f)) k
-    go true e false f =
-        rw (eqb-true a i e)
-        (let z : getD (set xs i l) i 0 ≡ 0 = List·getD-eq-default (set xs i l) 0 (rw (length-set xs i l) (ltb-false i (length xs) f)) in omega (arith, h 0))
-    go false e u f = rw (getD-set-other xs i a l 0 (eqb-false a i e)) (h a)
 
 -- ---- state variables
 

@@ -10,6 +10,7 @@ use lib.ListN.{length, getD, getElem?, drop, set, length-set, length-replicate, 
 use lib.Seq.{getD-set-same, getD-set-other}
 use lib.Dec.{eqb}
 use borrow.Author.Tests.{eq-eqb, ne-eqb, eqb-true, eqb-false}
+use Rattle.facts.specs.Lists.{getD-replicate, set-any}
 use Rattle.model.specs.Answers.{Refusal}
 use Rattle.model.specs.Netlist.{isRegisterOutput}
 use Rattle.model.specs.Validate.{_otherwise_, refuseIf, driverFrom, driver, undriven, connectionFault, lateDriver, resetFault, isInputAt, clockFault}
@@ -20,7 +21,7 @@ use Rattle.struo_ir.specs.Nodes.{noNode, nodesTo}
 use Rattle.struo_ir.specs.Registers.{noRegister, registersTo}
 use Rattle.struo_ir.specs.Reading.{NodesPadded, RegistersPadded}
 use Rattle.netlist_checks.specs.Checks.{driverBy, lateCell, Drivers}
-use Rattle.struo_ir.specs.ListLaws.{drop-map-take, drop-map-all, element, no-element, getD-repeat, getD-set-all}
+use Rattle.struo_ir.specs.ListLaws.{drop-map-take, drop-map-all, element, no-element}
 use Rattle.netlist_checks.specs.NodeCheckLaws.{register-output-is, input-is}
 
 -- ---- the table
@@ -39,9 +40,9 @@ no-drivers registers count =
     record {
       bound = omega arith;
       size = length-replicate {A = ℕ} 1024 0;
-      small = λ net. omega (arith, getD-repeat {A = ℕ} 1024 net 0);
-      below = λ net. omega (arith, getD-repeat {A = ℕ} 1024 net 0);
-      drives = λ s net l. rw (getD-repeat {A = ℕ} 1024 net 0, drop-map-all (decodedRegister s) registers count count (omega arith));
+      small = λ net. omega (arith, getD-replicate {A = ℕ} 1024 net 0);
+      below = λ net. omega (arith, getD-replicate {A = ℕ} 1024 net 0);
+      drives = λ s net l. rw (getD-replicate {A = ℕ} 1024 net 0, drop-map-all (decodedRegister s) registers count count (omega arith));
     }
 
 -- the first of the rest
@@ -78,8 +79,8 @@ module _ (registers : List RegisterCell) (count : ℕ) (size : length registers 
       record {
         bound = omega (arith, so .bound);
         size = length-set table (getD registers j noRegister .output) k ∙ so .size;
-        small = getD-set-all (λ (n : ℕ). n ≤ 128) table (getD registers j noRegister .output) k 0 (so .small) (omega (arith, so .bound, fits));
-        below = getD-set-all (λ (n : ℕ). n ≤ count) table (getD registers j noRegister .output) k 0 (so .below) (so .bound);
+        small = λ net. set-any (λ (n : ℕ). n ≤ 128) table (getD registers j noRegister .output) net k 0 (so .small net) (omega (arith, so .bound, fits));
+        below = λ net. set-any (λ (n : ℕ). n ≤ count) table (getD registers j noRegister .output) net k 0 (so .below net) (so .bound);
         drives = stored-at;
       }
 

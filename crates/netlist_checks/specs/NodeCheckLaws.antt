@@ -9,6 +9,7 @@ use native.Mathlib.Numerals.{add-one}
 use lib.ListN.{length, getD, take, drop, set, length-set, length-replicate, replicate}
 use lib.Dec.{eqb, ltb}
 use borrow.Author.Tests.{ne-eqb, eqb-true, lt-ltb, le-ltb}
+use Rattle.facts.specs.Numbers.{cond-le}
 use Rattle.model.specs.Lists.{member}
 use Rattle.model.specs.Names.{Name, memberName}
 use Rattle.model.specs.Netlist.{inputNumbers, isRegisterOutput, inputName}
@@ -115,10 +116,6 @@ names-if : (s ports : List ℕ) (found place : ℕ) (h : Bool) → found < lengt
 unfolding addName
 names-if s ports found place true l = names-more s ports found place l
 names-if s ports found place false l = let e : found + 0 ≡ found = omega arith in rw e (names-kept s ports found found place (omega arith))
-
-cond-le : (b : Bool) → cond b 1 0 ≤ 1
-cond-le true = omega arith
-cond-le false = omega arith
 
 pub nodes-unchecked : (s : List ℕ) (nodes : List Node) (count : ℕ) → NodesChecked s nodes count (replicate 1024 0) 0 0
 unfolding namesBefore

@@ -11,6 +11,7 @@ use Rattle.struo_ir.specs.declared.reader.Answer.the-variants as Answer
 use Rattle.struo_ir.specs.declared.reader.Reading.{Reading}
 use Rattle.struo_ir.specs.Decoded.{decoded}
 use Rattle.struo_ir.specs.Reading.{refusedAt, readBy, readOf}
+use Rattle.struo_ir.specs.ReadingLaws.{read-refused}
 use Rattle.netlist_checks.specs.Checks.{faultOf}
 
 -- the first of two checks that refuses
@@ -21,10 +22,6 @@ first-refuses b e = rw (← e)
 pub first-passes : {a b : Option Refusal} → none ≡ a → b ≡ (a otherwise b)
 unfolding _otherwise_
 first-passes e = rw (← e)
-
-read-as : (s : List ℕ) (r : Reading) (n place : ℕ) → r .answer ≡ Answer.Refused n place → readOf s r ≡ refusedAt n place
-unfolding readOf readBy
-read-as s r n place e = ap (readBy s (r .netlist)) e
 
 accepted-as : (s : List ℕ) (r : Reading) → r .answer ≡ Answer.Accepted → readOf s r ≡ parsed (decoded s (r .netlist))
 unfolding readOf readBy
@@ -39,7 +36,7 @@ module _ (s : List ℕ) (r : Reading) (h : readOf s r ≡ parse s) where
   pub unread : (n place : ℕ) → r .answer ≡ Answer.Refused n place → readRecord s ≡ readOf s r
   unfolding readRecord
   unread n place e =
-      let f : readOf s r ≡ refusedAt n place = read-as s r n place e in
+      let f : readOf s r ≡ refusedAt n place = read-refused s r n place e in
       ap validated (sym h ∙ f) ∙ kept-refused n place ∙ sym f
 
   module _ (e : r .answer ≡ Answer.Accepted) where

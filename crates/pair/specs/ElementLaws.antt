@@ -6,17 +6,17 @@ use native.Mathlib.Omega.{arith}
 use lib.ListN.{length, drop, getD}
 use Rattle.struo_ir.specs.Decoded.{decodedRegister, decoded}
 use Rattle.name_order.specs.Places.{noCell, noEntry, placeOf, held, places, Formed}
-use Rattle.name_order.specs.PortLaws.{decoded-cons}
 use Rattle.struo_ir.specs.declared.netlist.Netlist.{Netlist}
 use Rattle.name_order.specs.declared.order.Order.{Order}
+use Rattle.struo_ir.specs.ListLaws.{drop-map-cons}
 
 -- the register of a number, in front of those behind it
 pub decoded-register : (s : List ℕ) (n : Netlist) (k : ℕ) → k < n .«register_count» → n .«register_count» ≤ length (n .registers)
     → drop k (decoded s n .registers) ≡ decodedRegister s (getD (n .registers) k noCell) ∷ drop (suc k) (decoded s n .registers)
 unfolding decoded
-decoded-register s n k h l = decoded-cons (decodedRegister s) (n .registers) (n .«register_count») k noCell h l
+decoded-register s n k h l = drop-map-cons (decodedRegister s) (n .registers) (n .«register_count») k noCell h l
 
 -- the place at a rank of an order
 pub place-at : (s : List ℕ) (o : Order) (k : ℕ) → k < o .count → Formed o → drop k (places s o) ≡ placeOf s (getD (o .entries) k noEntry) ∷ drop (suc k) (places s o)
 unfolding places held
-place-at s o k h f = decoded-cons (placeOf s) (o .entries) (o .count) k noEntry h (omega (arith, f .fits, f .long))
+place-at s o k h f = drop-map-cons (placeOf s) (o .entries) (o .count) k noEntry h (omega (arith, f .fits, f .long))

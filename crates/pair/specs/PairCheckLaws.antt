@@ -2,16 +2,16 @@
 use Prim.Native.Nat.{ℕ, zero, suc, _+_, _<_, _≤_, zero-le}
 use mathlib.Core.Path.{_≡_, refl, sym, ap, _∙_}
 use mathlib.Core.Bool.{Bool, true, false, cond, not}
-use mathlib.Core.List.{List, [], _∷_, map}
+use mathlib.Core.List.{List, [], map}
 use mathlib.Core.Logic.{inl, ⊎-elim}
 use mathlib.Core.Option.{Option, none, some}
 use native.Mathlib.Nat.{eq-or-lt-of-le}
 use native.Mathlib.Omega.{arith}
 use native.Mathlib.Numerals.{add-one}
-use lib.Dec.{eqb, ltb}
-use borrow.Author.Tests.{ltb-true, ltb-false, lt-ltb, le-ltb, eq-eqb, ne-eqb}
-use lib.ListN.{length, take, drop, getD, getElem?, length-map, length-take, drop-of-length-le, List·getD-map}
-use lib.Seq.{getD-take, length-take-le}
+use lib.Dec.{eqb}
+use borrow.Author.Tests.{lt-ltb, le-ltb, eq-eqb, ne-eqb}
+use lib.ListN.{length, take, drop, getD, getElem?, length-map, length-take, drop-of-length-le}
+use Rattle.facts.specs.Numbers.{by-lt}
 use Rattle.model.specs.Answers.{Refusal}
 use Rattle.model.specs.Names.{Place, sameName, sameNames, namesOf}
 use Rattle.model.specs.Netlist as Model
@@ -27,6 +27,7 @@ use Rattle.struo_ir.specs.declared.netlist.Node.{Node}
 use Rattle.struo_ir.specs.declared.netlist.RegisterCell.{RegisterCell}
 use Rattle.struo_ir.specs.declared.netlist.Netlist.{Netlist}
 use Rattle.name_order.specs.declared.order.Order.{Order}
+use Rattle.struo_ir.specs.ListLaws.{element, no-element}
 use Rattle.pair.specs.ElementLaws.{decoded-register, place-at}
 use Rattle.pair.specs.PairChecks.{Ordered, domainBy, lacksReset, domainsFault}
 use Rattle.pair.specs.declared.orders.Orders.{Orders}
@@ -74,36 +75,16 @@ input-name-of s n = ap nameOr (port-name s 0 n (inl refl)) ∙ go (eqb (n .kind)
     go true = refl
     go false = refl
 
-getElem-in : {A : Type 0} (l : List A) (k : ℕ) (z : A) → k < length l → getElem? l k ≡ some (getD l k z)
-getElem-in [] k z h = absurd (omega arith)
-getElem-in (x ∷ l) zero z h = refl
-getElem-in (x ∷ l) (suc k) z h = getElem-in l k z (omega arith)
-
-getElem-out : {A : Type 0} (l : List A) (k : ℕ) → length l ≤ k → getElem? l k ≡ none
-getElem-out [] k h = refl
-getElem-out (x ∷ l) zero h = absurd (omega arith)
-getElem-out (x ∷ l) (suc k) h = getElem-out l k (omega arith)
-
--- an element of a decoded list
-decoded-at : {A B : Type 0} (f : A → B) (xs : List A) (n k : ℕ) (z : A) → k < n → n ≤ length xs → getElem? (map f (take n xs)) k ≡ some (f (getD xs k z))
-decoded-at f xs n k z h l =
-    let w : k < length (map f (take n xs)) = rw (length-map, length-take-le) h in
-    getElem-in (map f (take n xs)) k (f z) w ∙ rw (List·getD-map f (take n xs) k z, getD-take)
-
--- past a decoded list
-decoded-past : {A B : Type 0} (f : A → B) (xs : List A) (n k : ℕ) → n ≤ k → getElem? (map f (take n xs)) k ≡ none
-decoded-past f xs n k h = getElem-out (map f (take n xs)) k (simp (length-map, length-take) (omega arith))
-
 -- the clock's node
 pub clock-in : (s : List ℕ) (n : Netlist) (k : ℕ) → k < n .«node_count» → n .«node_count» ≤ length (n .nodes)
     → nameOr (inputName (decodedNode s (getD (n .nodes) k noNode))) ≡ Pair.nameAt (getElem? (decoded s n .nodes) k)
 unfolding Pair.nameAt decoded
-clock-in s n k h l = rw (decoded-at (decodedNode s) (n .nodes) (n .«node_count») k noNode h l)
+clock-in s n k h l = rw (element (decodedNode s) (n .nodes) (n .«node_count») k noNode h l)
 
 -- no clock's node
 pub clock-out : (s : List ℕ) (n : Netlist) (k : ℕ) (m : Node) → m .kind ≡ 1 → n .«node_count» ≤ k → nameOr (inputName (decodedNode s m)) ≡ Pair.nameAt (getElem? (decoded s n .nodes) k)
 unfolding Pair.nameAt decoded
-clock-out s n k m e h = input-name-of s m ∙ rw (e, decoded-past (decodedNode s) (n .nodes) (n .«node_count») k h)
+clock-out s n k m e h = input-name-of s m ∙ rw (e, no-element (decodedNode s) (n .nodes) (n .«node_count») k h)
 
 -- the domain of a register by its clock's node
 pub domain-by : (s : List ℕ) (n : Netlist) (r : RegisterCell) (m : Node) (w : ℕ) → w ≡ r .clock → ((s : List ℕ) → nameOr (inputName (decodedNode s m)) ≡ Pair.nameAt (getElem? (decoded s n .nodes) w))
@@ -194,21 +175,13 @@ unfolding decodedReset noReset
 no-reset zero signal kind value = refl
 no-reset (suc c) signal kind value = sym (ne-eqb (suc c) 0 (λ e. omega arith))
 
--- a number is below another or not
-by-test : {P : Type 0} (i m : ℕ) → (i < m → P) → (m ≤ i → P) → P
-by-test {P} i m p q = go (ltb i m) refl
-  where
-    go : (b : Bool) → ltb i m ≡ b → P
-    go true e = p (ltb-true i m e)
-    go false e = q (ltb-false i m e)
-
 -- the test on a register's fields
 pub lacks-right : (s : List ℕ) (n : Netlist) (k : ℕ) (cell : RegisterCell) → n .«register_count» ≤ length (n .registers) → (k < n .«register_count» → cell ≡ getD (n .registers) k noCell)
     → lacksReset k (n .«register_count») cell ≡ noResetAt (getElem? (decoded s n .registers) k)
 unfolding lacksReset noResetAt decoded decodedRegister
-lacks-right s n k cell l e = by-test k (n .«register_count»)
-    (λ (h : k < n .«register_count»). rw (lt-ltb k (n .«register_count») h, decoded-at (decodedRegister s) (n .registers) (n .«register_count») k noCell h l, e h) (sym (no-reset _ _ _ _)))
-    (λ (h : n .«register_count» ≤ k). rw (le-ltb k (n .«register_count») h, decoded-past (decodedRegister s) (n .registers) (n .«register_count») k h))
+lacks-right s n k cell l e = by-lt k (n .«register_count»)
+    (λ (h : k < n .«register_count»). rw (lt-ltb k (n .«register_count») h, element (decodedRegister s) (n .registers) (n .«register_count») k noCell h l, e h) (sym (no-reset _ _ _ _)))
+    (λ (h : n .«register_count» ≤ k). rw (le-ltb k (n .«register_count») h, no-element (decodedRegister s) (n .registers) (n .«register_count») k h))
 
 module _ (s : List ℕ) (side : ℕ) (rs : List Register) (o : Order) (k : ℕ) (f : Formed o) where
   -- a register with a reset is passed

@@ -9,11 +9,12 @@ use Rattle.model.specs.Record.{parsed, refusedRecord}
 use Rattle.laws.specs.Record.Accepted.{accepted-parsed}
 use Rattle.laws.specs.Record.Limits.{Limits, parse-limits}
 use Rattle.struo_ir.specs.Decoded.{decoded}
-use Rattle.name_order.specs.PortLaws.{length-sort}
 use Rattle.struo_ir.specs.Reading.{Padded, readOf, readBy, refusedAt}
 use Rattle.struo_ir.specs.declared.netlist.Netlist.{Netlist}
 use Rattle.struo_ir.specs.declared.reader.Answer.the-variants as Reader
 use Rattle.struo_ir.specs.declared.reader.Reading.{Reading}
+use Rattle.model.specs.Names.{Place}
+use Rattle.laws.specs.Names.Sorting.{sort-length}
 use Rattle.pair.specs.PairChecks.{Within, refusalOn}
 
 -- an accepted record's netlist is within the limits
@@ -24,8 +25,8 @@ read-within s n p e =
     record {
       nodes = p .nodes-padded .fits;
       registers = p .registers-padded .fits;
-      inputs = omega (arith, l .inputs, length-sort (portsFrom inputName 0 (decoded s n .nodes)));
-      outputs = omega (arith, l .outputs, length-sort (portsFrom outputName 0 (decoded s n .nodes)));
+      inputs = omega (arith, l .inputs, sort-length (λ (p : Place). p .name) (portsFrom inputName 0 (decoded s n .nodes)));
+      outputs = omega (arith, l .outputs, sort-length (λ (p : Place). p .name) (portsFrom outputName 0 (decoded s n .nodes)));
     }
 
 -- an accepted reading is that of its netlist

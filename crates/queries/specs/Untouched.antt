@@ -1,9 +1,10 @@
 -- What a query leaves of both sides' graphs: all that they stand for. Assumes nothing.
 use mathlib.Core.Path.{_≡_, refl, _∙_}
-use mathlib.Core.Bool.{Bool, true, _&&_}
+use mathlib.Core.Bool.{true}
 use mathlib.Core.List.{List, [], _∷_}
 use Prim.Native.Nat.{ℕ, _≤_}
 use native.Mathlib.Omega.{arith}
+use Rattle.facts.specs.Bools.{both-and}
 use Rattle.words.specs.Region.{apart}
 use Rattle.aig.specs.Side.{side-under}
 use Rattle.assignment.specs.State.{Unchanged, apartFrom}
@@ -28,10 +29,7 @@ Past (c ∷ cs) = (458752 ≤ c) × Past cs
 
 past-apart : (cs : List ℕ) → Past cs → (b : ℕ) → 196608 ≤ b → b ≤ 393216 → apartFrom cs b ≡ true
 past-apart [] h b lo hi = refl
-past-apart (c ∷ cs) h b lo hi = both (apart b c) (apartFrom cs b) (side-under b lo hi c (omega (arith, h .0))) (past-apart cs (h .1) b lo hi)
-  where
-    both : (s t : Bool) → s ≡ true → t ≡ true → (s && t) ≡ true
-    both s t p q = rw (p, q)
+past-apart (c ∷ cs) h b lo hi = both-and (apart b c) (apartFrom cs b) (side-under b lo hi c (omega (arith, h .0))) (past-apart cs (h .1) b lo hi)
 
 -- a search leaves both graphs: its regions lie past them
 pub untouched-solve : {w w′ : List ℕ} → Unchanged solveRegions w w′ → Untouched w w′

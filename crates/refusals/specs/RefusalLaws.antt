@@ -1,29 +1,29 @@
 -- The refusals as they are tested are document 01's, and what follows where none applies. Assumes nothing.
-use Prim.Native.Nat.{ℕ, suc, _+_, _*_, _≤_}
-use mathlib.Core.Path.{_≡_, refl, sym, ap, _∙_}
-use mathlib.Core.Bool.{true, false, not, _||_, false≢true}
-use mathlib.Core.List.{List, [], _∷_}
+use Prim.Native.Nat.{ℕ, _+_, _*_, _≤_}
+use mathlib.Core.Path.{_≡_, refl, ap, _∙_}
+use mathlib.Core.Bool.{_||_}
+use mathlib.Core.List.{List}
 use mathlib.Core.Option.{Option, none, some}
 use native.Mathlib.Omega.{arith}
 use native.Mathlib.Nat.{mul-le-mul}
 use native.Mathlib.Numerals.{add-one}
-use borrow.Author.Tests.{ltb-false, not-false}
+use borrow.Author.Tests.{ltb-false}
 use lib.Dec.{eqb, ltb}
 use lib.ListN.{length, take, length-map}
 use lib.Seq.{length-take-le}
 use Rattle.model.specs.Answers.{Refusal}
-use Rattle.model.specs.Names.{Name, Place, sameName, sameNames, namesOf}
 use Rattle.model.specs.Netlist.{Design, inputs, outputs, inputCount, outputCount, nodeCount, registerCount}
 use Rattle.model.specs.Validate.{_otherwise_, refuseIf}
 use Rattle.model.specs.Pair as Pair
 use Rattle.model.specs.Pair.{inputsDiffer, outputsDiffer, interfaceFault, initialFault, nodesPerCycle, proofNodes, traceLength, tooShort, checkFault}
-use Rattle.laws.specs.Bools.{or-left, or-right, and-right}
+use Rattle.facts.specs.Bools.{or-left, or-right}
 use Rattle.laws.specs.Record.Accepted.{otherwise-none, refuseIf-none}
 use Rattle.struo_ir.specs.Decoded.{decodedNode, decodedRegister, decoded}
 use Rattle.name_order.specs.PortLaws.{count-places}
 use Rattle.struo_ir.specs.Reading.{Padded}
 use Rattle.struo_ir.specs.declared.netlist.Netlist.{Netlist}
 use Rattle.pair.specs.declared.orders.Orders.{Orders}
+use Rattle.laws.specs.Induction.Pairs.{names-length}
 use Rattle.refusals.specs.Refusals.{framesBy, nodesBy, shortBy, depthFault, sizeFault, laterFault, pairFault}
 use Rattle.refusals.specs.Designs.{Sided}
 
@@ -99,18 +99,6 @@ short-within inputs outputs depth lent = rw add-one
 
 -- ---- where none refuses
 
--- lists of the same names are as long
-same-length : (xs ys : List Name) → sameNames xs ys ≡ true → length xs ≡ length ys
-unfolding sameNames
-same-length [] [] e = refl
-same-length [] (y ∷ ys) e = absurd (false≢true e)
-same-length (x ∷ xs) [] e = absurd (false≢true e)
-same-length (x ∷ xs) (y ∷ ys) e = ap suc (same-length xs ys (and-right (sameName x y) (sameNames xs ys) e))
-
-places-length : (ps qs : List Place) → not (sameNames (namesOf ps) (namesOf qs)) ≡ false → length ps ≡ length qs
-unfolding namesOf
-places-length ps qs e = sym (length-map ps _) ∙ same-length (namesOf ps) (namesOf qs) (not-false _ e) ∙ length-map qs _
-
 -- What holds of an accepted pair, its depth and the buffers lent.
 pub record Accepted (gold gate : Design) (depth : ℕ) (lent : Pair.Lent) : Type 0 where
   pub depth-small : depth ≤ 64
@@ -136,8 +124,8 @@ accepted gold gate depth lent e =
     let shorter = or-left (ltb (lent .trace) (traceLength gold depth) || ltb (lent .words) 8388608) (ltb (lent .scores) 65536) short in
     record {
       depth-small = ltb-false 64 depth (refuseIf-none 17 0 0 _ (deep .0));
-      inputs-alike = places-length (inputs gold) (inputs gate) (refuseIf-none 18 0 0 _ (ins .0));
-      outputs-alike = places-length (outputs gold) (outputs gate) (refuseIf-none 19 0 0 _ (outs .0));
+      inputs-alike = names-length (inputs gold) (inputs gate) (refuseIf-none 18 0 0 _ (ins .0));
+      outputs-alike = names-length (outputs gold) (outputs gate) (refuseIf-none 19 0 0 _ (outs .0));
       fits = ltb-false 65535 (proofNodes gold gate depth) (refuseIf-none 23 0 0 _ (large .0));
       trace-long = ltb-false (lent .trace) (traceLength gold depth) (or-left (ltb (lent .trace) (traceLength gold depth)) _ shorter);
       words-long = ltb-false (lent .words) 8388608 (or-right (ltb (lent .trace) (traceLength gold depth)) _ shorter);

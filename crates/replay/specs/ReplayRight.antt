@@ -18,7 +18,7 @@ use Rattle.model.specs.Pair as Pair
 use Rattle.model.specs.Pair.{onGate, withGate, withGold, readPair, allBits, traceLength, badClaim, replayFault, initialFault, interfaceFault}
 use Rattle.model.specs.Replay as Replay
 use Rattle.model.specs.Replay.{initialPosition, positionAfter, stepsReplay, replayPair, refusedReplay}
-use Rattle.laws.specs.Bools.{or-left}
+use Rattle.facts.specs.Bools.{or-left}
 use Rattle.laws.specs.Record.Accepted.{otherwise-none, refuseIf-none}
 use Rattle.laws.specs.Replay.{steps-replay}
 use Rattle.struo_ir.specs.Decoded.{decoded}

@@ -15,11 +15,11 @@ use Rattle.model.specs.Record.{bit, levelOf}
 use Rattle.model.specs.Run.{bitAt, asserted, enabledBit, resetBit, nextBit, nextFrom, initialBit}
 use Rattle.struo_ir.specs.Decoded.{decodedEnable, decodedReset, decodedRegister, decoded}
 use Rattle.name_order.specs.Places.{noCell, noEntry, placeOf, held, places}
-use Rattle.name_order.specs.PortLaws.{decoded-cons}
 use Rattle.struo_ir.specs.declared.netlist.RegisterCell.{RegisterCell}
 use Rattle.struo_ir.specs.declared.netlist.Netlist.{Netlist}
 use Rattle.name_order.specs.declared.order.Order.{Order}
 use Rattle.pair.specs.ElementLaws.{decoded-register}
+use Rattle.struo_ir.specs.ListLaws.{drop-map-cons}
 use Rattle.run.specs.RunTables.{enableOf, resetOf, nextOf}
 use Rattle.run.specs.RunLaws.{some-reset, written-more}
 
@@ -134,4 +134,4 @@ pub output-more : (s : List ℕ) (o : Order) (values row : List Bool) (k : ℕ) 
 unfolding places held placeOf
 output-more s o values row k x h l w e =
     mapped-more (λ (p : Place). bitAt values (p .number)) (map (placeOf s) (take (o .count) (o .entries))) row k (placeOf s (getD (o .entries) k noEntry)) x
-    (decoded-cons (placeOf s) (o .entries) (o .count) k noEntry h l) e w
+    (drop-map-cons (placeOf s) (o .entries) (o .count) k noEntry h l) e w

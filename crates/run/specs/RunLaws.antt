@@ -20,7 +20,7 @@ use Rattle.netlist_checks.specs.Checks.{driverBy, Drivers}
 use Rattle.struo_ir.specs.Decoded.{nameAt, decodedReset, decodedNode, decodedRegister, decoded}
 use Rattle.name_order.specs.Places.{noNode, noCell}
 use Rattle.struo_ir.specs.Registers.{noRegister, registersTo}
-use Rattle.name_order.specs.PortLaws.{decoded-cons}
+use Rattle.struo_ir.specs.ListLaws.{drop-map-cons}
 use Rattle.run.specs.RunTables.{resetOf, gateOf, valueOf, nodeBy, shownBy, inputRank, Ranked, rowInputs, padded}
 use Rattle.struo_ir.specs.declared.netlist.Node.{Node}
 use Rattle.struo_ir.specs.declared.netlist.RegisterCell.{RegisterCell}
@@ -212,7 +212,7 @@ pub values-more : (s : List ℕ) (n : Netlist) (inp : InputBits) (stored : Store
     ≡ valuesFrom (decoded s n .registers) inp stored (i + 1) (drop (i + 1) (decoded s n .nodes)) (take (i + 1) (set values i x))
 unfolding valuesFrom decoded
 values-more s n inp stored values i x h l k e =
-    rw (add-one, take-suc-set, decoded-cons (decodedNode s) (n .nodes) (n .«node_count») i noNode h l, e)
+    rw (add-one, take-suc-set, drop-map-cons (decodedNode s) (n .nodes) (n .«node_count») i noNode h l, e)
 
 -- a row of which n bits are written is those bits and false past them
 pub padded-row : (row bits : List Bool) (n m : ℕ) → n ≤ m → length row ≡ m → drop n row ≡ replicate (m - n) false → bits ≡ take n row → row ≡ padded m bits

@@ -9,23 +9,15 @@ use lib.ListN.{length, getD}
 use Rattle.model.specs.Literal.{Literal, node, negate}
 use Rattle.model.specs.Sat as Sat
 use Rattle.laws.specs.Graph.Values.{node-negate}
-use Rattle.laws.specs.Lists.{All, all-at, all-map}
+use Rattle.facts.specs.Lists.{All, all-at, all-map}
 use Rattle.laws.specs.Search.Trail.{Range}
 use Rattle.laws.specs.Search.Pigeonhole.{pigeon}
 use Rattle.laws.specs.Search.State.{Stuck}
-use Rattle.laws.specs.Search.Sorting.{Distinct, sort-all, sort-distinct, sort-length, distinct-plain}
+use Rattle.laws.specs.Search.Sorting.{Distinct, sort-all, sort-distinct, sort-length, distinct-plain, distinct-at}
 use Rattle.laws.specs.Search.Analysis.{Analyzed, AnalysisEnded}
 use Rattle.laws.specs.Search.Learning.{learned-range}
 use Rattle.clauses.specs.State.{AllBelow, clean}
 use Rattle.analysis.specs.Analysis.{Bounded}
-
--- distinct variables, by places
-distinct-at : (ls : List Literal) → Distinct ls → (p q : ℕ) → p < q → q < length ls → node (getD ls p 0) ≢ node (getD ls q 0)
-distinct-at [] d p q a h = absurd (omega arith)
-distinct-at (l ∷ ls) d zero zero a h = absurd (omega arith)
-distinct-at (l ∷ ls) d zero (suc q) a h = all-at (λ k. node l ≢ node k) ls (d .0) q (omega arith)
-distinct-at (l ∷ ls) d (suc p) zero a h = absurd (omega arith)
-distinct-at (l ∷ ls) d (suc p) (suc q) a h = distinct-at ls (d .1) p q (omega arith) (omega arith)
 
 -- fewer than there are variables
 few : (n : ℕ) (ls : List Literal) → All (Range n) ls → Distinct ls → length ls ≤ n - 1

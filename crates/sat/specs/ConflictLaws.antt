@@ -22,6 +22,7 @@ use Rattle.clauses.specs.Clauses.{length-clauses}
 use Rattle.clauses.specs.State.{solverOf, Sound}
 use Rattle.analysis.specs.Analysis.{analysisOf, analysisRegions, viewOf, Bounded, Analyzes}
 use Rattle.analysis.specs.declared.state.Analyzed as Answers
+use Rattle.assignment.specs.ScoreLaws.{others-none, others-both}
 use Rattle.sat.specs.CapacityLaws.{analysis-fits, asserting-below, clause-below, clause-length, clause-clean}
 use Rattle.sat.specs.ViewLaws.{analysis-of}
 use Rattle.sat.specs.SoundLaws.{sound-analysis, solver-analysis}
@@ -30,18 +31,11 @@ use Rattle.sat.specs.declared.state.State.{State}
 use Rattle.sat.specs.declared.state.Step.{Step}
 use Rattle.sat.specs.declared.state.Step.the-variants as Steps
 
--- no score is changed
-pub others-none : (n : ℕ) (x : List Float) → Others n x x
-others-none n x = record { long = refl; same = refl }
-
-pub others-both : (n : ℕ) (x y z : List Float) → Others n x y → Others n y z → Others n x z
-others-both n x y z a b = record { long = b .long ∙ a .long; same = b .same ∙ a .same }
-
 -- a result after other words and scores of the search were written
 pub results-after : {limit n : ℕ} {w w₁ : List ℕ} {x x₁ : List Float} {goal goal₁ : Sat.Search} {r : Step} {w′ : List ℕ} {x′ : List Float}
     → Unchanged solveRegions w w₁ → Others n x x₁ → goal₁ ≡ goal → Results limit n w₁ x₁ goal₁ r w′ x′ → Results limit n w x goal r w′ x′
 results-after f o e r =
-    record { is = r .is ∙ e; next = r .next; others = others-both _ _ _ _ o (r .others); frame = unchanged-both solveRegions f (r .frame) }
+    record { is = r .is ∙ e; next = r .next; others = others-both _ o (r .others); frame = unchanged-both solveRegions f (r .frame) }
 
 -- the answer does not go on, and nothing is written
 module _ (limit : ℕ) (s : State) (w : List ℕ) (x : List Float) (id : ℕ) (h : Stopped limit s w x id) where

@@ -12,7 +12,8 @@ use Rattle.laws.specs.Search.Step.{AnswerOk, step-keeps}
 use Rattle.assignment.specs.State.{Unchanged}
 use Rattle.assignment.specs.Scores.{Others}
 use Rattle.assignment.specs.StateLaws.{unchanged-none, unchanged-both}
-use Rattle.sat.specs.ConflictLaws.{others-none, others-both}
+use Rattle.laws.specs.Search.Adding.{search-answered}
+use Rattle.assignment.specs.ScoreLaws.{others-none, others-both}
 use Rattle.sat.specs.State.{stateOf, stepOf, modelOf, Going, solveRegions, Results}
 use Rattle.sat.specs.declared.state.State.{State}
 use Rattle.sat.specs.declared.state.Step.{Step}
@@ -40,12 +41,6 @@ pub record Searches (limit : ℕ) (s : State) (w : List ℕ) (x : List Float) (r
   pub is : answerOf (s .trail .variables) r w′ ≡ ranFrom limit rounds s w x
   pub others : Others (s .trail .variables) x x′
   pub frame : Unchanged solveRegions w w′
-
--- an answered search stays as it is
-pub answered-now : (limit n : ℕ) (a : Sat.Answer) → Sat.searchRounds limit n (Sat.answered a) ≡ a
-unfolding Sat.searchRounds
-answered-now limit zero a = refl
-answered-now limit (suc n) a = refl
 
 module _ (limit : ℕ) (s₀ : State) (w₀ : List ℕ) (x₀ : List Float) (rounds : ℕ) where
   -- between rounds: those that are left decide
@@ -78,7 +73,7 @@ module _ (limit : ℕ) (s₀ : State) (w₀ : List ℕ) (x₀ : List Float) (rou
           ap (λ (k : ℕ). ranFrom limit k s w x) e ∙ ap (Sat.searchRounds limit (left - 1)) (sym (q .is))
 
       others-so-far : Others (s₀ .trail .variables) x₀ x′
-      others-so-far = others-both (s₀ .trail .variables) x₀ x x′ (i .others) (subst (λ (n : ℕ). Others n x x′) (i .variables) (q .others))
+      others-so-far = others-both (s₀ .trail .variables) (i .others) (subst (λ (n : ℕ). Others n x x′) (i .variables) (q .others))
 
       frame-so-far : Unchanged solveRegions w₀ w′
       frame-so-far = unchanged-both solveRegions (i .frame) (q .frame)
@@ -111,7 +106,7 @@ module _ (limit : ℕ) (s₀ : State) (w₀ : List ℕ) (x₀ : List Float) (rou
 
       -- it is answered
       answered-same : (a : Sat.Answer) → stepOf (s .trail .variables) r w′ x′ ≡ Sat.answered a → a ≡ ranFrom limit rounds s₀ w₀ x₀
-      answered-same a e = sym (sym (i .same) ∙ one-done ∙ ap (Sat.searchRounds limit (left - 1)) e ∙ answered-now limit (left - 1) a)
+      answered-same a e = sym (sym (i .same) ∙ one-done ∙ ap (Sat.searchRounds limit (left - 1)) e ∙ search-answered limit (left - 1) a)
 
       finished : (a : Answer) → answerOf (s₀ .trail .variables) a w′ ≡ ranFrom limit rounds s₀ w₀ x₀ → Searches limit s₀ w₀ x₀ rounds a w′ x′
       finished a e = record { is = e; others = others-so-far; frame = frame-so-far }

@@ -12,7 +12,7 @@ use lib.Ieee.{Float}
 use Rattle.model.specs.Aig.{Node}
 use Rattle.model.specs.Literal.{Literal, node}
 use Rattle.model.specs.Sat as Sat
-use Rattle.laws.specs.Lists.{All, all-from}
+use Rattle.facts.specs.Lists.{All, all-from}
 use Rattle.laws.specs.Terms.{Reached, begun}
 use Rattle.laws.specs.Graph.Operations.{Formed}
 use Rattle.laws.specs.Search.Ending.{solve-not-out}
@@ -26,9 +26,10 @@ use Rattle.clauses.specs.Clauses.{clausesOf, watchesOf}
 use Rattle.clauses.specs.State.{solverOf, scored, flagged, encodedOf, Encodable, Encodes, Holds, UnitStep, searchRegions}
 use Rattle.clauses.specs.StepLaws.{assigned-clauses, assigned-queues}
 use Rattle.clauses.specs.declared.state.Encoded.{Encoded}
-use Rattle.sat.specs.ConflictLaws.{others-both}
+use Rattle.laws.specs.Search.Adding.{search-answered}
+use Rattle.assignment.specs.ScoreLaws.{others-both}
 use Rattle.sat.specs.State.{baseOf, stateOf, Fits, Going, solveRegions}
-use Rattle.sat.specs.SolveLaws.{answerOf, ranFrom, answered-now, Searchable, Searches}
+use Rattle.sat.specs.SolveLaws.{answerOf, ranFrom, Searchable, Searches}
 use Rattle.sat.specs.declared.state.State.{State}
 use Rattle.sat.specs.declared.state.Answer.{Answer}
 use Rattle.sat.specs.declared.state.Answer.the-variants as Answers
@@ -70,7 +71,7 @@ module _ (limit n : ℕ) (w : List ℕ) (x : List Float) (ls : List ℕ) (count 
 
   -- an answer before the first round
   at-once : (a : Sat.Answer) → Sat.start Z ≡ Sat.answered a → (g : List Node) → Holds n w g → a ≡ Sat.solve limit g given
-  at-once a e g k = sym (solve-is g k ∙ ap (Sat.searchRounds limit ((limit + 2) * (n + 2))) e ∙ answered-now limit ((limit + 2) * (n + 2)) a)
+  at-once a e g k = sym (solve-is g k ∙ ap (Sat.searchRounds limit ((limit + 2) * (n + 2))) e ∙ search-answered limit ((limit + 2) * (n + 2)) a)
 
   frame₁ : Unchanged solveRegions w w₁
   frame₁ = unchanged-within searchRegions solveRegions refl (E .frame)
@@ -161,6 +162,6 @@ module _ (limit n : ℕ) (w : List ℕ) (x : List Float) (ls : List ℕ) (count 
       solved z w′ x′ s =
           record {
             is = λ g k. ap (λ (m : ℕ). answerOf m z w′) (sym variables-are) ∙ s .is ∙ sym (same-run g k);
-            others = others-both n x x₁ x′ (E .others) (rw variables-are at (s .others));
+            others = others-both n (E .others) (rw variables-are at (s .others));
             frame = unchanged-both solveRegions frame₂ (s .frame);
           }

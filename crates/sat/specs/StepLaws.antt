@@ -17,9 +17,10 @@ use Rattle.assignment.specs.declared.state.Trail.{Trail}
 use Rattle.clauses.specs.State.{solverOf, scored, Sound, trailOf, propagationOf, Propagates, searchRegions}
 use Rattle.clauses.specs.declared.state.Propagation.{Propagation}
 use Rattle.clauses.specs.declared.state.Propagation.the-variants as Propagations
+use Rattle.assignment.specs.ScoreLaws.{others-none}
 use Rattle.sat.specs.DecideLaws.{Decides}
 use Rattle.sat.specs.State.{baseOf, stateOf, stepOf, modelOf, Fits, Going, Stopped, solveRegions, Results}
-use Rattle.sat.specs.ConflictLaws.{others-none, results-after}
+use Rattle.sat.specs.ConflictLaws.{results-after}
 use Rattle.sat.specs.declared.state.Decided.the-variants as Outcomes
 use Rattle.sat.specs.declared.state.State.{State}
 use Rattle.sat.specs.declared.state.Step.{Step}

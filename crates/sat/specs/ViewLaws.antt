@@ -6,8 +6,8 @@ use Prim.Native.Nat.{ℕ, _<_, _≤_}
 use borrow.Author.Tests.{lt-ltb, le-ltb}
 use lib.ListN.{getD}
 use lib.Ieee.{Float}
+use Rattle.facts.specs.Numbers.{below}
 use Rattle.model.specs.Sat as Sat
-use Rattle.assignment.specs.StateLaws.{below}
 use Rattle.assignment.specs.Scores.{scoresOf}
 use Rattle.assignment.specs.declared.state.Trail.{Trail}
 use Rattle.assignment.specs.declared.state.Activity.{Activity}

@@ -15,7 +15,7 @@ use borrow.Author.Tests.{lt-ltb, le-ltb, ltb-true, eqb-true, eqb-false, leb-true
 use Rattle.model.specs.Literal.{node}
 use Rattle.model.specs.Aig.{Aig, Built, new, variable, and}
 use Rattle.model.specs.Sat as Sat
-use Rattle.laws.specs.Bools.{and-left, and-right}
+use Rattle.facts.specs.Bools.{and-left, and-right}
 use Rattle.laws.specs.Graph.Operations.{Formed, variable-means, and-means}
 use Rattle.aig.specs.Graph.{graphOf, length-graph}
 use Rattle.aig.specs.Made.{Ready, Made}

@@ -7,6 +7,7 @@ use native.Mathlib.Omega.{arith}
 use lib.ListN.{length, getD}
 use lib.Dec.{eqb}
 use borrow.Author.Tests.{eqb-true}
+use Rattle.facts.specs.Bools.{or-both}
 use Rattle.model.specs.Names.{Name}
 use Rattle.model.specs.Netlist as Model
 use Rattle.model.specs.Netlist.{inputName, outputName, portsFrom}
@@ -20,13 +21,9 @@ use Rattle.struo_ir.specs.StepLaws.{bind-map, bind-last, name-at}
 
 -- ---- what a kind has no use for
 
-or-neither : (x y : Bool) → (x || y) ≡ false → (x ≡ false) × (y ≡ false)
-or-neither true y h = absurd (let z : _≡_ {A = ℕ} 0 1 = cc in omega arith)
-or-neither false y h = (refl, h)
-
 name-unused : (k : ℕ) (n m : Name) (v : ℕ) (ins : List ℕ) → hasName k ≡ false → nodeOf k n v ins ≡ nodeOf k m v ins
 unfolding nodeOf hasName
-name-unused k n m v ins h = let u = or-neither (eqb k 0x00) (eqb k 0x11) h in rw (u .0, u .1)
+name-unused k n m v ins h = let u = or-both (eqb k 0x00) (eqb k 0x11) h in rw (u .0, u .1)
 
 value-unused : (k : ℕ) (n : Name) (v w : ℕ) (ins : List ℕ) → hasValue k ≡ false → nodeOf k n v ins ≡ nodeOf k n w ins
 unfolding nodeOf hasValue

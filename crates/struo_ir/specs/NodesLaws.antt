@@ -1,12 +1,14 @@
 -- The walk over a record's nodes: its state at the start, after one more node, at a refusal and at the end. Assumes nothing.
 use Prim.Native.Nat.{ℕ, suc, _+_, _-_, _≤_, _<_}
 use mathlib.Core.Path.{_≡_, refl, sym, ap, _∙_}
-use mathlib.Core.Bool.{Bool, true, false, cond}
+use mathlib.Core.Bool.{true, cond}
 use mathlib.Core.List.{List, [], _∷_, _++_, map}
 use native.Mathlib.Omega.{arith}
 use lib.ListN.{take, set, replicate, length-set, length-replicate}
 use lib.Seq.{getD-set-other}
 use lib.Dec.{eqb}
+use Rattle.facts.specs.Lists.{getD-replicate, set-any}
+use Rattle.facts.specs.Numbers.{cond-le}
 use Rattle.model.specs.Answers.{Refusal}
 use Rattle.model.specs.Netlist.{portsFrom}
 use Rattle.model.specs.Record.{got, refused, refuse, pure, goOn, _>>=_, kinds, listedKind, node, nodesFrom}
@@ -17,7 +19,7 @@ use Rattle.fields.specs.Fields.{mapStep}
 use Rattle.struo_ir.specs.Decoded.{decodedNode}
 use Rattle.struo_ir.specs.Nodes.{cellAt, noNode, nodesOf, countOf, NodesRead, nodesTo, NodesSoFar}
 use Rattle.struo_ir.specs.NodeDecoding.{node-decoded, inputs-more, outputs-more}
-use Rattle.struo_ir.specs.ListLaws.{map-take-set, getD-repeat, getD-set-all}
+use Rattle.struo_ir.specs.ListLaws.{map-take-set}
 use Rattle.struo_ir.specs.StepLaws.{cell-listed}
 
 pub nodes-start : (s : List ℕ) (count at : ℕ) → NodesSoFar s count at (replicate 1024 noNode) 0 0 at 0
@@ -31,13 +33,9 @@ nodes-start s count at =
       inputs-are = refl;
       outputs-are = refl;
       rest = let e : count - 0 ≡ count = omega arith in rw e;
-      past = λ k h. getD-repeat 1024 k noNode;
-      listed = λ k. rw (getD-repeat 1024 k noNode);
+      past = λ k h. getD-replicate 1024 k noNode;
+      listed = λ k. rw (getD-replicate 1024 k noNode);
     }
-
-cond-le : (b : Bool) → cond b 1 0 ≤ 1
-cond-le true = omega arith
-cond-le false = omega arith
 
 module _ (s : List ℕ) (count at : ℕ) (nodes : List Node) (inputs outputs next i : ℕ) (so : NodesSoFar s count at nodes inputs outputs next i) where
   -- the node that the definition reads here
@@ -79,7 +77,7 @@ module _ (s : List ℕ) (count at : ℕ) (nodes : List Node) (inputs outputs nex
           outputs-are = rw (stored, outputs-more s (nodesTo s nodes i) n, ← so .outputs-are);
           rest = rest-more;
           past = λ k h. getD-set-other nodes i k n noNode (λ f. omega arith) ∙ so .past k (omega arith);
-          listed = getD-set-all (λ (m : Node). listedKind (m .kind) ≡ true) nodes i n noNode (so .listed) (cell-listed inputs outputs s next n end e);
+          listed = λ k. set-any (λ (m : Node). listedKind (m .kind) ≡ true) nodes i k n noNode (so .listed k) (cell-listed inputs outputs s next n end e);
         }
 
   -- a node is refused

@@ -1,12 +1,14 @@
 -- Laws of a reading: its outcome by the steps that the reader takes. Assumes nothing.
 use Prim.Native.Nat.{ℕ, _+_, _*_, _≤_, _<_}
 use mathlib.Core.Path.{_≡_, refl, sym, ap, _∙_}
-use mathlib.Core.Bool.{Bool, true, false, _&&_}
+use mathlib.Core.Bool.{true, false, _&&_}
 use mathlib.Core.List.{List, [], _∷_}
 use native.Mathlib.Omega.{arith}
 use lib.ListN.{length, getD, take, drop, replicate, length-replicate}
 use lib.Dec.{eqb, leb}
 use borrow.Author.Tests.{le-leb, lt-leb, leb-true, eq-eqb, ne-eqb}
+use Rattle.facts.specs.Bools.{and-both}
+use Rattle.facts.specs.Lists.{getD-replicate}
 use Rattle.model.specs.Names.{Name}
 use Rattle.model.specs.Lists.{member}
 use Rattle.model.specs.Netlist as Model
@@ -20,7 +22,6 @@ use Rattle.struo_ir.specs.declared.reader.Reading.{Reading}
 use Rattle.struo_ir.specs.Decoded.{nameAt}
 use Rattle.fields.specs.Fields.{mapStep, placed}
 use Rattle.fields.specs.FieldLaws.{bind-refused, bind-got, guard-passed}
-use Rattle.struo_ir.specs.ListLaws.{getD-repeat}
 use Rattle.struo_ir.specs.Nodes.{nodesTo, nodesOf, noNode, countOf, NodesRead}
 use Rattle.struo_ir.specs.Reading.{refusedAt, readBy, readOf, NodesPadded, RegistersPadded, NodesCounted, RegistersCounted, designOf, fromRegisters, fromNodes}
 use Rattle.struo_ir.specs.Registers.{registersTo, registersOf, noRegister, RegistersRead}
@@ -30,10 +31,10 @@ use Rattle.struo_ir.specs.StepLaws.{name-at}
 
 pub no-nodes-padded : NodesPadded 0 (replicate 1024 noNode)
 unfolding noNode listedKind kinds member
-no-nodes-padded = record { size = length-replicate 1024 noNode; fits = omega arith; past = λ k h. getD-repeat 1024 k noNode; listed = λ k. rw (getD-repeat 1024 k noNode) }
+no-nodes-padded = record { size = length-replicate 1024 noNode; fits = omega arith; past = λ k h. getD-replicate 1024 k noNode; listed = λ k. rw (getD-replicate 1024 k noNode) }
 
 pub no-registers-padded : RegistersPadded 0 (replicate 128 noRegister)
-no-registers-padded = record { size = length-replicate 128 noRegister; fits = omega arith; past = λ k h. getD-repeat 128 k noRegister }
+no-registers-padded = record { size = length-replicate 128 noRegister; fits = omega arith; past = λ k h. getD-replicate 128 k noRegister }
 
 pub read-refused : (s : List ℕ) (r : Reading) (n place : ℕ) → r .answer ≡ Answer.Refused n place → readOf s r ≡ refusedAt n place
 unfolding readOf readBy
@@ -151,10 +152,6 @@ length-bytes (a ∷ b ∷ []) h = absurd (omega arith)
 length-bytes (a ∷ b ∷ c ∷ []) h = absurd (omega arith)
 length-bytes (a ∷ b ∷ c ∷ d ∷ []) h = absurd (omega arith)
 length-bytes (a ∷ b ∷ c ∷ d ∷ e ∷ s) h = omega arith
-
-and-both : (x y : Bool) → (x && y) ≡ true → (x ≡ true) × (y ≡ true)
-and-both true y h = (refl, h)
-and-both false y h = absurd (let z : _≡_ {A = ℕ} 0 1 = cc in omega arith)
 
 module _ (s : List ℕ) where
   pub too-short : length s < 5 → false ≡ lengthFits s

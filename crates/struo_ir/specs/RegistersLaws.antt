@@ -5,6 +5,7 @@ use mathlib.Core.List.{List, [], _∷_, _++_}
 use native.Mathlib.Omega.{arith}
 use lib.ListN.{set, replicate, length-set, length-replicate}
 use lib.Seq.{getD-set-other}
+use Rattle.facts.specs.Lists.{getD-replicate}
 use Rattle.model.specs.Answers.{Refusal}
 use Rattle.model.specs.Record.{got, refused, refuse, pure, goOn, _>>=_, number, register, registersFrom}
 use Rattle.struo_ir.specs.declared.netlist.RegisterCell.{RegisterCell}
@@ -14,7 +15,7 @@ use Rattle.struo_ir.specs.Decoded.{decodedRegister}
 use Rattle.struo_ir.specs.Nodes.{countOf}
 use Rattle.struo_ir.specs.Registers.{resetFields, resetIf, registerReset, registerSignal, enableIf, registerAt, noRegister, registersTo, registersOf, RegistersRead, RegistersSoFar}
 use Rattle.struo_ir.specs.RegisterDecoding.{register-decoded}
-use Rattle.struo_ir.specs.ListLaws.{map-take-set, getD-repeat}
+use Rattle.struo_ir.specs.ListLaws.{map-take-set}
 
 module _ (c : RegisterCell) (s : List ℕ) (i : ℕ) where
   pub reset-none : (r : ℕ) → r ≡ 0 → got c i ≡ resetIf c r s i
@@ -42,7 +43,7 @@ registers-start s count at =
       bound = omega arith;
       size = length-replicate 128 noRegister;
       rest = let e : count - 0 ≡ count = omega arith in rw e;
-      past = λ k h. getD-repeat 128 k noRegister;
+      past = λ k h. getD-replicate 128 k noRegister;
     }
 
 module _ (s : List ℕ) (count at : ℕ) (registers : List RegisterCell) (next i : ℕ) (so : RegistersSoFar s count at registers next i) where

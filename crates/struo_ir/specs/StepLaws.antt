@@ -3,13 +3,12 @@ use Prim.Native.Nat.{ℕ, suc, _+_}
 use mathlib.Core.Path.{_≡_, refl, sym, ap, _∙_, subst}
 use mathlib.Core.Bool.{Bool, true, false, cond}
 use mathlib.Core.List.{List}
-use native.Mathlib.Omega.{arith}
 use native.Mathlib.Numerals.{add-one}
 use lib.ListN.{length, getD, take, drop}
 use lib.Dec.{leb}
-use Rattle.model.specs.Answers.{Refusal}
 use Rattle.model.specs.Names.{Name}
 use Rattle.model.specs.Record.{Step, got, refused, Reader, refuse, pure, goOn, _>>=_, tested, guard, bytes, byte, code, listedKind, nameBytes, name}
+use Rattle.laws.specs.Record.Reader.{got≢refused}
 use Rattle.struo_ir.specs.declared.netlist.Node.{Node}
 use Rattle.fields.specs.Fields.{mapStep, roomFor, kindAt}
 use Rattle.struo_ir.specs.Nodes.{cellOf, cellInputs, cellDetail, cellAt}
@@ -30,9 +29,6 @@ bind-last g f h s (got a j) e = e a j refl
 bind-last g f h s (refused r) e = refl
 
 -- ---- what a step that succeeds has read
-
-got≢refused : {A : Type 0} {a : A} {i : ℕ} {r : Refusal} → refused r ≡ got a i → ⊥
-got≢refused h = let z : _≡_ {A = ℕ} 0 1 = cc in omega arith
 
 cond-got : {A : Type 0} (t : Bool) (a b : A) (i j k n : ℕ) → cond t (got a j) (refuse n i) ≡ got b k → (a ≡ b) × (j ≡ k)
 unfolding refuse

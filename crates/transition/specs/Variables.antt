@@ -14,16 +14,17 @@ use Rattle.model.specs.Lists.{snoc, member, lookup, position}
 use Rattle.model.specs.Aig.{Node, Constant, Variable, And, Aig, Built, new, variable, isAnd, andFound, andShortcut, andUnless, and, or, xorShortcut, xorUnless, xor, muxShortcut, muxUnless, mux}
 use Rattle.model.specs.Netlist as Netlist
 use Rattle.model.specs.Netlist.{Enable, Reset, Register, Design, isRegisterOutput}
-use Rattle.model.specs.Validate.{Driver, driver, refuseIf, undriven, validate, nodesFault, registersFault, connectionFault}
+use Rattle.model.specs.Validate.{driver, refuseIf, undriven, validate, nodesFault, registersFault, connectionFault}
 use Rattle.model.specs.Transition.{Port, StateBit, Lowering, Registers, netLiteral, withNet, withLiteral, lowerInput, lowerOutput, resetMux, shown, lowerShown, lowerRegisterOutput, lowerNode, lowerNodes, noNodes, enabled, resetNext, withState, lowerRegister, lowerRegisters, systemOf, withRegisters, fromNetlist}
-use Rattle.laws.specs.Bools.{or-true}
+use Rattle.facts.specs.Bools.{or-true}
 use Rattle.laws.specs.Graph.Values.{node-even}
-use Rattle.laws.specs.Lists.{In, All, in-cases}
+use Rattle.facts.specs.Lists.{In, All, in-cases}
 use Rattle.laws.specs.Record.Accepted.{otherwise-none, refuseIf-none}
 use Rattle.laws.specs.Lowering.Lists.{in-map-left, in-map-right, in-sort, lookup-past, lookup-first}
 use Rattle.laws.specs.Lowering.Shape.{walk-keeps, KeyBelow, node-keys}
 use Rattle.laws.specs.Lowering.Registers.{driver-output, states-listed}
 use Rattle.aig.specs.Graph.{nodeOf, nodesOf}
+use Rattle.laws.specs.Lowering.Fits.{driven}
 
 -- ---- the variables of a graph
 
@@ -122,11 +123,6 @@ registers-none w g (r ∷ rs) =
     ∙ enabled-none (g .aig) (w .nets) (r .enable) (netLiteral (w .nets) (r .«data»)) s
 
 -- ---- the walk
-
-driven : (o : Option Driver) → undriven o ≡ false → (d : Driver) × (o ≡ some d)
-unfolding undriven
-driven none h = absurd (let z : _≡_ {A = ℕ} 0 1 = cc in omega arith)
-driven (some d) h = (d, refl)
 
 module _ (rs : List Register) (F : Lowering) where
   -- v is an input's variable, or that of a net that a register drives

@@ -69,7 +69,6 @@ pub record FramesMade (x y : System) (c : ℕ) (w gs ts : List ℕ) (c′ : ℕ)
   pub same : Same beyond w w′
   pub grows : c ≤ c′
   pub within : c′ ≤ c + frameCost x y w
-  pub inputs : Below (c′ * 2) (x .«input_count») ins
   pub gold-outputs : Below (c′ * 2) (x .«output_count») go
   pub gold-next : Below (c′ * 2) (x .«state_count») gn
   pub gate-outputs : Below (c′ * 2) (y .«output_count») to
@@ -157,7 +156,6 @@ module _ (r : ℕ) (x y : System) (c : ℕ) (w gs ts : List ℕ) (s : Startable 
             same = same-trans same-two (h .same);
             grows = omega (arith, v .grows, f .grows, h .grows);
             within = omega (arith, gold-cost, h .within, conjunctions-same y w w₂ (s .paired .gate) same-two);
-            inputs = below-le _ _ _ _ (omega (arith, f .grows, h .grows)) (v .below);
             gold-outputs = below-le _ _ _ _ (omega (arith, h .grows)) (f .outputs);
             gold-next = below-le _ _ _ _ (omega (arith, h .grows)) (f .next);
             gate-outputs = h .outputs;
@@ -172,10 +170,7 @@ pub record Compared (x y : System) (c : ℕ) (w gs ts : List ℕ) (c′ : ℕ) (
   pub same : Same beyond w w′
   pub grows : c ≤ c′
   pub within : c′ ≤ c + (frameCost x y w + 4 * x .«output_count»)
-  pub inputs : Below (c′ * 2) (x .«input_count») ins
-  pub gold-outputs : Below (c′ * 2) (x .«output_count») go
   pub gold-next : Below (c′ * 2) (x .«state_count») gn
-  pub gate-outputs : Below (c′ * 2) (x .«output_count») to
   pub gate-next : Below (c′ * 2) (y .«state_count») tn
   pub mismatch : m < c′ * 2
   pub is : (p : Problem) → Standing x y w p
@@ -197,10 +192,7 @@ compared x y c w gs ts c₃ w₃ ins go gn to tn c′ w′ m q f d =
       same = same-trans (f .same) (same-beyond (d .same));
       grows = omega (arith, f .grows, d .grows);
       within = omega (arith, f .within, d .within);
-      inputs = below-le _ _ _ _ (omega (arith, d .grows)) (f .inputs);
-      gold-outputs = below-le _ _ _ _ (omega (arith, d .grows)) (f .gold-outputs);
       gold-next = below-le _ _ _ _ (omega (arith, d .grows)) (f .gold-next);
-      gate-outputs = rw (q .outputs) at (below-le (c₃ * 2) (c′ * 2) (y .«output_count») to (omega (arith, d .grows)) (f .gate-outputs));
       gate-next = below-le _ _ _ _ (omega (arith, d .grows)) (f .gate-next);
       mismatch = d .below;
       is = λ p t. made p t ∙ ap (λ (g : Frames). cycleOf g (compareOutputs (g .gate .aig) (g .gold .outputs) (g .gate .outputs))) (f .is p t);

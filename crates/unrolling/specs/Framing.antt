@@ -1,13 +1,12 @@
 -- One cycle of a side in the proof graph, by the literals given to its variables and the import. Assumes nothing.
-use mathlib.Core.Path.{_≡_, refl, ap, ap₂, sym, _∙_}
+use mathlib.Core.Path.{_≡_, ap, ap₂, sym, _∙_}
 use mathlib.Core.Bool.{Bool, true, false, cond}
-use mathlib.Core.List.{List, [], _∷_, _++_, map}
+use mathlib.Core.List.{List, _++_, map, map-append}
 use Prim.Native.Nat.{ℕ, zero, suc, _+_, _*_, _/_, _≤_, _<_}
 use native.Mathlib.Omega.{arith}
 use lib.ListN.{length, getD, take}
-use lib.Seq.{getD-take}
 use Rattle.words.specs.Region.{region}
-use Rattle.model.specs.Literal.{Literal, FALSE, node, inverted, negate}
+use Rattle.model.specs.Literal.{Literal, FALSE, inverted, negate}
 use Rattle.model.specs.Lists.{zip, lookup, member}
 use Rattle.model.specs.Aig.{Aig}
 use Rattle.model.specs.Transition.{Port, StateBit, TransitionSystem}
@@ -15,8 +14,9 @@ use Rattle.model.specs.Equivalence.{Import, remapLiteral, importAig, Frame, fra
 use Rattle.aig.specs.Graph.{graphOf, graphAt}
 use Rattle.aig.specs.Made.{Ready, Same, same-trans}
 use Rattle.aig.specs.Shortcut.{negate-below}
-use Rattle.import.specs.Importing.{beyond, Importing, Sourced, Given, Inside, imported-is, remap-inside}
+use Rattle.import.specs.Importing.{beyond, Importing, Sourced, Given, Inside, imported-is, remap-inside, remap-take}
 use Rattle.lowering.specs.Firsts.{firsts, pairs, pairs-zip, Below, Mapped, firsts-map}
+use Rattle.transition.specs.Gather.{map-map}
 use Rattle.unrolling.specs.Side.{conjunctionsOf, rhs-same, graph-same, formed-same, stands-same, conjunctions-same}
 use Rattle.transition.specs.Side.{Formed, Stands}
 use Rattle.unrolling.specs.Give.{given, given-same, given-ready, given-graph, given-at, given-append, lookup-covered, AllBelow, lookup-below, below-append, below-pairs, keys-pairs}
@@ -45,22 +45,6 @@ pub record Framed (y : System) (c : ℕ) (w ins sts : List ℕ) (c′ : ℕ) (w�
 -- the pairs of variables and literals of a cycle
 abbrev pub framePairs : System → List ℕ → List ℕ → List (ℕ × ℕ)
 framePairs y ins sts = pairs (y .«input_count») (y .inputs) ins ++ pairs (y .«state_count») (y .variables) sts
-
-map-append : {A B : Type 0} (f : A → B) (xs ys : List A) → map f (xs ++ ys) ≡ map f xs ++ map f ys
-map-append f [] ys = refl
-map-append f (x ∷ xs) ys = ap (λ zs. f x ∷ zs) (map-append f xs ys)
-
-map-map : {A : Type 0} (f : ℕ → ℕ) (g : A → ℕ) (xs : List A) → map f (map g xs) ≡ map (λ x. f (g x)) xs
-map-map f g [] = refl
-map-map f g (x ∷ xs) = ap (λ zs. f (g x) ∷ zs) (map-map f g xs)
-
-halved : (l i : ℕ) → l < i * 2 → node l < i
-unfolding node
-halved l i h = omega arith
-
-remap-take : (i : ℕ) (imported : List ℕ) (l : ℕ) → l < i * 2 → remapLiteral (take i imported) l ≡ remapLiteral imported l
-unfolding remapLiteral
-remap-take i imported l h = rw (getD-take i imported (node l) 0 (halved l i h))
 
 module _ (y : System) (c : ℕ) (w ins sts : List ℕ) (f : Framable y c w ins sts) where
   keys : map (λ (v : ℕ × ℕ). v .0) (framePairs y ins sts) ≡ firsts (y .«input_count») (y .inputs) ++ firsts (y .«state_count») (y .variables)

@@ -12,8 +12,8 @@ use borrow.Author.Tests.{eqb-true, eqb-false, ne-eqb}
 use Rattle.words.specs.Region.{region, stored, stores, length-region, length-stored}
 use Rattle.model.specs.Lists.{snoc, lookup, member}
 use Rattle.aig.specs.Graph.{graphOf}
-use Rattle.aig.specs.Made.{Ready, Same, same-refl, same-trans}
-use Rattle.import.specs.Importing.{beyond, ready-imported, graph-imported, same-imported}
+use Rattle.aig.specs.Made.{Ready, Same, same-refl, same-trans, ready-stored, graph-stored}
+use Rattle.import.specs.Importing.{beyond, same-imported}
 use Rattle.lowering.specs.Firsts.{firsts, pairs, pairs-suc, map-snoc, Below}
 
 -- the words with the literal of each pair at its place; of equal places the first pair counts
@@ -51,12 +51,12 @@ given-same (v ∷ vs) w = same-trans (given-same vs w) (same-imported (given vs 
 pub given-ready : (vs : List (ℕ × ℕ)) (c : ℕ) (w : List ℕ) → Ready c w → Ready c (given vs w)
 unfolding given
 given-ready [] c w r = r
-given-ready (v ∷ vs) c w r = ready-imported c (given vs w) (v .0) (v .1) (given-ready vs c w r)
+given-ready (v ∷ vs) c w r = ready-stored 458752 c (given vs w) (v .0) (v .1) refl (given-ready vs c w r)
 
 pub given-graph : (vs : List (ℕ × ℕ)) (c : ℕ) (w : List ℕ) → graphOf c (given vs w) ≡ graphOf c w
 unfolding given
 given-graph [] c w = refl
-given-graph (v ∷ vs) c w = graph-imported c (given vs w) (v .0) (v .1) ∙ given-graph vs c w
+given-graph (v ∷ vs) c w = graph-stored 458752 c (given vs w) (v .0) (v .1) refl ∙ given-graph vs c w
 
 -- what stands at a place
 pub given-at : (vs : List (ℕ × ℕ)) (w : List ℕ) (j : ℕ) → 8388608 ≤ length w → j < 65536

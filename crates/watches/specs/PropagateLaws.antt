@@ -2,19 +2,21 @@
 use mathlib.Core.Path.{_≡_, refl, ap, sym, _∙_}
 use mathlib.Core.List.{List, [], _∷_, _++_, map, append-assoc, append-nil}
 use mathlib.Core.Logic.{⊎-elim}
-use mathlib.Core.Option.{none, some}
+use mathlib.Core.Option.{some}
 use Prim.Native.Nat.{ℕ, zero, suc, _+_, _-_, _*_, _<_, _≤_}
 use native.Mathlib.Omega.{arith}
 use native.Mathlib.Numerals.{add-one}
 use lib.ListN.{set, getD, length, getElem?}
 use lib.Seq.{set-set, set-out, set-getD, getD-set-same, getD-take}
+use Rattle.facts.specs.Numbers.{below}
+use Rattle.facts.specs.Lists.{getElem-in, getElem-out}
 use Rattle.words.specs.Region.{region, stored, stored-out, length-stored}
 use Rattle.model.specs.Literal as Literals
 use Rattle.model.specs.Lists.{snoc, member}
 use Rattle.model.specs.Sat as Sat
 use Rattle.model.specs.Sat.{Solver}
 use Rattle.assignment.specs.State.{assignmentOf, Ready, Unchanged}
-use Rattle.assignment.specs.StateLaws.{unchanged-none, unchanged-both, unchanged-stored}
+use Rattle.assignment.specs.StateLaws.{unchanged-none, unchanged-both, unchanged-stored, trail-length, variables-are}
 use Rattle.assignment.specs.declared.state.Trail.{Trail}
 use Rattle.clauses.specs.declared.state.Store.{Store}
 use Rattle.clauses.specs.declared.state.Pending.{Pending}
@@ -22,9 +24,9 @@ use Rattle.clauses.specs.declared.state.Propagation.{Propagation}
 use Rattle.clauses.specs.declared.state.Propagation.the-variants as Propagations
 use Rattle.clauses.specs.Queue.{queuesOf, queue, walk}
 use Rattle.clauses.specs.Sound.{SoundQueues, drop-sound}
-use Rattle.clauses.specs.Clauses.{half, below, watchesOf, same-clauses, no-watch-list, watch-list, length-watches, taken-sound, taken-watches}
+use Rattle.clauses.specs.Clauses.{half, watchesOf, same-clauses, no-watch-list, watch-list, length-watches, taken-sound, taken-watches}
 use Rattle.clauses.specs.State.{solverOf, trailOf, propagationOf, pendingOf, restOf, appended, Formed, Sound, Step, Visiting, Visits, Taken, Propagates, advanced, watchRegions, searchRegions}
-use Rattle.clauses.specs.StepLaws.{step-both, formed-kept, same-assignment, watches-only, length-values, length-trail}
+use Rattle.clauses.specs.StepLaws.{step-both, formed-kept, same-assignment, watches-only}
 use Rattle.watches.specs.VisitLaws.{pending-cons}
 
 -- ---- clauses appended to a watch list
@@ -201,23 +203,13 @@ module _ (m : Store) (t : Trail) (w : List ℕ) (f : ℕ) (s : Sound m t w []) w
 
 -- ---- a round
 
-element-some : {A : Type 0} (xs : List A) (i : ℕ) (d : A) → i < length xs → getElem? xs i ≡ some (getD xs i d)
-element-some [] i d h = absurd (omega arith)
-element-some (x ∷ xs) zero d h = refl
-element-some (x ∷ xs) (suc i) d h = element-some xs i d (omega arith)
-
-element-none : {A : Type 0} (xs : List A) (i : ℕ) → length xs ≤ i → getElem? xs i ≡ none
-element-none [] i h = refl
-element-none (x ∷ xs) zero h = absurd (omega arith)
-element-none (x ∷ xs) (suc i) h = element-none xs i (omega arith)
-
 head-read : (t : Trail) (w : List ℕ) → t .head < t .length → getD (assignmentOf t w .trail) (t .head) 0 ≡ getD (region 983040 w) (t .head) 0
 unfolding assignmentOf
 head-read t w h = getD-take (t .length) (region 983040 w) (t .head) 0 h
 
 -- the literal at the head
 head-literal : (t : Trail) (w : List ℕ) → Ready t w → t .head < t .length → getElem? (assignmentOf t w .trail) (t .head) ≡ some (getD (region 983040 w) (t .head) 0)
-head-literal t w r h = element-some (assignmentOf t w .trail) (t .head) 0 (omega (arith, length-trail t w r)) ∙ ap (λ (l : ℕ). some l) (head-read t w h)
+head-literal t w r h = getElem-in (assignmentOf t w .trail) (t .head) 0 (omega (arith, trail-length t w r)) ∙ ap (λ (l : ℕ). some l) (head-read t w h)
 
 -- the head one further
 pub advanced-sound : (m : Store) (t : Trail) (w : List ℕ) (p : List ℕ) → Sound m t w p → Sound m (advanced t) w p
@@ -280,7 +272,7 @@ module _ (m : Store) (t : Trail) (w : List ℕ) (f : ℕ) (d : Pending) (u : Lis
 -- at the end of the trail
 round-none : (m : Store) (t : Trail) (w : List ℕ) → Ready t w → t .length ≤ t .head → (s : Solver) → Sat.propagateRound (solverOf s m t w) ≡ Sat.complete (solverOf s m t w)
 unfolding Sat.propagateRound Sat.propagateAssigned solverOf
-round-none m t w r h s = rw (head-is t w, element-none (assignmentOf t w .trail) (t .head) (omega (arith, length-trail t w r)))
+round-none m t w r h s = rw (head-is t w, getElem-out (assignmentOf t w .trail) (t .head) (omega (arith, trail-length t w r)))
 
 rounds-complete : (n : ℕ) (s : Solver) → Sat.propagateRounds n (Sat.complete s) ≡ Sat.complete s
 unfolding Sat.propagateRounds
@@ -310,7 +302,7 @@ module _ (m : Store) (t₀ : Trail) (w₀ : List ℕ) where
     done = record { frame = unchanged-none searchRegions w₀; sound = s; variables = refl; level = refl };
     from = omega arith;
     fuel = omega arith;
-    left = λ v. let e : suc (t₀ .variables) - (t₀ .head - t₀ .head) ≡ suc (t₀ .variables) = omega arith in rw (e, length-values t₀ w₀ (s .formed .ready));
+    left = λ v. let e : suc (t₀ .variables) - (t₀ .head - t₀ .head) ≡ suc (t₀ .variables) = omega arith in rw (e, variables-are t₀ w₀ (s .formed .ready));
   }
 
   module _ (t : Trail) (w : List ℕ) (i : Rounds m t₀ w₀ t w) where

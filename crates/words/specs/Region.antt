@@ -2,13 +2,14 @@
 use mathlib.Core.Path.{_≡_, refl, ap, sym, _∙_}
 use mathlib.Core.Bool.{Bool, true, false, _||_, cond}
 use mathlib.Core.List.{List, [], _∷_, _++_}
-use mathlib.Core.Logic.{⊎-elim, _⊎_, inl, inr}
+use mathlib.Core.Logic.{⊎-elim, _⊎_}
 use Prim.Native.Nat.{ℕ, zero, suc, _+_, _-_, _≤_, _<_}
 use native.Mathlib.Omega.{arith}
 use native.Mathlib.Numerals.{add-one}
 use lib.Dec.{leb, ltb}
 use borrow.Author.Tests.{leb-true, ltb-true, ltb-false}
 use lib.ListN.{length, take, drop, set, getD, length-take, length-drop, length-set, List·getD-eq-default}
+use Rattle.facts.specs.Bools.{or-cases}
 use Rattle.words.specs.Fill.{filled, filled-suc, filled-none}
 use lib.Seq.{take-set-le, take-set-lt, take-suc-set, drop-set-lt, drop-set-add, getD-take, getD-drop, set-out}
 
@@ -29,10 +30,6 @@ pub inside : (b : ℕ) (w : List ℕ) (i v : ℕ) → i < sizeOf b → region b 
 unfolding region
 inside b w i v h = rw (drop-set-add, take-set-lt)
 
-either : (x y : Bool) → (x || y) ≡ true → (x ≡ true) ⊎ (y ≡ true)
-either true y e = inl refl
-either false y e = inr e
-
 -- THE FRAME: a store into another region
 pub frame : (b : ℕ) (w : List ℕ) (b′ i v : ℕ) → apart b b′ ≡ true → i < sizeOf b′ → region b (set w (b′ + i) v) ≡ region b w
 unfolding region
@@ -41,7 +38,7 @@ frame b w b′ i v e h =
     let s : b + (b′ + i - b) ≡ b′ + i = omega (arith, leb-true (b + sizeOf b) b′ k) in
     rw (← s, drop-set-add, take-set-le))
     (λ k. let k′ : b′ + i < b = omega (arith, leb-true (b′ + sizeOf b′) b k) in rw drop-set-lt)
-    (either _ _ e)
+    (or-cases _ _ e)
 
 pub read : (b : ℕ) (w : List ℕ) (i : ℕ) → i < sizeOf b → getD w (b + i) 0 ≡ getD (region b w) i 0
 unfolding region

@@ -8,7 +8,7 @@ use mathlib.Core.List.{List, []}
 use Rattle.model.specs.Sat.{Answer, model, noModel, gaveUp, outOfFuel}
 use Rattle.model.specs.Equivalence.{Problem, Query, baseCounterexample, basePreservesNamedState, inductionCloses, ask, Verdict, Equivalent, Inconclusive, GaveUp, Asked, Proving, undecided, decided, askedToo, notEquivalentAt, afterQuery4, query4, afterQuery3, afterQuery2, afterQuery1, query1, atDepth, depths, proveSequentialEquivalence}
 use Rattle.laws.specs.Terms.{NoModel, Exceeds, NamedOpen, Passed, Stops, at-query-1, at-query-2, at-query-3, at-query-4}
-use Rattle.laws.specs.Lists.{by-eq}
+use Rattle.facts.specs.Numbers.{by-eq}
 use Rattle.laws.specs.Queries.Formed.{Askable, query-1-askable, query-2-askable, query-3-4-askable}
 use Rattle.laws.specs.Search.Ending.{solve-not-out}
 use Rattle.laws.specs.Search.Reached.{solve-gives-up}

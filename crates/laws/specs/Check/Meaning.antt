@@ -20,7 +20,7 @@ use Rattle.model.specs.Check.{checkDesigns}
 use Rattle.laws.specs.Terms.{NoModel, Model, NamedOpen, Passed}
 use Rattle.laws.specs.Check.Course.{Decides, differs, closes-named, closes, stops, Course, decides, passes, verdict-course}
 use Rattle.laws.specs.Search.Model.{refutes, finds}
-use Rattle.laws.specs.Lists.{All}
+use Rattle.facts.specs.Lists.{All}
 use Rattle.laws.specs.Queries.Base.{problem, problem-initial, Satisfies, query-1-from, query-1-to, query-2-from, query-2-to}
 use Rattle.laws.specs.Queries.Step.{query-3-from, query-3-to, query-4-from, query-4-to}
 use Rattle.laws.specs.Queries.Replayed.{TraceGood, trace-replays}

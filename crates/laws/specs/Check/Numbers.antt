@@ -21,7 +21,7 @@ use Rattle.model.specs.Induction.{answered, Says, notEquivalent}
 use Rattle.model.specs.Equivalence.{Verdict, Equivalent, NotEquivalent, Inconclusive, GaveUp, OutOfFuel}
 use Rattle.model.specs.Check.{checkDesigns, checkPair, checkRead, checkOutcome, verdictAnswer, checkAnswer, overwrite, verdictTrace, traceAfter, checkResult, lentOf, learnedLimit, check, checked}
 use Rattle.laws.specs.Terms.{Numbered, Called, TraceLeft}
-use Rattle.laws.specs.Bools.{or-left}
+use Rattle.facts.specs.Bools.{or-left}
 use Rattle.laws.specs.Induction.Chain.{Accepted, accepted-pair}
 use Rattle.laws.specs.Induction.Pairs.{Facts, facts-of}
 use Rattle.laws.specs.Check.Call.{check-numbered}

@@ -18,7 +18,7 @@ use Rattle.model.specs.Aig.{evaluate, aigNodeValues}
 use Rattle.model.specs.Sat.{Solver, Answer, model, noModel, gaveUp, outOfFuel, encode}
 use Rattle.model.specs.Equivalence.{Problem, Query, baseCounterexample, basePreservesNamedState, inductionCloses, ask}
 use Rattle.model.specs.Check.{problemOf}
-use Rattle.laws.specs.Lists.{All, all-from, all-at}
+use Rattle.facts.specs.Lists.{All, all-from, all-at}
 use Rattle.laws.specs.Terms.{QueryOf, query-1, query-2, query-3, query-4, Asks, literalCount, Reached, GivesUp}
 use Rattle.laws.specs.Queries.Formed.{Askable, query-1-askable, query-2-askable, query-3-4-askable}
 use Rattle.laws.specs.Pairwise.{pairs-length}

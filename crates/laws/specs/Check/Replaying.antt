@@ -6,6 +6,7 @@ use mathlib.Core.Bool.{true, false, not}
 use mathlib.Core.List.{List}
 use mathlib.Core.Option.{none}
 use lib.ListN.{length}
+use borrow.Author.Tests.{not-false}
 use Rattle.model.specs.Names.{Name, Place, memberName, sameNames, sort, namesOf}
 use Rattle.model.specs.Netlist.{Design, inputName, outputName, portsFrom, inputs, outputs}
 use Rattle.model.specs.Validate.{validate}
@@ -13,7 +14,6 @@ use Rattle.model.specs.Run.{initialBits}
 use Rattle.model.specs.Pair.{both, readPair, inputsDiffer, outputsDiffer, interfaceFault, replayFault}
 use Rattle.model.specs.Replay.{replays, replayPair, replayRead, replay, claimInputs}
 use Rattle.laws.specs.Terms.{Yes}
-use Rattle.laws.specs.Bools.{not-false}
 use Rattle.laws.specs.Names.Order.{Distinct, sort-increasing}
 use Rattle.laws.specs.Names.Sets.{SameSet, increasing-unique, inputs-distinct, outputs-distinct}
 use Rattle.laws.specs.Record.Accepted.{otherwise-none, refuseIf-none, accepted-parsed}

@@ -14,7 +14,7 @@ use Rattle.model.specs.Pair.{readPair}
 use Rattle.model.specs.Induction.{answered, SelfLaw}
 use Rattle.model.specs.Equivalence.{Outcome, Equivalent}
 use Rattle.model.specs.Check.{checkDesigns, checkPair, checkRead, checkOutcome, verdictSays, outcomeSays, checkUnder}
-use Rattle.laws.specs.Bools.{or-left, or-right}
+use Rattle.facts.specs.Bools.{or-left, or-right}
 use Rattle.laws.specs.Record.Accepted.{register-new, otherwise-none, accepted-parsed}
 use Rattle.laws.specs.Names.Sorting.{Apart, Distinct, namesBy}
 use Rattle.laws.specs.Induction.Chain.{Accepted, accepted-pair, readPair-both, one-design}

@@ -3,7 +3,7 @@ use Prim.Native.Nat.{ℕ, zero, suc, _+_, _*_, _≤_, _<_, min, max}
 use native.Mathlib.Omega.{arith}
 use native.Mathlib.Nat.{add-zero, zero-add, add-suc, suc-add}
 use mathlib.Core.Path.{_≡_, refl, ap, ap₂, _∙_}
-use mathlib.Core.Bool.{Bool, true, false, not, _&&_, _||_, cond, xor as xor-bool, false≢true}
+use mathlib.Core.Bool.{Bool, true, false, not, _&&_, _||_, cond, xor as xor-bool, false≢true, and-comm}
 use mathlib.Core.List.{List, [], _∷_}
 use mathlib.Core.Option.{Option, none, some}
 use lib.ListN.{length, getElem?, List·getD-append}
@@ -13,8 +13,8 @@ use Rattle.model.specs.Literal.{Literal, FALSE, TRUE, node, inverted, negate}
 use Rattle.model.specs.Lists.{position, nextPlace, snoc}
 use Rattle.model.specs.Aig.{Node, Constant, Variable, And, Aig, Built, new, variable, isAnd, andFound, andShortcut, andUnless, and, or, xorShortcut, xorUnless, xor, muxShortcut, muxUnless, mux, evaluate, aigNodeValue, aigValuesFrom, aigNodeValues}
 use Rattle.laws.specs.Lists.{length-snoc, getD-snoc-new}
-use Rattle.laws.specs.Graph.Values.{Below, InOrder, at-node, values-snoc, length-values, Grounded, node-negate, and-comm, lit-neg, lit-0, lit-1, Sound, and-shortcut-sound, lit-even}
-use Rattle.laws.specs.Bools.{and-left, and-right, by-cond}
+use Rattle.laws.specs.Graph.Values.{Below, InOrder, at-node, values-snoc, length-values, Grounded, node-negate, lit-neg, lit-0, lit-1, Sound, and-shortcut-sound, lit-even}
+use Rattle.facts.specs.Bools.{and-left, and-right, by-cond, xor-self, cond-same}
 
 -- ---- the hash
 
@@ -209,11 +209,6 @@ module _ (environment : ℕ → Bool) where
   Fits vs k x none = Unit {0}
   Fits vs k x (some l) = (evaluate vs l ≡ x) × (node l < k)
 
-  xor-self : (a : Bool) → xor-bool a a ≡ false
-  unfolding xor-bool
-  xor-self true = refl
-  xor-self false = refl
-
   xor-other : (a : Bool) → xor-bool (not a) a ≡ true
   unfolding xor-bool
   xor-other true = refl
@@ -230,10 +225,6 @@ module _ (environment : ℕ → Bool) where
   cond-by-ands true true e = refl
   cond-by-ands true false e = refl
   cond-by-ands false t e = refl
-
-  cond-same : (c t : Bool) → cond c t t ≡ t
-  cond-same true t = refl
-  cond-same false t = refl
 
   cond-bit : (c : Bool) → cond c true false ≡ c
   cond-bit true = refl

@@ -3,7 +3,7 @@ use Prim.Native.Nat.{ℕ, zero, suc, _+_, _-_, _*_, _/_, _%_, _<_}
 use native.Mathlib.Omega.{arith}
 use native.Mathlib.Nat.{add-zero}
 use mathlib.Core.Path.{_≡_, refl, sym, _∙_}
-use mathlib.Core.Bool.{Bool, true, false, not, _&&_, _||_, cond, xor as xor-bool}
+use mathlib.Core.Bool.{Bool, true, false, not, _&&_, _||_, cond, xor as xor-bool, and-false, and-true, and-self, not-and-self}
 use mathlib.Core.List.{List, [], _∷_}
 use mathlib.Core.Option.{Option, none, some}
 use lib.ListN.{length, getD, getElem?, List·getD-append}
@@ -13,7 +13,7 @@ use Rattle.model.specs.Literal.{node, inverted, negate}
 use Rattle.model.specs.Lists.{snoc}
 use Rattle.model.specs.Aig.{Node, Constant, Variable, And, andShortcut, and, evaluate, aigNodeValue, aigValuesFrom}
 use Rattle.laws.specs.Lists.{length-snoc, getD-snoc-new}
-use Rattle.laws.specs.Bools.{by-cond}
+use Rattle.facts.specs.Bools.{by-cond}
 
 -- ---- graphs in order
 
@@ -120,27 +120,6 @@ by-or : {C : Type 0} {s t : Bool} → (s ≡ true → C) → (t ≡ true → C) 
 by-or {s = true} f g e = f refl
 by-or {s = false} f g e = g e
 
-and-false : (a : Bool) → a && false ≡ false
-and-false true = refl
-and-false false = refl
-
-and-true : (a : Bool) → a && true ≡ a
-and-true true = refl
-and-true false = refl
-
-and-self : (a : Bool) → a && a ≡ a
-and-self true = refl
-and-self false = refl
-
-not-and : (a : Bool) → not a && a ≡ false
-not-and true = refl
-not-and false = refl
-
--- a conjunction is the same either way round
-pub and-comm : (a b : Bool) → a && b ≡ b && a
-and-comm true b = sym (and-true b)
-and-comm false b = sym (and-false b)
-
 module _ (vs : List Bool) where
   -- a negation has the other value
   pub lit-neg : (l : ℕ) → evaluate vs (negate l) ≡ not (evaluate vs l)
@@ -174,7 +153,7 @@ module _ (vs : List Bool) where
       λ _.
       by-cond (Sound k a b) {x = some a}
       (by-or (λ e. (rw (eqb-true b 1 e, lit-1 g, and-true), ha)) (λ e. (rw (eqb-true a b e, and-self), ha)))
-      λ _. by-cond (Sound k a b) {x = some 0} (λ e. (rw (eqb-true a (negate b) e, lit-neg, lit-0 g, not-and), omega arith)) (λ _. tt)
+      λ _. by-cond (Sound k a b) {x = some 0} (λ e. (rw (eqb-true a (negate b) e, lit-neg, lit-0 g, not-and-self), omega arith)) (λ _. tt)
 
   -- the plain literal of a node has the node's value
   pub lit-even : (i : ℕ) → evaluate vs (i * 2) ≡ getD vs i false

@@ -11,7 +11,7 @@ use lib.ListN.{length, length-map}
 use borrow.Author.Tests.{not-false}
 use Rattle.model.specs.Answers.{Equivalent, NotEquivalent}
 use Rattle.model.specs.Names.{Name, sameName, sameNames, namesOf}
-use Rattle.laws.specs.Bools.{and-left, and-right}
+use Rattle.facts.specs.Bools.{and-left, and-right}
 use Rattle.laws.specs.Names.Order.{same-eq}
 use Rattle.model.specs.Netlist.{Design, outputs}
 use Rattle.model.specs.Record.{Read, parsed, refusedRecord}

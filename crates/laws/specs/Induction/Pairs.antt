@@ -89,7 +89,8 @@ names-refl (x ∷ xs) = rw (same-refl x) (names-refl xs)
 names-swap : (xs ys : List Name) → not (sameNames xs ys) ≡ false → not (sameNames ys xs) ≡ false
 names-swap xs ys h = let e : xs ≡ ys = same-names xs ys (not-false _ h) in subst (λ (z : List Name). not (sameNames z xs) ≡ false) e (ap not (names-refl xs))
 
-names-length : (ps qs : List Place) → not (sameNames (namesOf ps) (namesOf qs)) ≡ false → length ps ≡ length qs
+-- lists of places with the same names are as long
+pub names-length : (ps qs : List Place) → not (sameNames (namesOf ps) (namesOf qs)) ≡ false → length ps ≡ length qs
 unfolding namesOf
 names-length ps qs h = sym (length-map ps _) ∙ ap length (same-names (namesOf ps) (namesOf qs) (not-false _ h)) ∙ length-map qs _
 

@@ -11,7 +11,7 @@ use Rattle.model.specs.Netlist.{Design}
 use Rattle.model.specs.Run.{InputSequence, StoredBits, storedAt, outputsAt, nextStored, nodeValues, outputBits}
 use Rattle.model.specs.Induction.{Closes, Query1, Undecided, UndecidedBelow, Says, notEquivalent, equivalent, inconclusive, Query2, Query3, Query4, namedDifferAt, eitherDifferAt, InductionSound, DifferenceFound}
 use Rattle.model.specs.Replay.{differAt}
-use Rattle.laws.specs.Bools.{is-false, or-false, or-left, or-right}
+use Rattle.facts.specs.Bools.{is-false, or-false, or-left, or-right}
 
 module _ {gold gate : Design} {s t : StoredBits} where
   -- two depths that give a verdict, with none below, are the same

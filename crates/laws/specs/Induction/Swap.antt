@@ -8,7 +8,7 @@ use mathlib.Core.Option.{Option, none, some}
 use native.Mathlib.Omega.{arith}
 use Rattle.model.specs.Answers.{Status}
 use Rattle.model.specs.Names.{Name, Place, sameName, memberName}
-use Rattle.laws.specs.Bools.{both-ways, or-cases, or-left, or-right, or-true, xor-swap}
+use Rattle.facts.specs.Bools.{both-ways, or-cases, or-left, or-right, or-true, xor-swap}
 use Rattle.laws.specs.Names.Order.{same-eq, same-refl, sort-perm}
 use Rattle.model.specs.Netlist.{Node, Register, Design, registerPlaces, registersByName}
 use Rattle.model.specs.Validate.{registersFault, nodesFault, validate}

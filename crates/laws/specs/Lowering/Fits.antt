@@ -16,7 +16,7 @@ use Rattle.model.specs.Lists.{snoc, lookup}
 use Rattle.model.specs.Aig.{Aig, new, variable}
 use Rattle.model.specs.Transition.{Port, Lowering, lowerInput, lowerShown, lowerRegisterOutput, lowerNode, lowerNodes, noNodes}
 use Rattle.laws.specs.Graph.Values.{node-even}
-use Rattle.laws.specs.Lists.{In, All, all-append, all-map}
+use Rattle.facts.specs.Lists.{In, All, all-append, all-map}
 use Rattle.laws.specs.Graph.Operations.{Formed}
 use Rattle.laws.specs.Record.Accepted.{otherwise-none, refuseIf-none}
 use Rattle.laws.specs.Lowering.Lists.{in-map-left, in-map-right, lookup-past, lookup-first}
@@ -99,7 +99,8 @@ module _ (rs : List Register) (inp : InputBits) (stored : StoredBits) (L : List 
 
 -- ---- another environment with the same bits
 
-driven : (o : Option Driver) → undriven o ≡ false → (d : Driver) × (o ≡ some d)
+-- a driver that is not missing is there
+pub driven : (o : Option Driver) → undriven o ≡ false → (d : Driver) × (o ≡ some d)
 unfolding undriven
 driven none h = absurd (let z : _≡_ {A = ℕ} 0 1 = cc in omega arith)
 driven (some d) h = (d, refl)

@@ -9,7 +9,7 @@ use lib.Dec.{eqb}
 use borrow.Author.Tests.{eqb-true, eqb-false, eq-eqb, ne-eqb}
 use Rattle.model.specs.Names.{Name, Place, before, insertByName, sortByName, sort}
 use Rattle.model.specs.Lists.{zip, lookup}
-use Rattle.laws.specs.Lists.{In, All}
+use Rattle.facts.specs.Lists.{In, All}
 use Rattle.laws.specs.Pairwise.{Pairwise}
 
 -- ---- sorted alike

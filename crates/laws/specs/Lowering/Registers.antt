@@ -17,9 +17,9 @@ use Rattle.model.specs.Literal.{Literal, FALSE, node}
 use Rattle.model.specs.Lists.{snoc, member, lookup}
 use Rattle.model.specs.Aig.{Aig, Built}
 use Rattle.model.specs.Transition.{StateBit, Lowering, netLiteral, enabled, resetNext, Registers, withState, lowerRegister, lowerRegisters}
-use Rattle.laws.specs.Lists.{In, All}
+use Rattle.facts.specs.Lists.{In, All}
 use Rattle.laws.specs.Pairwise.{Pairwise, pairs-weaken, pairs-append}
-use Rattle.laws.specs.Bools.{or-both}
+use Rattle.facts.specs.Bools.{or-both}
 use Rattle.laws.specs.Graph.Operations.{Formed, Means, same-graph, after}
 use Rattle.laws.specs.Record.Accepted.{otherwise-none, refuseIf-none}
 use Rattle.laws.specs.Queries.Frame.{Has, Grown, grown-trans, grown, has, has-later, list-later}

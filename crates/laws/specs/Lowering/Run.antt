@@ -19,7 +19,7 @@ use Rattle.model.specs.Aig.{evaluate, aigNodeValues}
 use Rattle.model.specs.Transition.{Port, StateBit, Lowering, Registers, netLiteral, lowerNodes, noNodes, lowerRegisters, systemOf, withRegisters, fromNetlist}
 use Rattle.laws.specs.Lowering.SystemRun.{cycleValues, systemOutputs, systemNext}
 use Rattle.model.specs.Check.{systemInitialBits}
-use Rattle.laws.specs.Lists.{In, All, all-append}
+use Rattle.facts.specs.Lists.{In, All, all-append}
 use Rattle.laws.specs.Pairwise.{Pairwise, pairs-weaken, pairs-map, pairs-all}
 use Rattle.laws.specs.Record.Accepted.{otherwise-none}
 use Rattle.laws.specs.Queries.Frame.{Grown, grown-refl, has-later}

@@ -14,7 +14,7 @@ use Rattle.model.specs.Literal.{Literal, FALSE}
 use Rattle.model.specs.Lists.{snoc}
 use Rattle.model.specs.Aig.{variable}
 use Rattle.model.specs.Transition.{Port, Lowering, netLiteral, withNet, withLiteral, lowerInput, lowerOutput, lowerShown, lowerRegisterOutput, lowerNode, lowerNodes}
-use Rattle.laws.specs.Lists.{In, All, all-append, all-map}
+use Rattle.facts.specs.Lists.{In, All, all-append, all-map}
 use Rattle.laws.specs.Pairwise.{Pairwise, pairs-append}
 use Rattle.laws.specs.Lowering.Lists.{in-map-left, in-map-right}
 

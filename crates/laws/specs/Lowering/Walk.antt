@@ -15,7 +15,8 @@ use Rattle.model.specs.Lists.{snoc}
 use Rattle.model.specs.Aig.{Variable, Aig, Built, variable, mux}
 use Rattle.model.specs.Transition.{Port, Lowering, assertedLiteral, netLiteral, driverReset, withNet, withLiteral, lowerInput, lowerOutput, resetMux, shown, lowerShown, lowerRegisterOutput, lowerNode, lowerNodes}
 use Rattle.laws.specs.Graph.Values.{node-even}
-use Rattle.laws.specs.Lists.{All, all-append, all-map, length-snoc}
+use Rattle.facts.specs.Lists.{All, all-append, all-map}
+use Rattle.laws.specs.Lists.{length-snoc}
 use Rattle.laws.specs.Pairwise.{Pairwise, pairs-snoc, pairs-get}
 use Rattle.laws.specs.Graph.Operations.{Formed, Means, same-graph, variable-means, and-means, or-means, xor-means, mux-means, after, meaning}
 use Rattle.laws.specs.Queries.Frame.{Has, Grown, grown, has, has-later, list-later, has-false, has-negate}

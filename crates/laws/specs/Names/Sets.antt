@@ -9,7 +9,7 @@ use native.Mathlib.Omega.{arith}
 use lib.Dec.{eqb, ltb}
 use borrow.Author.Tests.{ltb-true, eqb-true, lt-ltb, le-ltb, eq-eqb}
 use Rattle.model.specs.Names.{Name, Place, sameName, before, memberName, namesOf}
-use Rattle.laws.specs.Bools.{and-both, both-ways, or-cases, or-true}
+use Rattle.facts.specs.Bools.{and-both, both-ways, or-cases, or-true}
 use Rattle.laws.specs.Names.Order.{same-eq, same-refl, Above, Increasing, Distinct}
 use Rattle.model.specs.Netlist.{Node, Input, Constant, RegisterOutput, Not, Output, And, Or, Xor, Mux, Design, inputName, outputName, placeIf, portsFrom}
 use Rattle.model.specs.Validate.{refuseIf, addName, portName, repeats, nodeFault, nodesFault, validate}

@@ -22,9 +22,9 @@ use Rattle.model.specs.Equivalence.{Problem, Query, Base, Induction, baseStart,
 use Rattle.laws.specs.Queries.Cycles.{query-1-means, query-2-means}
 use Rattle.laws.specs.Lowering.SystemRun.{outputsDifferWithin, statesDifferWithin}
 use Rattle.model.specs.Check.{problemOf}
-use Rattle.laws.specs.Lists.{All}
+use Rattle.facts.specs.Lists.{All}
 use Rattle.laws.specs.Pairwise.{pairs-length}
-use Rattle.laws.specs.Bools.{or-true}
+use Rattle.facts.specs.Bools.{or-true}
 use Rattle.laws.specs.Queries.Bits.{bitsFrom, inputRows, stateRows, inductionRows, inductionLast}
 use Rattle.laws.specs.Queries.Inputs.{Rows, valuesFor, rows-reached}
 use Rattle.laws.specs.Lowering.Run.{rowOf, byName, inputs-named, states-named, initial-right}

@@ -2,7 +2,7 @@
 use Prim.Native.Nat.{ℕ, zero, suc, _+_}
 use native.Mathlib.Omega.{arith}
 use mathlib.Core.Path.{_≡_, refl, sym, ap₂, _∙_}
-use mathlib.Core.Bool.{Bool, true, false, _||_, cond, xor as xor-bool, or-assoc}
+use mathlib.Core.Bool.{Bool, true, false, _||_, cond, xor as xor-bool, or-assoc, or-false}
 use mathlib.Core.List.{List, [], _∷_, _++_, append-assoc, append-nil}
 use mathlib.Core.Option.{Option, none, some}
 use lib.ListN.{length}
@@ -80,11 +80,6 @@ gateBits environment share gold xs n (s ∷ ss) =
 module _ (environment : ℕ → Bool) where
   -- ---- comparisons
 
-  -- or with false changes nothing
-  pub or-same : (b : Bool) → b || false ≡ b
-  or-same true = refl
-  or-same false = refl
-
   step-means : (m : Built) (b : Bool) → Formed (m .aig) → Has environment (m .aig) (m .literal) b → (l k : Literal) (x y : Bool)
       → Has environment (m .aig) l x → Has environment (m .aig) k y → Means environment (m .aig) (b || xor-bool x y) (orMismatch (m .literal) (xor (m .aig) l k))
   unfolding orMismatch
@@ -105,7 +100,7 @@ module _ (environment : ℕ → Bool) where
   any-means : (m : Built) (b : Bool) → Formed (m .aig) → Has environment (m .aig) (m .literal) b → (ps : List (Literal × Literal)) (qs : List (Bool × Bool))
       → Pairwise (HasBoth (m .aig)) ps qs → Means environment (m .aig) (b || pairsDiffer qs) (anyDifference m ps)
   unfolding anyDifference pairsDiffer
-  any-means m b w h [] [] k = record { keeps = λ l _. refl; value = h .0 ∙ sym (or-same b); formed = w; inside = h .1; grows = omega arith }
+  any-means m b w h [] [] k = record { keeps = λ l _. refl; value = h .0 ∙ sym (or-false b); formed = w; inside = h .1; grows = omega arith }
   any-means m b w h [] (q ∷ qs) k = absurd k
   any-means m b w h (p ∷ ps) [] k = absurd k
   any-means m b w h (p ∷ ps) (q ∷ qs) k =

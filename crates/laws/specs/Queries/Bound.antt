@@ -2,15 +2,14 @@
 use Prim.Native.Nat.{ℕ, zero, suc, _+_, _*_, _≤_}
 use native.Mathlib.Omega.{arith}
 use native.Mathlib.Nat.{zero-add, suc-mul, mul-suc, mul-le-mul-left}
-use mathlib.Core.Path.{_≡_, refl, ap, _∙_}
-use mathlib.Core.Bool.{Bool, true, false, cond}
+use mathlib.Core.Path.{_≡_, ap, _∙_}
+use mathlib.Core.Bool.{Bool, true, false}
 use mathlib.Core.List.{List, [], _∷_}
 use mathlib.Core.Option.{Option, none, some}
 use lib.ListN.{length, length-map}
 use Rattle.model.specs.Literal.{Literal, FALSE, constantLiteral}
 use Rattle.model.specs.Lists.{snoc, zip, lookup}
 use Rattle.model.specs.Aig.{Node, Constant, Variable, And, Aig, Built, new, variable, and, or, xor, mux}
-use Rattle.model.specs.Names.{Name, before, insertByName, sortByName}
 use Rattle.model.specs.Netlist.{Node as Node′, Input, Constant as Constant′, RegisterOutput, Not, Output, And as And′, Or, Xor, Mux, Enable, Reset, Register, Design}
 use Rattle.model.specs.Transition.{StateBit, TransitionSystem, Lowering, assertedLiteral, netLiteral, driverReset, withNet, withLiteral, lowerInput, lowerOutput, resetMux, shown, lowerShown, lowerRegisterOutput, lowerNode, lowerNodes, noNodes, enabled, resetNext, Registers, withState, lowerRegister, lowerRegisters, systemOf, withRegisters, fromNetlist}
 use Rattle.model.specs.Validate.{driver}
@@ -19,6 +18,7 @@ use Rattle.model.specs.Check.{problemOf}
 use Rattle.laws.specs.Lists.{length-snoc}
 use Rattle.laws.specs.Graph.Size.{ands, ands-variable, and-within, or-within, xor-within, mux-within, or-left, or-right}
 use Rattle.laws.specs.Queries.Bits.{variables-length}
+use Rattle.laws.specs.Names.Sorting.{sort-length}
 
 -- ---- comparisons
 
@@ -258,21 +258,6 @@ unfolding fromNetlist withRegisters systemOf noNodes new ands
 system-ands d =
     let w = lowerNodes (d .registers) noNodes 0 (d .nodes) in
     omega (arith, nodes-ands (d .registers) noNodes 0 (d .nodes), registers-ands w (record { aig = w .aig; states = [] }) (d .registers))
-
-insert-length : {A : Type 0} (name : A → Name) (x : A) (ys : List A) → length (insertByName name x ys) ≡ suc (length ys)
-unfolding insertByName
-insert-length name x [] = refl
-insert-length name x (y ∷ ys) = place (before (name y) (name x)) (insert-length name x ys)
-  where
-    place : (b : Bool) → length (insertByName name x ys) ≡ suc (length ys) → length (cond b (y ∷ insertByName name x ys) (x ∷ y ∷ ys)) ≡ suc (suc (length ys))
-    place true k = ap suc k
-    place false k = refl
-
--- sorting loses none
-pub sort-length : {A : Type 0} (name : A → Name) (xs : List A) → length (sortByName name xs) ≡ length xs
-unfolding sortByName
-sort-length name [] = refl
-sort-length name (x ∷ xs) = insert-length name x (sortByName name xs) ∙ ap suc (sort-length name xs)
 
 register-length : (nets : List Literal) (g : Registers) (r : Register) (state : Literal) → length (lowerRegister nets g r state .states) ≡ suc (length (g .states))
 unfolding lowerRegister withState

@@ -1,7 +1,7 @@
 -- The cycles of a query: after each, the literals of its states and of its mismatch have the values of the plain runs. Assumes nothing.
 use Prim.Native.Nat.{ℕ, zero, suc, _+_}
 use mathlib.Core.Path.{_≡_, refl, sym, ap, ap₂, _∙_}
-use mathlib.Core.Bool.{Bool, true, false, not, _||_, or-assoc}
+use mathlib.Core.Bool.{Bool, true, false, not, _||_, or-assoc, or-false}
 use mathlib.Core.List.{List, [], _∷_, _++_, map, append-assoc, append-nil}
 use mathlib.Core.Option.{Option, none, some}
 use lib.ListN.{length}
@@ -12,7 +12,7 @@ use Rattle.model.specs.Names.{Name}
 use Rattle.model.specs.Transition.{StateBit}
 use Rattle.model.specs.Equivalence.{Problem, compareNamedState, importFrame, LiteralList, withBuilt, newVariables, proofInputs, orMismatch, compareOutputs, Cycle, Frames, importFrames, cycleOf, comparedCycle, Base, baseStart, counterexampleNext, counterexampleCompared, counterexampleCycle, counterexampleCycles, namedStateNext, namedStateCompared, namedStateCycle, namedStateCycles, Induction, gateVariable, matched, gateVariables, freeProductState, cycleMismatch, assumed, inductionNext, inductionCompared, inductionCycle, inductionCycles, inductionQuery, inductionCloses}
 use Rattle.laws.specs.Lists.{length-snoc}
-use Rattle.laws.specs.Queries.Bits.{or-same, compare-means, zip-both, Alike, found-alike, named-both, NewBits, variables-mean, inputs-mean, bitsFrom, variables-length, inputRows, stateRows, inductionRows, inductionLast, sharedBit, sharedNumber, gateBits}
+use Rattle.laws.specs.Queries.Bits.{compare-means, zip-both, Alike, found-alike, named-both, NewBits, variables-mean, inputs-mean, bitsFrom, variables-length, inputRows, stateRows, inductionRows, inductionLast, sharedBit, sharedNumber, gateBits}
 use Rattle.laws.specs.Graph.Values.{lit-1}
 use Rattle.laws.specs.Lowering.SystemRun.{systemOutputs, systemNext, systemOutputsDiffer, systemStatesDiffer, outputsDifferWithin, statesDifferWithin, cycleDiffers, assumptionBits}
 use Rattle.laws.specs.Pairwise.{Pairwise, pairs-snoc}
@@ -83,7 +83,7 @@ module _ (environment : ℕ → Bool) where
         → Has environment (counterexampleCycles p n b .aig) (counterexampleCycles p n b .anyMismatch)
         (m || outputsDifferWithin (p .gold) (p .gate) xs ys (inputRows environment p n b))
     unfolding counterexampleCycles inputRows outputsDifferWithin
-    base-cycles zero b xs ys m h = (h .mismatch .0 ∙ sym (or-same environment m), h .mismatch .1)
+    base-cycles zero b xs ys m h = (h .mismatch .0 ∙ sym (or-false m), h .mismatch .1)
     base-cycles (suc n) b xs ys m h =
         let r = base-cycles n (counterexampleCycle p b) _ _ _ (base-cycle b xs ys m h) in
         (r .0 ∙ or-assoc m _ _, r .1)
@@ -173,7 +173,7 @@ module _ (environment : ℕ → Bool) where
         → Has environment (namedStateCycles p n b .aig) (namedStateCycles p n b .anyMismatch)
         (m || statesDifferWithin (p .gold) (p .gate) xs ys (stateRows environment p n b))
     unfolding namedStateCycles stateRows statesDifferWithin
-    named-cycles zero b xs ys m h = (h .mismatch .0 ∙ sym (or-same environment m), h .mismatch .1)
+    named-cycles zero b xs ys m h = (h .mismatch .0 ∙ sym (or-false m), h .mismatch .1)
     named-cycles (suc n) b xs ys m h =
         let r = named-cycles n (namedStateCycle p b) _ _ _ (named-cycle b xs ys m h) in
         (r .0 ∙ or-assoc m _ _, r .1)

@@ -7,7 +7,7 @@ use Rattle.model.specs.Literal.{Literal, node}
 use Rattle.model.specs.Aig.{Aig, new}
 use Rattle.model.specs.Equivalence.{Problem, LiteralList, newVariables, Query, Base, Induction, baseStart, baseQuery, counterexampleCycle, counterexampleCycles, baseCounterexample, namedStateCycle, namedStateCycles, basePreservesNamedState, freeProductState, inductionCycle, inductionCycles, inductionQuery, inductionCloses}
 use Rattle.laws.specs.Queries.Cycles.{BaseMeans, InductionMeans, base-cycle, named-cycle, start-means, induction-step, gate-mean, new-formed, query-1-means, query-2-means}
-use Rattle.laws.specs.Lists.{All}
+use Rattle.facts.specs.Lists.{All}
 use Rattle.laws.specs.Pairwise.{Pairwise}
 use Rattle.laws.specs.Graph.Operations.{Formed}
 use Rattle.laws.specs.Queries.Frame.{Has, grown-refl}

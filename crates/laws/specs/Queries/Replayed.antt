@@ -22,7 +22,7 @@ use Rattle.model.specs.Transition.{fromNetlist}
 use Rattle.model.specs.Equivalence.{Problem, FrameComparison, baseStart, baseQuery, baseCounterexample, counterexampleCycles, byte, firstMismatch, traceBytes}
 use Rattle.laws.specs.Queries.Cycles.{query-1-means, start-means}
 use Rattle.laws.specs.Lowering.SystemRun.{systemOutputs, systemNext, systemOutputsDiffer, outputsDifferWithin}
-use Rattle.laws.specs.Lists.{All, all-map}
+use Rattle.facts.specs.Lists.{All, all-map}
 use Rattle.laws.specs.Names.Order.{same-refl}
 use Rattle.laws.specs.Replay.{replays-yes}
 use Rattle.laws.specs.Queries.Bits.{inputRows}

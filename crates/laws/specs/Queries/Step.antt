@@ -18,9 +18,9 @@ use Rattle.model.specs.Transition.{StateBit, fromNetlist}
 use Rattle.model.specs.Equivalence.{stateLiteral, consPair, namedPairs, matched, inductionCloses, freeProductState}
 use Rattle.laws.specs.Queries.Cycles.{query-3-4-mean}
 use Rattle.laws.specs.Lowering.SystemRun.{pairsDiffer, systemStatesDiffer, assumptionBits}
-use Rattle.laws.specs.Lists.{All}
+use Rattle.facts.specs.Lists.{All}
 use Rattle.laws.specs.Pairwise.{Pairwise}
-use Rattle.laws.specs.Bools.{or-both, xor-equal, xor-self}
+use Rattle.facts.specs.Bools.{or-both, xor-equal, xor-self}
 use Rattle.laws.specs.Queries.Frame.{Has}
 use Rattle.laws.specs.Queries.Bits.{bitsFrom, inductionRows, inductionLast, sharedBit, sharedNumber, gateBits}
 use Rattle.laws.specs.Induction.Swap.{unique-registers, stored-swap}

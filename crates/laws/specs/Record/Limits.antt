@@ -9,7 +9,7 @@ use lib.Dec.{eqb, leb}
 use borrow.Author.Tests.{leb-true, leb-false, not-true}
 use Rattle.model.specs.Netlist.{Node, Register, Design, inputName, outputName, portsFrom}
 use Rattle.model.specs.Record.{got, Reader, pure, number, code, guard, room, nameIf, valueIf, hasName, hasValue, numbers, inputsPerKind, nodeOf, node, nodesFrom, nodes, register, registersFrom, registers, end, name, listedKind, version1, parsed, parse}
-use Rattle.laws.specs.Bools.{and-both}
+use Rattle.facts.specs.Bools.{and-both}
 use Rattle.laws.specs.Record.Reader.{Both, bind-got, Passed, guard-got, parse-version1}
 use Rattle.laws.specs.Record.Ports.{inputs-append, outputs-append}
 

@@ -13,7 +13,7 @@ use Rattle.model.specs.Netlist.{Node, Design}
 use Rattle.model.specs.Record.{Step, got, refused, Reader, pure, goOn, _>>=_, tested, guard, refuse, number, node, nodesFrom, nodes, register, registers, end, name, listedKind, version1, versionOf, parsed, lengthFits, finished, parseFields, parseSized, parse}
 
 -- a step is not both
-got≢refused : {A : Type 0} {a : A} {i : ℕ} {r : Refusal} → refused r ≡ got a i → ⊥
+pub got≢refused : {A : Type 0} {a : A} {i : ℕ} {r : Refusal} → refused r ≡ got a i → ⊥
 got≢refused h = let z : _≡_ {A = ℕ} 0 1 = cc in omega arith
 
 -- ---- two readers in a row

@@ -13,7 +13,8 @@ use Rattle.model.specs.Sat.{Clause, Assignment, Solver, Analysis, seeLiterals, 
 use Rattle.laws.specs.Graph.Values.{node-negate}
 use Rattle.laws.specs.Search.Resolvent.{Meaning, Pending, pending-means, close-ok, close-means, last-holds}
 use Rattle.laws.specs.Search.Seeing.{level, current-level, Learned, AnalysisOk, Ready, literals-ok, literals-mark, literals-new}
-use Rattle.laws.specs.Lists.{by-eq, getD-replicate, All, all-from, all-map}
+use Rattle.facts.specs.Lists.{getD-replicate, All, all-from, all-map}
+use Rattle.facts.specs.Numbers.{by-eq}
 use Rattle.laws.specs.Search.Clauses.{lits, clauseValue, Satisfied}
 use Rattle.laws.specs.Search.Trail.{entry, limitAt, Range, TrailInv}
 use Rattle.laws.specs.Search.Reasons.{Earlier, Before, Begins, Because, Reasoned, Ground}

@@ -9,7 +9,8 @@ use lib.ListN.{length, getD, set, drop, length-set, length-drop}
 use lib.Seq.{getD-set-other, getD-take, getD-drop, length-take-le}
 use Rattle.model.specs.Literal.{Literal, node}
 use Rattle.laws.specs.Search.Trail.{entry, limitAt, Placed, OnTrail, Low, Strict, TrailInv}
-use Rattle.laws.specs.Lists.{by-eq, by-lt, getD-set-default}
+use Rattle.facts.specs.Lists.{getD-set-default}
+use Rattle.facts.specs.Numbers.{by-eq, by-lt}
 use Rattle.model.specs.Sat.{Unassigned, True, Assignment, literalValue, value, unassign, unassignAll, cutTrail}
 
 -- ---- backtracking

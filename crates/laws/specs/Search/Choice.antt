@@ -9,7 +9,7 @@ use mathlib.Core.List.{List, [], _∷_}
 use lib.ListN.{length, getD}
 use lib.Ieee.{Float, lt}
 use Rattle.model.specs.Sat.{Value, False, Unassigned, True, Choice, noChoice, chosen, chooseBetween, chooseValued, chooseFrom}
-use Rattle.laws.specs.Bools.{by-cond}
+use Rattle.facts.specs.Bools.{by-cond}
 
 between-chosen : (v : ℕ) (x : Float) (b : Choice) → chooseBetween v x b ≡ noChoice → ⊥
 unfolding chooseBetween

@@ -2,7 +2,7 @@
 use Prim.Native.Nat.{ℕ, zero, suc, _+_, _<_, compare, Ordering, Ordering·lt, Ordering·eq, Ordering·gt}
 use native.Mathlib.Omega.{arith}
 use mathlib.Core.Path.{_≡_, refl, sym, ap, _∙_}
-use mathlib.Core.Bool.{Bool, true, false, not, _||_, false≢true}
+use mathlib.Core.Bool.{Bool, true, false, not, _||_, false≢true, or-self-left}
 use mathlib.Core.List.{List, [], _∷_}
 use lib.ListN.{length, getD, set}
 use lib.Dec.{isEq}
@@ -13,7 +13,7 @@ use Rattle.model.specs.Aig.{evaluate}
 use Rattle.model.specs.Sat.{Clause, emptyClause, insertLiteral, sortLiterals}
 use Rattle.laws.specs.Graph.Values.{lit-neg}
 use Rattle.laws.specs.Terms.{literalCount}
-use Rattle.laws.specs.Bools.{or-swap, or-true, or-twice}
+use Rattle.facts.specs.Bools.{or-swap, or-true}
 
 -- the literals of the clause with a number
 abbrev pub lits : List Clause → ℕ → List Literal
@@ -79,7 +79,7 @@ module _ (vs : List Bool) where
       go : (o : Ordering) → compare x y ≡ o → clauseValue vs (insertLiteral x ys) ≡ evaluate vs x || clauseValue vs ys
           → clauseValue vs (insertLiteral x (y ∷ ys)) ≡ evaluate vs x || (evaluate vs y || clauseValue vs ys)
       go Ordering·lt e ih = rw (e, insertLiteral)
-      go Ordering·eq e ih = rw (e, insertLiteral, ← eqb-true x y (ap isEq e)) (sym (or-twice (evaluate vs x) (clauseValue vs ys)))
+      go Ordering·eq e ih = rw (e, insertLiteral, ← eqb-true x y (ap isEq e)) (sym (or-self-left (evaluate vs x) (clauseValue vs ys)))
       go Ordering·gt e ih = rw (e, insertLiteral, ih) (or-swap (evaluate vs y) (evaluate vs x) (clauseValue vs ys))
 
   -- sorting keeps the clause's value

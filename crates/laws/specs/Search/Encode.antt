@@ -10,7 +10,8 @@ use Rattle.model.specs.Literal.{Literal, node, negate}
 use Rattle.model.specs.Aig.{Node, Constant, Variable, And, Aig}
 use Rattle.model.specs.Sat.{Clause, Solver, emptyClause, sortLiterals, tautological, secondPlace, addUnless, addSorted, addClause, scoreZero, new, clauseLiterals, addSome, addAigClause, addNode, addNodes, addAssumptions, encode}
 use Rattle.laws.specs.Graph.Values.{node-negate, Below, InOrder, node-even}
-use Rattle.laws.specs.Lists.{All, snoc-all, getD-replicate, In, length-snoc}
+use Rattle.facts.specs.Lists.{All, getD-replicate, In}
+use Rattle.laws.specs.Lists.{snoc-all, length-snoc}
 use Rattle.laws.specs.Search.Trail.{Range}
 use Rattle.laws.specs.Search.Watches.{ListedIn}
 use Rattle.laws.specs.Search.State.{clauseAt, WellWatched, Exact}

@@ -14,8 +14,9 @@ use Rattle.model.specs.Literal.{Literal, node, inverted, negate}
 use Rattle.model.specs.Lists.{snoc}
 use Rattle.model.specs.Aig.{Node, Constant, Variable, And, Aig, evaluate, aigNodeValue, aigValuesFrom, aigNodeValues}
 use Rattle.laws.specs.Graph.Values.{Below, InOrder, Grounded, at-node, lit-neg, lit-0, lit-1, lit-even}
-use Rattle.laws.specs.Bools.{or-true, or-not}
-use Rattle.laws.specs.Lists.{All, getD-snoc-old, getD-snoc-new, snoc-all, length-snoc}
+use Rattle.facts.specs.Bools.{or-true, or-not}
+use Rattle.facts.specs.Lists.{All}
+use Rattle.laws.specs.Lists.{getD-snoc-old, getD-snoc-new, snoc-all, length-snoc}
 use Rattle.laws.specs.Graph.Operations.{Formed, grounded}
 use Rattle.laws.specs.Search.Clauses.{clauseValue, Satisfied, sort-value}
 use Rattle.laws.specs.Search.Sorting.{Ascending, sort-ascending}

@@ -15,7 +15,8 @@ use Rattle.model.specs.Aig.{Aig}
 use Rattle.laws.specs.Search.Growth.{solverOf, Grown, propagate-grows}
 use Rattle.laws.specs.Search.Analysis.{AnalysisEnded}
 use Rattle.laws.specs.Graph.Operations.{Formed}
-use Rattle.laws.specs.Lists.{All, length-snoc}
+use Rattle.facts.specs.Lists.{All}
+use Rattle.laws.specs.Lists.{length-snoc}
 use Rattle.laws.specs.Search.Loop.{Keeps}
 use Rattle.laws.specs.Search.Total.{learn-total}
 use Rattle.laws.specs.Search.State.{Idle, Stuck, Conflicting, RoundOk}

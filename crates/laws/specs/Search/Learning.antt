@@ -15,7 +15,9 @@ use Rattle.laws.specs.Search.Listed.{times, slotCount, new-times, old-ti
 use Rattle.laws.specs.Graph.Values.{node-negate}
 use Rattle.laws.specs.Search.Analysis.{Analyzed}
 use Rattle.laws.specs.Search.Backtrack.{cut, cutPlace, cut-length, cut-entry, cut-low, cut-inv}
-use Rattle.laws.specs.Lists.{by-lt, getD-snoc-old, getD-snoc-new, snoc-all, snoc-any, All, all-at, all-map, length-snoc, by-eq}
+use Rattle.facts.specs.Lists.{All, all-at, all-map}
+use Rattle.facts.specs.Numbers.{by-lt, by-eq}
+use Rattle.laws.specs.Lists.{getD-snoc-old, getD-snoc-new, snoc-all, snoc-any, length-snoc}
 use Rattle.laws.specs.Search.Values.{negate-true, negate-negate}
 use Rattle.laws.specs.Search.Clauses.{lits, clauseValue, Satisfied, sort-value, count-snoc}
 use Rattle.laws.specs.Search.Trail.{limitAt, Range, TrailInv}

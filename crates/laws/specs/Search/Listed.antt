@@ -12,7 +12,8 @@ use borrow.Author.Tests.{eq-eqb, ne-eqb}
 use Rattle.model.specs.Literal.{Literal}
 use Rattle.model.specs.Lists.{snoc}
 use Rattle.model.specs.Sat.{Clause, pushWatch, watchClause, secondPlace, watched0, watched1, slot0, slot1, moveWatch}
-use Rattle.laws.specs.Lists.{by-eq, getD-set-default, In}
+use Rattle.facts.specs.Lists.{getD-set-default, In}
+use Rattle.facts.specs.Numbers.{by-eq}
 use Rattle.laws.specs.Search.Watches.{ListedIn, push-size}
 
 -- 1 where two numbers are equal, else 0

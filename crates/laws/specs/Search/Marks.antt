@@ -10,7 +10,7 @@ use lib.Dec.{leb}
 use borrow.Author.Tests.{leb-true, leb-false}
 use Rattle.model.specs.Literal.{node}
 use Rattle.model.specs.Sat.{Assignment, pivotIndex}
-use Rattle.laws.specs.Lists.{by-eq, by-lt}
+use Rattle.facts.specs.Numbers.{by-eq, by-lt}
 use Rattle.laws.specs.Search.Trail.{entry}
 
 -- the current level begins at place D

@@ -11,7 +11,7 @@ use Rattle.laws.specs.Graph.Values.{Grounded}
 use Rattle.laws.specs.Queries.Variables.{OwnNames}
 use Rattle.laws.specs.Graph.Operations.{Formed}
 use Rattle.laws.specs.Search.Clauses.{Satisfied}
-use Rattle.laws.specs.Lists.{All}
+use Rattle.facts.specs.Lists.{All}
 use Rattle.laws.specs.Search.Adding.{search-answered}
 use Rattle.laws.specs.Search.Step.{ModelOk, AnswerOk}
 use Rattle.laws.specs.Search.Encode.{Encoded, encode-encoded}

@@ -10,7 +10,7 @@ use Rattle.model.specs.Literal.{Literal, node, negate}
 use Rattle.laws.specs.Search.Listed.{times, times-in, slots-zero, pending-nil, append-times, take-times}
 use Rattle.laws.specs.Graph.Values.{node-negate}
 use Rattle.laws.specs.Search.Replacement.{unaffected}
-use Rattle.laws.specs.Lists.{set-any, In}
+use Rattle.facts.specs.Lists.{set-any, In}
 use Rattle.laws.specs.Search.Trail.{entry}
 use Rattle.laws.specs.Search.Clauses.{lits}
 use Rattle.laws.specs.Search.Reasons.{Begins, Because, Reasoned, Justified}

@@ -11,7 +11,7 @@ use Rattle.model.specs.Aig.{Aig}
 use Rattle.model.specs.Sat.{Clause, Assignment, Scores, Solver, decisionLevel, takeWatches, visit, propagateRound, Analysis, analyze, chooseVariable, noModel, searching, answered, decide, learn, step, startUnless, start, encode}
 use Rattle.laws.specs.Search.Analysis.{Analyzed, AnalysisEnded}
 use Rattle.laws.specs.Terms.{Reached, begun, stepped, literalCount}
-use Rattle.laws.specs.Lists.{All, In}
+use Rattle.facts.specs.Lists.{All, In}
 use Rattle.laws.specs.Graph.Operations.{Formed}
 use Rattle.laws.specs.Search.Clauses.{lits}
 use Rattle.laws.specs.Search.Trail.{entry, limitAt, Range, TrailInv}

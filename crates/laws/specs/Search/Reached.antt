@@ -11,12 +11,13 @@ use lib.Dec.{ltb}
 use borrow.Author.Tests.{ltb-true, lt-ltb}
 use Rattle.model.specs.Literal.{Literal, node, negate}
 use Rattle.model.specs.Aig.{Aig}
-use Rattle.model.specs.Sat.{Assignment, Scores, Solver, decisionLevel, Propagation, propagating, complete, conflict, propagate, Resolution, resolving, resolved, analyze, decayActivity, Choice, noChoice, chosen, chooseVariable, Answer, gaveUp, Search, searching, answered, decide, afterEnqueue, learn, assertLearned, learnUnless, afterAnalysis, afterConflict, afterPropagation, step, searchRounds, enqueue, initializeUnits, startUnless, start, encode, rounds, solve}
+use Rattle.model.specs.Sat.{Assignment, Scores, Solver, decisionLevel, Propagation, propagating, complete, conflict, propagate, Resolution, resolving, resolved, analyze, decayActivity, Choice, noChoice, chosen, chooseVariable, gaveUp, Search, searching, answered, decide, afterEnqueue, learn, assertLearned, learnUnless, afterAnalysis, afterConflict, afterPropagation, step, searchRounds, enqueue, initializeUnits, startUnless, start, encode, rounds, solve}
 use Rattle.laws.specs.Search.Growth.{solverOf, propagate-grows}
 use Rattle.laws.specs.Terms.{Reached, begun, stepped, Overflows, GivesUp}
 use Rattle.laws.specs.Graph.Operations.{Formed}
-use Rattle.laws.specs.Lists.{All}
+use Rattle.facts.specs.Lists.{All}
 use Rattle.laws.specs.Search.Ending.{solve-not-out}
+use Rattle.laws.specs.Search.Adding.{search-answered}
 
 -- ---- a round that gives up
 
@@ -138,16 +139,11 @@ module _ (limit : ℕ) (g : Aig) (assumptions : List Literal) where
     reached-left s (begun e) = left-of s (rounds limit g) (ap (searchRounds limit (rounds limit g)) e)
     reached-left s (stepped {s = t} w e) = let z = reached-left t w in left-of s (z .rounds-left) (z .same ∙ ap (searchRounds limit (z .rounds-left)) e)
 
-    answered-now : (n : ℕ) (a : Answer) → searchRounds limit n (answered a) ≡ a
-    unfolding searchRounds
-    answered-now zero a = refl
-    answered-now (suc n) a = refl
-
     gives-up : (k : ℕ) → GivesUp limit g assumptions k → solve limit g assumptions ≡ gaveUp k
     unfolding searchRounds
     gives-up k w =
         let z = reached-left (w .state) (w .reached) in
-        z .same ∙ ap (searchRounds limit (z .rounds-left)) (overflow-gives limit (w .state) (w .overflows)) ∙ answered-now (z .rounds-left) (gaveUp (w .state .learned)) ∙ ap gaveUp (w .total)
+        z .same ∙ ap (searchRounds limit (z .rounds-left)) (overflow-gives limit (w .state) (w .overflows)) ∙ search-answered limit (z .rounds-left) (gaveUp (w .state .learned)) ∙ ap gaveUp (w .total)
 
     -- a query gives up exactly there
     pub solve-gives-up : (k : ℕ) → (solve limit g assumptions ≡ gaveUp k) ↔ GivesUp limit g assumptions k

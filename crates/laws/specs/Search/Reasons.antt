@@ -12,7 +12,9 @@ use Rattle.model.specs.Literal.{Literal, node, negate}
 use Rattle.model.specs.Lists.{snoc}
 use Rattle.model.specs.Aig.{evaluate}
 use Rattle.laws.specs.Search.Backtrack.{cut, cutPlace, cut-fits, cut-length, cut-entry, cut-levels, cut-limit, cut-stays, cut-reason, cut-inv, cut-strict}
-use Rattle.laws.specs.Lists.{by-eq, by-lt, getD-snoc-old, getD-snoc-new, snoc-all, set-any, length-snoc}
+use Rattle.facts.specs.Lists.{set-any}
+use Rattle.facts.specs.Numbers.{by-eq, by-lt}
+use Rattle.laws.specs.Lists.{getD-snoc-old, getD-snoc-new, snoc-all, length-snoc}
 use Rattle.laws.specs.Search.Clauses.{lits, clauseValue, Satisfied, true-literal, not-both}
 use Rattle.laws.specs.Search.Values.{unset-apart}
 use Rattle.laws.specs.Search.Trail.{entry, limitAt, Low, Strict, Range, TrailInv, assign-inv, push-inv}

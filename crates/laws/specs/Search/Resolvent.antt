@@ -13,8 +13,9 @@ use Rattle.model.specs.Aig.{evaluate}
 use Rattle.model.specs.Sat.{Assignment, Analysis, seeVariable, seeUnless, skipped, seeLiterals, closePivot}
 use Rattle.laws.specs.Graph.Values.{lit-neg}
 use Rattle.laws.specs.Search.Seeing.{level, current-level, bottom-place, earlier-node, Learned, AnalysisOk, Ready, literals-mark, literals-new}
-use Rattle.laws.specs.Bools.{or-true}
-use Rattle.laws.specs.Lists.{by-eq, by-lt, getD-set-default, all-map}
+use Rattle.facts.specs.Bools.{or-true}
+use Rattle.facts.specs.Lists.{getD-set-default, all-map}
+use Rattle.facts.specs.Numbers.{by-eq, by-lt}
 use Rattle.laws.specs.Search.Clauses.{clauseValue, negate-holds, true-literal, snoc-value}
 use Rattle.laws.specs.Search.Trail.{entry, limitAt, Range, TrailInv}
 use Rattle.laws.specs.Search.Reasons.{Earlier, Ground}

@@ -8,13 +8,14 @@ use mathlib.Core.List.{List, [], _∷_}
 use lib.ListN.{length, getD, set, length-set}
 use lib.Seq.{getD-set-same, getD-set-other}
 use lib.Dec.{eqb}
-use borrow.Author.Tests.{eqb-true, eqb-false}
+use borrow.Author.Tests.{eqb-true, eqb-false, not-false}
 use Rattle.model.specs.Literal.{Literal, node}
 use Rattle.model.specs.Aig.{evaluate}
 use Rattle.model.specs.Sat.{Assignment, decisionLevel, Analysis, seeVariable, seeUnless, skipped, seeLiterals, resolved}
-use Rattle.laws.specs.Bools.{not-false}
 use Rattle.laws.specs.Graph.Values.{node-negate, lit-neg}
-use Rattle.laws.specs.Lists.{by-eq, by-lt, set-any, All, all-snoc, all-map}
+use Rattle.facts.specs.Lists.{set-any, All, all-map}
+use Rattle.facts.specs.Numbers.{by-eq, by-lt}
+use Rattle.laws.specs.Lists.{all-snoc}
 use Rattle.laws.specs.Search.Clauses.{clauseValue, snoc-value, snoc-true}
 use Rattle.laws.specs.Search.Trail.{entry, limitAt, Range, TrailInv}
 use Rattle.laws.specs.Search.Reasons.{Earlier, Bottom}

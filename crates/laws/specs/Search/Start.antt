@@ -10,7 +10,8 @@ use lib.ListN.{length, getD, length-replicate, List·getD-eq-default}
 use Rattle.model.specs.Literal.{Literal, node, negate}
 use Rattle.model.specs.Aig.{evaluate}
 use Rattle.model.specs.Sat.{Value, False, Unassigned, True, Clause, Assignment, Solver, withAssignment, literalValue, value, assign, enqueueValued, enqueue, emptyClause, new, afterEnqueue, searchRounds, initializeUnit, initializeUnits, startUnless, start}
-use Rattle.laws.specs.Lists.{by-lt, getD-replicate, All, all-at}
+use Rattle.facts.specs.Lists.{getD-replicate, All, all-at}
+use Rattle.facts.specs.Numbers.{by-lt}
 use Rattle.laws.specs.Search.Values.{negate-true}
 use Rattle.laws.specs.Search.Clauses.{lits, clauseValue, Satisfied, true-literal}
 use Rattle.laws.specs.Search.Trail.{OnTrail, Range, TrailInv, on-snoc, new-on}

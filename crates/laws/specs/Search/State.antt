@@ -8,7 +8,7 @@ use lib.ListN.{length, getD, set, length-set}
 use Rattle.model.specs.Literal.{Literal, negate}
 use Rattle.laws.specs.Search.Listed.{times, pendingTimes, slotCount}
 use Rattle.laws.specs.Terms.{literalCount}
-use Rattle.laws.specs.Lists.{set-any, In}
+use Rattle.facts.specs.Lists.{set-any, In}
 use Rattle.laws.specs.Search.Clauses.{lits, clauseValue, count-set}
 use Rattle.laws.specs.Search.Trail.{entry, Low, Range}
 use Rattle.laws.specs.Search.Reasons.{Earlier, Justified, Follow, justified-clauses}

@@ -13,8 +13,9 @@ use Rattle.model.specs.Literal.{Literal, node, inverted, negate}
 use Rattle.model.specs.Aig.{evaluate}
 use Rattle.laws.specs.Graph.Values.{Grounded}
 use Rattle.laws.specs.Search.Analysis.{Analyzed, AnalysisEnded, analyze-ends}
-use Rattle.laws.specs.Bools.{by-cond}
-use Rattle.laws.specs.Lists.{by-lt, snoc-all}
+use Rattle.facts.specs.Bools.{by-cond}
+use Rattle.facts.specs.Numbers.{by-lt}
+use Rattle.laws.specs.Lists.{snoc-all}
 use Rattle.laws.specs.Search.Loop.{Keeps}
 use Rattle.laws.specs.Search.Values.{negate-true, negate-negate, literal-unset, unset-literal}
 use Rattle.laws.specs.Search.Clauses.{lits, clauseValue, Satisfied, literal-true-at, true-literal}

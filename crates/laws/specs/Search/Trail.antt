@@ -9,7 +9,9 @@ use lib.ListN.{length, getD, set, length-set}
 use lib.Seq.{getD-set-same, getD-set-other}
 use Rattle.model.specs.Literal.{Literal, node, inverted}
 use Rattle.model.specs.Lists.{snoc}
-use Rattle.laws.specs.Lists.{by-eq, by-lt, getD-snoc-old, getD-snoc-new, snoc-all, getD-set-le, length-snoc}
+use Rattle.facts.specs.Lists.{getD-set-le}
+use Rattle.facts.specs.Numbers.{by-eq, by-lt}
+use Rattle.laws.specs.Lists.{getD-snoc-old, getD-snoc-new, snoc-all, length-snoc}
 use Rattle.laws.specs.Search.Values.{unset-apart, value-new, value-old, value-only}
 use Rattle.model.specs.Sat.{Unassigned, True, Assignment, value, makingTrue, decisionLevel, assign, pushLimit}
 

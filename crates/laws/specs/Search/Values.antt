@@ -3,7 +3,7 @@ use Prim.Native.Nat.{ℕ, _%_, _<_}
 use native.Mathlib.Omega.{arith}
 use mathlib.Core.Path.{_≡_, refl, sym, ap, _∙_}
 use mathlib.Core.Logic.{_≢_}
-use mathlib.Core.Bool.{Bool, true, false, not, false≢true}
+use mathlib.Core.Bool.{Bool, true, false, not, false≢true, Bool·not-not}
 use mathlib.Core.Option.{Option}
 use lib.ListN.{length, getD}
 use lib.Seq.{getD-set-same, getD-set-other}
@@ -11,7 +11,6 @@ use lib.Dec.{eqb}
 use borrow.Author.Tests.{eqb-true, eqb-false}
 use Rattle.model.specs.Literal.{Literal, node, inverted, negate}
 use Rattle.laws.specs.Graph.Values.{node-negate, inverted-negate}
-use Rattle.laws.specs.Bools.{not-not}
 use Rattle.model.specs.Sat.{Value, False, Unassigned, True, Assignment, literalValue, value, makingTrue, assign}
 
 -- ---- literals
@@ -30,7 +29,7 @@ lit-eq k l e i = go (eqb (k % 2) 1) (eqb (l % 2) 1) refl refl
 -- a negation undone
 pub negate-negate : (k : Literal) → negate (negate k) ≡ k
 negate-negate k =
-    lit-eq (negate (negate k)) k (node-negate (negate k) ∙ node-negate k) (inverted-negate (negate k) ∙ ap not (inverted-negate k) ∙ not-not (inverted k))
+    lit-eq (negate (negate k)) k (node-negate (negate k) ∙ node-negate k) (inverted-negate (negate k) ∙ ap not (inverted-negate k) ∙ Bool·not-not (inverted k))
 
 -- ---- values
 

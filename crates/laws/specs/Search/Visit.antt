@@ -13,7 +13,9 @@ use Rattle.model.specs.Literal.{Literal, node, negate}
 use Rattle.laws.specs.Search.Listed.{same, times, pendingTimes, slotCount, same-yes, pending-yes, keep-times, move-times-other, move-times-own, slots-none, slots-move0, slots-move1}
 use Rattle.laws.specs.Graph.Values.{node-negate}
 use Rattle.laws.specs.Search.Replacement.{extend, replaced, Faces, slot-faces, Replaces, Taken, Found, found-from}
-use Rattle.laws.specs.Lists.{by-eq, by-lt, getD-snoc-old, In}
+use Rattle.facts.specs.Lists.{In}
+use Rattle.facts.specs.Numbers.{by-eq, by-lt}
+use Rattle.laws.specs.Lists.{getD-snoc-old}
 use Rattle.laws.specs.Search.Trail.{entry, Low, Range, TrailInv, new-on}
 use Rattle.laws.specs.Search.Clauses.{lits}
 use Rattle.laws.specs.Search.Reasons.{Earlier, Before, Justified, justified-assign}

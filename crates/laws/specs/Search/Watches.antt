@@ -9,7 +9,9 @@ use lib.ListN.{length, getD, set, length-set}
 use Rattle.model.specs.Literal.{Literal, negate}
 use Rattle.model.specs.Lists.{snoc}
 use Rattle.laws.specs.Search.Backtrack.{cut, cutPlace, cut-length, cut-entry, cut-levels, cut-limit}
-use Rattle.laws.specs.Lists.{by-eq, getD-snoc-old, snoc-all, set-any, In, in-cases, length-snoc}
+use Rattle.facts.specs.Lists.{set-any, In, in-cases}
+use Rattle.facts.specs.Numbers.{by-eq}
+use Rattle.laws.specs.Lists.{getD-snoc-old, snoc-all, length-snoc}
 use Rattle.laws.specs.Search.Trail.{entry, limitAt, OnTrail, Low, TrailInv}
 use Rattle.model.specs.Sat.{Assignment, assign, pushLimit, pushWatch}
 

@@ -2,7 +2,8 @@
 use mathlib.Core.Path.{_≡_, refl, ap, sym, _∙_}
 use Prim.Native.Nat.{ℕ, _+_, _-_, _*_, _<_, _≤_}
 use native.Mathlib.Omega.{arith}
-use Rattle.equivalence.specs.Inducing.{joined, not-joined, not-true, not-false}
+use borrow.Author.Tests.{not-true, not-false}
+use Rattle.equivalence.specs.Inducing.{joined, not-joined}
 use borrow.Author.Needs.{needs}
 use Rattle.equivalence.proofs.induction.cycle_mismatch.Statement.{statement}
 use Rattle.equivalence.proofs.induction.cycle_mismatch.Tie as tie

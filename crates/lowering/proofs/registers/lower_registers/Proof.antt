@@ -3,7 +3,7 @@ use mathlib.Core.Path.{_≡_, refl}
 use Prim.Native.Nat.{_-_, _≤_}
 use native.Mathlib.Omega.{arith}
 use lib.ListN.{length}
-use Rattle.laws.specs.Lists.{getD-replicate}
+use Rattle.facts.specs.Lists.{getD-replicate}
 use Rattle.lowering.specs.Registers.{Registering, registering-none, registering-more}
 use borrow.Author.Needs.{needs}
 use Rattle.lowering.proofs.registers.lower_registers.Statement.{statement}

@@ -4,7 +4,7 @@ use Prim.Native.Nat.{_-_, _≤_}
 use native.Mathlib.Omega.{arith}
 use lib.ListN.{length}
 use Rattle.model.specs.Transition.{netLiteral}
-use Rattle.laws.specs.Lists.{getD-replicate}
+use Rattle.facts.specs.Lists.{getD-replicate}
 use Rattle.transition.specs.Start.{Starting, starting-more}
 use borrow.Author.Needs.{needs}
 use Rattle.transition.proofs.starts.starts_by_number.Statement.{statement}

@@ -18,15 +18,9 @@ pub by-cond : {A : Type 0} (P : A → Type 0) {t : Bool} {x y : A} → (t ≡ tr
 by-cond P {t = true} a b = a refl
 by-cond P {t = false} a b = b refl
 
--- ---- not
-
-pub not-not : (b : Bool) → not (not b) ≡ b
-not-not true = refl
-not-not false = refl
-
-pub not-false : (b : Bool) → not b ≡ false → b ≡ true
-not-false true e = refl
-not-false false e = sym e
+pub cond-same : {A : Type 0} (t : Bool) (x : A) → cond t x x ≡ x
+cond-same true x = refl
+cond-same false x = refl
 
 -- ---- and
 
@@ -67,10 +61,6 @@ or-both x y e = (or-left x y e, or-right x y e)
 
 pub or-false : (x y : Bool) → x ≡ false → y ≡ false → (x || y) ≡ false
 or-false x y p q = rw (p, q)
-
-pub or-twice : (a b : Bool) → (a || (a || b)) ≡ (a || b)
-or-twice true b = refl
-or-twice false b = refl
 
 pub or-swap : (a b c : Bool) → (a || (b || c)) ≡ (b || (a || c))
 or-swap true true c = refl
