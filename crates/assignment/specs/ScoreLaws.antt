@@ -10,7 +10,7 @@ use lib.Seq.{take-suc, take-suc-set, drop-set-lt, getD-take, getD-drop, drop-dro
 use lib.Ieee.{Float, nan, binary64, lt}
 use lib.Ieee as Ieee
 use Rattle.model.specs.Sat as Sat
-use Rattle.assignment.specs.Scores.{scoresOf, Fixed, Starts, Others, Rescaled, Raised, Bumps, ZeroScores}
+use Rattle.assignment.specs.Scores.{scoresOf, Fixed, Others, Rescaled, Raised, Bumps, ZeroScores}
 use Rattle.assignment.specs.StateLaws.{take-set}
 use Rattle.assignment.specs.declared.state.Activity.{Activity}
 
@@ -130,10 +130,3 @@ module _ (n : ℕ) (a : Activity) (v : ℕ) (s : List Float) (f : Fixed a) where
           fixed = record { decay = f .decay; ceiling = f .ceiling };
           others = others-both n (after .others) (r .others);
         }
-
--- ---- the start
-
--- the scores of a new search
-pub start-scores : (n : ℕ) (a : Activity) (s₀ s : List Float) → Starts a → ZeroScores n s₀ s → scoresOf n a s ≡ (Sat.new n) .scores
-unfolding scoresOf Sat.new
-start-scores n a s₀ s f z = rw (f .increment, z .is)

@@ -13,7 +13,6 @@ use Rattle.model.specs.Sat.{Assignment}
 use Rattle.assignment.specs.declared.state.Value.{Value}
 use Rattle.assignment.specs.declared.state.Value.the-variants as Variants
 use Rattle.assignment.specs.declared.state.Trail.{Trail}
-use Rattle.assignment.specs.declared.state.Enqueued.{Enqueued}
 
 -- ---- words
 

@@ -2,13 +2,13 @@
 use mathlib.Core.Path.{_≡_, refl, sym, _∙_}
 use mathlib.Core.List.{List, []}
 use mathlib.Core.Logic.{⊎-elim}
-use Prim.Native.Nat.{ℕ, zero, suc, _+_, _*_, _<_, _≤_}
+use Prim.Native.Nat.{ℕ, zero, suc, _*_, _<_, _≤_}
 use native.Mathlib.Omega.{arith}
 use lib.ListN.{getD, length, replicate, length-replicate, getD-replicate, List·getD-eq-default}
 use lib.Seq.{ext-getD, getD-set-same}
 use Rattle.facts.specs.Numbers.{below}
 use Rattle.words.specs.Fill.{filled, length-filled, getD-filled}
-use Rattle.words.specs.Region.{region, stored, stored-in, stored-out, length-stored, cleared, cleared-in, length-cleared, length-region}
+use Rattle.words.specs.Region.{region, stored-in, stored-out, length-stored, cleared, cleared-in, length-cleared, length-region}
 use Rattle.model.specs.Lists.{member}
 use Rattle.assignment.specs.State.{Unchanged}
 use Rattle.assignment.specs.StateLaws.{unchanged-none, unchanged-stored, unchanged-cleared}

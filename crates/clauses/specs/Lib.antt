@@ -13,4 +13,3 @@ pub mod GateLaws
 pub mod ClearLaws
 pub mod AssumptionLaws
 pub mod StartLaws
-pub mod OrderLaws

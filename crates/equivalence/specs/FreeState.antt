@@ -1,23 +1,21 @@
 -- The free states of both sides, and query 3 and 4 from them. Assumes nothing.
-use mathlib.Core.Path.{_≡_, refl, ap, ap₂, sym, _∙_}
+use mathlib.Core.Path.{_≡_, ap, sym, _∙_}
 use mathlib.Core.Bool.{Bool}
-use mathlib.Core.List.{List, [], _∷_, _++_, map}
+use mathlib.Core.List.{List, []}
 use Prim.Native.Nat.{ℕ, suc, _+_, _*_, _≤_, _<_}
 use native.Mathlib.Omega.{arith}
 use lib.ListN.{length}
 use Rattle.model.specs.Aig.{Aig, new}
-use Rattle.model.specs.Transition.{StateBit, TransitionSystem}
-use Rattle.model.specs.Equivalence.{Problem, LiteralList, newVariables, gateVariables, Induction, freeProductState, Query, inductionQuery, inductionCycles, inductionCloses}
+use Rattle.model.specs.Equivalence.{Problem, LiteralList, newVariables, gateVariables, Induction, freeProductState, inductionQuery, inductionCycles, inductionCloses}
 use Rattle.aig.specs.Graph.{graphOf}
 use Rattle.aig.specs.Made.{Ready, Same, HeadsBelow, outside, same-trans}
 use Rattle.import.specs.Importing.{beyond, same-beyond}
-use Rattle.lowering.specs.Firsts.{firsts, length-firsts, Below, below-le}
+use Rattle.lowering.specs.Firsts.{firsts, Below, below-le}
 use Rattle.unrolling.specs.Variables.{Listed, grown, new-variables}
 use Rattle.unrolling.specs.Matching.{gateBy, gates-are}
 use Rattle.transition.specs.Namesakes.{namesakes}
-use Rattle.transition.specs.Side.{Stands}
-use Rattle.unrolling.specs.Cycling.{Paired, paired-same, Standing, standing-same, cost-same, Startable}
-use Rattle.equivalence.specs.Inducing.{states-length, Matched, cycleCost, cycle-cost-same, inductionOf, Closed}
+use Rattle.unrolling.specs.Cycling.{Paired, paired-same, Standing, standing-same, Startable}
+use Rattle.equivalence.specs.Inducing.{states-length, Matched, cycleCost, cycle-cost-same, Closed}
 use Rattle.transition.specs.declared.system.System.{System}
 
 -- The matches of gate's states are those of a problem.

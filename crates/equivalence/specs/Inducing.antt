@@ -1,14 +1,14 @@
 -- Query 3 and 4: a cycle's mismatch assumed, cycle after cycle. Assumes nothing.
-use mathlib.Core.Path.{_≡_, refl, ap, ap₂, sym, _∙_}
+use mathlib.Core.Path.{_≡_, refl, ap, sym, _∙_}
 use mathlib.Core.Bool.{Bool, true, false}
-use mathlib.Core.List.{List, [], _∷_, _++_, map}
-use Prim.Native.Nat.{ℕ, zero, suc, _+_, _*_, _≤_, _<_}
+use mathlib.Core.List.{List, []}
+use Prim.Native.Nat.{ℕ, suc, _+_, _*_, _≤_, _<_}
 use native.Mathlib.Omega.{arith}
 use native.Mathlib.Nat.{suc-mul}
-use lib.ListN.{length, getD, set, length-map}
-use Rattle.model.specs.Literal.{Literal, negate}
+use lib.ListN.{length, set, length-map}
+use Rattle.model.specs.Literal.{Literal}
 use Rattle.model.specs.Lists.{snoc}
-use Rattle.model.specs.Aig.{Aig, Built, or}
+use Rattle.model.specs.Aig.{Built, or}
 use Rattle.model.specs.Transition.{StateBit, TransitionSystem}
 use Rattle.model.specs.Equivalence.{Problem, orMismatch, comparePairs, compareNamedState, Cycle, comparedCycle, Induction, cycleMismatch, assumed, inductionNext, inductionCompared, inductionCycle, inductionCycles, inductionQuery}
 use Rattle.aig.specs.Graph.{graphOf}
@@ -16,10 +16,9 @@ use Rattle.aig.specs.Made.{Ready, Same, Made, made-none, same-refl, same-trans}
 use Rattle.aig.specs.Shortcut.{negate-below}
 use Rattle.import.specs.Importing.{beyond, same-beyond}
 use Rattle.lowering.specs.Firsts.{firsts, firsts-more, length-firsts, pairs, Below, below-le, below-more}
-use Rattle.unrolling.specs.Comparing.{made-then, made-le}
+use Rattle.unrolling.specs.Comparing.{made-then}
 use Rattle.unrolling.specs.Matching.{namedBy, named-is}
 use Rattle.transition.specs.Namesakes.{namesakes}
-use Rattle.unrolling.specs.Side.{conjunctionsOf}
 use Rattle.transition.specs.Side.{Stands}
 use Rattle.unrolling.specs.Cycling.{Paired, paired-same, Standing, standing-same, frameCost, cost-same, Startable, startable-le, Compared}
 use Rattle.transition.specs.declared.system.System.{System}

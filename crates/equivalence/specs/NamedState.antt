@@ -1,15 +1,15 @@
 -- Query 2: states named alike compared before each cycle's inputs, cycle after cycle. Assumes nothing.
-use mathlib.Core.Path.{_≡_, refl, ap, ap₂, sym, _∙_}
-use mathlib.Core.Bool.{Bool, true, false}
-use mathlib.Core.List.{List, [], _∷_, _++_, map}
-use Prim.Native.Nat.{ℕ, zero, suc, _+_, _*_, _≤_, _<_}
+use mathlib.Core.Path.{_≡_, refl, ap, sym, _∙_}
+use mathlib.Core.Bool.{true}
+use mathlib.Core.List.{List, [], _∷_, map}
+use Prim.Native.Nat.{ℕ, suc, _+_, _*_, _≤_, _<_}
 use native.Mathlib.Omega.{arith}
 use native.Mathlib.Nat.{suc-mul}
 use native.Mathlib.Numerals.{add-one}
 use lib.ListN.{length}
 use Rattle.model.specs.Literal.{Literal, constantLiteral}
-use Rattle.model.specs.Aig.{Aig, Built, new}
-use Rattle.model.specs.Equivalence.{Problem, orMismatch, comparePairs, compareNamedState, Frames, importFrames, Base, namedStateNext, namedStateCompared, namedStateCycle, namedStateCycles, baseStart, baseQuery, basePreservesNamedState}
+use Rattle.model.specs.Aig.{Built, new}
+use Rattle.model.specs.Equivalence.{Problem, orMismatch, comparePairs, compareNamedState, Frames, Base, namedStateNext, namedStateCompared, namedStateCycle, namedStateCycles, baseStart, baseQuery, basePreservesNamedState}
 use Rattle.aig.specs.Graph.{graphOf}
 use Rattle.aig.specs.Made.{Ready, Same, Made, HeadsBelow, outside, same-refl, same-trans}
 use Rattle.import.specs.Importing.{beyond, same-beyond}

@@ -1,7 +1,5 @@
 // Query 2: base_preserves_named_state of equivalence.rs up to the search.
-ghost use mathlib.Core.Path.{_≡_};
-ghost use Prim.Native.Nat.{ℕ, _+_, _*_, _≤_, _<_};
-ghost use lib.ListN.{length};
+ghost use Prim.Native.Nat.{_+_, _*_, _<_};
 ghost use Rattle.lowering.specs.Firsts.{Below};
 ghost use Rattle.unrolling.specs.Cycling.{Startable};
 ghost use Rattle.equivalence.specs.NamedState.{namedCost, NamedCycled, NamedLeft, Preservable, Preserves};

@@ -1,6 +1,5 @@
 // Query 1: base_counterexample of equivalence.rs up to the search, with the comparison of each cycle in FRAMES.
-ghost use mathlib.Core.Path.{_≡_};
-ghost use Prim.Native.Nat.{ℕ, _+_, _*_, _≤_, _<_};
+ghost use Prim.Native.Nat.{_+_, _*_, _≤_, _<_};
 ghost use lib.ListN.{length};
 ghost use Rattle.unrolling.specs.Cycling.{Startable};
 ghost use Rattle.equivalence.specs.Rows.{KeptRow, KeptComparison};

@@ -1,6 +1,6 @@
 // Query 3 and 4: induction_closes of equivalence.rs up to the search, with its assumptions by value.
 ghost use mathlib.Core.Path.{_≡_};
-ghost use Prim.Native.Nat.{ℕ, suc, _+_, _*_, _≤_, _<_};
+ghost use Prim.Native.Nat.{suc, _+_, _*_, _≤_, _<_};
 ghost use lib.ListN.{length};
 ghost use Rattle.model.specs.Equivalence.{assumed};
 ghost use Rattle.aig.specs.Graph.{graphOf};

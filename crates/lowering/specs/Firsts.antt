@@ -26,10 +26,6 @@ unfolding firsts snoc
 length-firsts zero xs = refl
 length-firsts (suc n) xs = simp length-append (omega (arith, length-firsts n xs))
 
-pub firsts-suc : (n : ℕ) (xs : List ℕ) → firsts (n + 1) xs ≡ snoc (firsts n xs) (getD xs n 0)
-unfolding firsts
-firsts-suc n xs = rw add-one
-
 pub pairs-suc : (n : ℕ) (xs ys : List ℕ) → pairs (n + 1) xs ys ≡ snoc (pairs n xs ys) (getD xs n 0, getD ys n 0)
 unfolding pairs
 pairs-suc n xs ys = rw add-one

@@ -1,10 +1,10 @@
 -- The and-inverter graph of aig.rs as a list of nodes. Definitions only.
-use Prim.Native.Nat.{ℕ, zero, suc, _+_, _*_, min, max}
-use mathlib.Core.Bool.{Bool, true, false, not, _&&_, _||_, cond, xor as xorBool}
-use mathlib.Core.List.{List, [], _∷_, _++_}
+use Prim.Native.Nat.{ℕ, _*_, min, max}
+use mathlib.Core.Bool.{Bool, false, _&&_, _||_, cond, xor as xorBool}
+use mathlib.Core.List.{List, [], _∷_}
 use mathlib.Core.Option.{Option, none, some}
 use lib.ListN.{length, getD}
-use lib.Dec.{eqb, leb}
+use lib.Dec.{eqb}
 use Rattle.model.specs.Literal.{Literal, FALSE, TRUE, node, inverted, negate}
 use Rattle.model.specs.Lists.{snoc, position}
 use Rattle.model.specs.Literal as Literals

@@ -1,5 +1,5 @@
 -- The starred cases of document 01 as one table over bytes, with one theorem, by computation.
-use Prim.Native.Nat.{ℕ, zero, suc}
+use Prim.Native.Nat.{ℕ}
 use mathlib.Core.Path.{_≡_, refl}
 use mathlib.Core.Bool.{Bool, true, false}
 use mathlib.Core.List.{List, [], _∷_, _++_, map}
@@ -8,7 +8,7 @@ use lib.ListN.{length, drop, replicate}
 use lib.Ieee.{Float}
 use Rattle.model.specs.Answers.{Refusal, ReplayAnswer, CheckAnswer, acceptedAnswer}
 use Rattle.model.specs.Names.{Name}
-use Rattle.model.specs.Netlist.{Node, Input, Constant, RegisterOutput, Not, Output, And, Edge, Rising, ActiveLevel, High, Reset, Register, Design}
+use Rattle.model.specs.Netlist.{Node, Input, Constant, RegisterOutput, Not, Output, And, Rising, High, Reset, Register, Design}
 use Rattle.model.specs.Encode.{recordOf}
 use Rattle.model.specs.Encode as Encode
 use Rattle.model.specs.Validate.{read}

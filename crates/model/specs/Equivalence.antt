@@ -1,13 +1,12 @@
 -- The four queries of equivalence.rs, and the loop over depths. Definitions only.
-use Prim.Native.Nat.{ℕ, zero, suc, _+_, _*_}
-use mathlib.Core.Bool.{Bool, true, false, not, cond, xor as xorBool}
+use Prim.Native.Nat.{ℕ, zero, suc, _+_}
+use mathlib.Core.Bool.{Bool, true, false, cond, xor as xorBool}
 use mathlib.Core.List.{List, [], _∷_, _++_, map}
 use mathlib.Core.Option.{Option, none, some}
 use lib.ListN.{getD, take, drop}
 use lib.Dec.{ltb}
-use Rattle.model.specs.Literal.{Literal, FALSE, TRUE, node, inverted, negate, constantLiteral}
+use Rattle.model.specs.Literal.{Literal, FALSE, node, inverted, negate, constantLiteral}
 use Rattle.model.specs.Lists.{snoc, position, zip, lookup, concat}
-use Rattle.model.specs.Literal as Literals
 use Rattle.model.specs.Aig.{Node, Constant, Variable, And, Aig, Built, new, variable, and, or, xor, evaluate}
 use Rattle.model.specs.Aig as Graph
 use Rattle.model.specs.Sat.{Answer, model, noModel, gaveUp, outOfFuel, solve}

@@ -1,17 +1,17 @@
 -- What a check means: the four queries over the run alone, what k-induction says, and the laws of checks. No graph, no search.
-use Prim.Native.Nat.{ℕ, zero, suc, _+_, _≤_, _<_}
-use mathlib.Core.Path.{_≡_, refl}
-use mathlib.Core.Logic.{_≢_, _⊎_, inl, inr, _↔_}
+use Prim.Native.Nat.{ℕ, suc, _≤_, _<_}
+use mathlib.Core.Path.{_≡_}
+use mathlib.Core.Logic.{_≢_, _⊎_, _↔_}
 use mathlib.Core.Bool.{Bool, true, false, cond, _||_, xor}
 use mathlib.Core.List.{List, [], _∷_, List·Memᴰ}
 use mathlib.Core.Option.{Option, none, some}
 use Rattle.model.specs.Answers.{Refusal, Status, Equivalent, NotEquivalent, Inconclusive, GaveUp}
 use Rattle.model.specs.Names.{Name, Place, sameName, namesOf}
 use Rattle.model.specs.Netlist.{Design, outputs, registersByName}
-use Rattle.model.specs.Record.{Read, parsed}
+use Rattle.model.specs.Record.{parsed}
 use Rattle.model.specs.Validate.{readRecord}
 use Rattle.model.specs.Run.{InputSequence, StoredBits, bitAt, storedAt, outputsAt, initialBits}
-use Rattle.model.specs.Pair.{Lent, ReadPair, both, readPair, checkRefusal}
+use Rattle.model.specs.Pair.{Lent, both, readPair, checkRefusal}
 use Rattle.model.specs.Replay.{differAt}
 
 -- ---- registers named alike

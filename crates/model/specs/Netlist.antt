@@ -1,10 +1,9 @@
 -- A design as the record has it: nodes in order, then registers; its ports and registers by name. Definitions only.
-use Prim.Native.Nat.{ℕ, zero, suc}
-use mathlib.Core.Bool.{Bool, true, false, cond}
-use mathlib.Core.List.{List, [], _∷_, map}
+use Prim.Native.Nat.{ℕ, suc}
+use mathlib.Core.Bool.{Bool, true, false}
+use mathlib.Core.List.{List, [], _∷_}
 use mathlib.Core.Option.{Option, none, some}
 use lib.ListN.{length}
-use lib.Dec.{eqb}
 use Rattle.model.specs.Names.{Name, Place, sort}
 
 -- a node with the numbers of its input nodes; node i drives net i; Mux has condition, then, else

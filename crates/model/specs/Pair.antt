@@ -1,15 +1,14 @@
 -- The checks of a pair of accepted designs: refusals 16 to 24 for a check, 18 to 22 and 25 for a replay. Definitions only.
-use Prim.Native.Nat.{ℕ, zero, suc, _+_, _*_}
-use mathlib.Core.Bool.{Bool, true, false, not, cond, _&&_, _||_}
-use mathlib.Core.List.{List, [], _∷_, map}
+use Prim.Native.Nat.{ℕ, suc, _+_, _*_}
+use mathlib.Core.Bool.{Bool, true, false, not, _&&_, _||_}
+use mathlib.Core.List.{List, [], _∷_}
 use mathlib.Core.Option.{Option, none, some}
 use lib.ListN.{length, getElem?}
-use lib.Dec.{eqb, leb, ltb}
+use lib.Dec.{eqb, ltb}
 use Rattle.model.specs.Answers.{Refusal}
 use Rattle.model.specs.Names.{Name, Place, sameName, sameNames, namesOf}
 use Rattle.model.specs.Names as Names
 use Rattle.model.specs.Netlist.{Node, Edge, Rising, Falling, Reset, Register, Design, inputName, inputs, outputs, registersByName, inputCount, outputCount, nodeCount, registerCount}
-use Rattle.model.specs.Netlist as Netlist
 use Rattle.model.specs.Record.{Read, parsed, refusedRecord}
 use Rattle.model.specs.Validate.{_otherwise_, refuseIf, readRecord}
 use Rattle.model.specs.Validate as Validate

@@ -6,15 +6,14 @@ use mathlib.Core.List.{List, [], _∷_, _++_, map}
 use mathlib.Core.Option.{Option, none, some}
 use lib.ListN.{length}
 use Rattle.model.specs.Answers.{ReplayAnswer}
-use Rattle.model.specs.Names.{Name}
-use Rattle.model.specs.Netlist.{Node, Input, Constant, RegisterOutput, Output, ActiveLevel, High, Reset, Design, inputNumbers}
+use Rattle.model.specs.Netlist.{Node, Input, Constant, RegisterOutput, Output, High, Reset, inputNumbers}
 use Rattle.model.specs.Encode.{sized, recordOf}
-use Rattle.model.specs.Record.{Read, parsed, kinds, inputsPerKind, nodeOf}
+use Rattle.model.specs.Record.{parsed, kinds, inputsPerKind, nodeOf}
 use Rattle.model.specs.Validate.{read, readRecord}
 use Rattle.model.specs.Run.{InputSequence, initialBits, outputsAt}
 use Rattle.model.specs.Pair.{Lent, checkRefusal}
 use Rattle.model.specs.Replay.{replay, stepsReplay}
-use Rattle.model.specs.Cases.{a, p, q, y, clk, rst, design, sync, reg, wire, wireReading, inverter, toggle, unreset, row, holding, refusal}
+use Rattle.model.specs.Cases.{a, p, q, clk, rst, design, sync, reg, wire, wireReading, inverter, toggle, unreset, row, holding, refusal}
 use Rattle.model.specs.Cases as Cases
 
 -- an asynchronous reset, active high, from a signal to a value

@@ -1,16 +1,16 @@
 -- The replay of a claimed trace: its answer by the run, and one step of it. Definitions only.
 use Prim.Native.Nat.{ℕ, zero, suc, _+_, _*_}
-use mathlib.Core.Bool.{Bool, true, false, not, cond, _&&_, _||_, xor}
+use mathlib.Core.Bool.{Bool, true, false, not, _&&_, _||_, xor}
 use mathlib.Core.List.{List, [], _∷_}
 use mathlib.Core.Option.{Option, none, some}
-use lib.ListN.{length, getD}
+use lib.ListN.{getD}
 use lib.Dec.{eqb, ltb}
 use Rattle.model.specs.Answers.{Refusal, accepted, ReplayAnswer}
-use Rattle.model.specs.Names.{Name, rank}
+use Rattle.model.specs.Names.{rank}
 use Rattle.model.specs.Netlist.{Design, inputs, inputCount}
 use Rattle.model.specs.Record.{bit}
 use Rattle.model.specs.Validate as Validate
-use Rattle.model.specs.Run.{InputBits, InputSequence, StoredBits, nodeValues, nextStored, outputBits, outputsAt, initialBits}
+use Rattle.model.specs.Run.{InputSequence, StoredBits, nodeValues, nextStored, outputBits, outputsAt, initialBits}
 use Rattle.model.specs.Run as Run
 use Rattle.model.specs.Pair.{replayFault, ReadPair, both, refusedPair, readPair}
 use Rattle.model.specs.Pair as Pair

@@ -4,9 +4,9 @@ use mathlib.Core.Path.{_≡_, refl}
 use mathlib.Core.Bool.{Bool, true, false}
 use mathlib.Core.List.{List, [], _∷_, map}
 use mathlib.Core.Option.{Option, none, some}
-use lib.Ieee.{Float, binary64, toBits}
+use lib.Ieee.{binary64, toBits}
 use Rattle.model.specs.Literal.{Literal}
-use Rattle.model.specs.Aig.{Node, Constant, Variable, And, Aig}
+use Rattle.model.specs.Aig.{Constant, Variable, And, Aig}
 use Rattle.model.specs.Sat.{Clause, Solver, Search, searching, answered, encode, start, step}
 use Rattle.model.specs.Sat as Solving
 

@@ -1,12 +1,11 @@
 -- The transition system of a design that passed validation, as transition.rs builds it. Definitions only.
-use Prim.Native.Nat.{ℕ, zero, suc, _+_, _*_}
+use Prim.Native.Nat.{ℕ, suc}
 use mathlib.Core.Bool.{Bool, true, false}
-use mathlib.Core.List.{List, [], _∷_, _++_}
+use mathlib.Core.List.{List, [], _∷_}
 use mathlib.Core.Option.{Option, none, some}
 use lib.ListN.{getD}
 use Rattle.model.specs.Literal.{Literal, FALSE, node, negate, constantLiteral}
 use Rattle.model.specs.Lists.{snoc, lookup}
-use Rattle.model.specs.Literal as Literals
 use Rattle.model.specs.Aig.{Aig, Built, new, variable, and, or, xor, mux}
 use Rattle.model.specs.Aig as Graph
 use Rattle.model.specs.Names.{Name, sortByName}

@@ -1,7 +1,7 @@
 -- The checks of one design, refusals 7 to 15, in order. Definitions only.
-use Prim.Native.Nat.{ℕ, zero, suc}
-use mathlib.Core.Bool.{Bool, true, false, not, cond, _&&_, _||_}
-use mathlib.Core.List.{List, [], _∷_, _++_, map}
+use Prim.Native.Nat.{ℕ, suc}
+use mathlib.Core.Bool.{Bool, true, false, not, cond, _&&_}
+use mathlib.Core.List.{List, [], _∷_, _++_}
 use mathlib.Core.Option.{Option, none, some}
 use lib.ListN.{length, getElem?}
 use lib.Dec.{eqb, leb, ltb}
@@ -10,7 +10,7 @@ use Rattle.model.specs.Answers as Answers
 use Rattle.model.specs.Names.{Name, memberName}
 use Rattle.model.specs.Lists.{member}
 use Rattle.model.specs.Names as Names
-use Rattle.model.specs.Netlist.{Node, Input, Constant, RegisterOutput, Not, Output, And, Or, Xor, Mux, Enable, Reset, Register, Design, inputName, outputName, isRegisterOutput, inputNumbers, nodeCount}
+use Rattle.model.specs.Netlist.{Node, Input, Constant, RegisterOutput, Not, Output, And, Or, Xor, Mux, Enable, Reset, Register, Design, inputName, isRegisterOutput, inputNumbers}
 use Rattle.model.specs.Netlist as Netlist
 use Rattle.model.specs.Record.{Read, parsed, refusedRecord, parse}
 use Rattle.model.specs.Record as Record

@@ -8,7 +8,7 @@ use struo_ir::netlist::RegisterCell;
 use struo_ir::reader::Answer;
 ghost use mathlib.Core.Path.{_≡_};
 ghost use Prim.Native.Nat.{ℕ, _+_, _≤_, _<_};
-ghost use mathlib.Core.Bool.{cond, not, _&&_, false};
+ghost use mathlib.Core.Bool.{cond, _&&_, false};
 ghost use mathlib.Core.List.{List, [], _∷_};
 ghost use lib.ListN.{take};
 ghost use lib.Dec.{eqb};

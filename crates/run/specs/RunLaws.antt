@@ -10,7 +10,7 @@ use lib.Dec.{eqb}
 use borrow.Author.Tests.{eq-eqb, ne-eqb, eqb-true}
 use lib.ListN.{length, take, drop, getD, set, replicate, length-take, take-append-drop, drop-of-length-le, length-map}
 use lib.Seq.{drop-cons, take-suc-set, drop-set-lt, append-snoc, getD-take, length-take-le}
-use Rattle.model.specs.Names.{Name, Place, rank}
+use Rattle.model.specs.Names.{Name, Place}
 use Rattle.model.specs.Netlist.{Reset, Register, Input, Constant, RegisterOutput, Not, Output, And, Or, Xor, Mux}
 use Rattle.model.specs.Record.{bit, levelOf, nodeOf}
 use Rattle.model.specs.Validate.{driver}

@@ -1,6 +1,6 @@
 // One cycle of the run of a decoded design: node values in an array by value, next stored bits, outputs by name.
 ghost use mathlib.Core.Path.{_≡_};
-ghost use mathlib.Core.Bool.{true, false, not};
+ghost use mathlib.Core.Bool.{true, false};
 ghost use mathlib.Core.List.{List, map};
 ghost use Prim.Native.Nat.{ℕ, _+_, _<_, _≤_, _%_};
 ghost use lib.ListN.{take, drop};

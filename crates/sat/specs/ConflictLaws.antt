@@ -14,7 +14,7 @@ use Rattle.model.specs.Literal.{negate}
 use Rattle.model.specs.Sat as Sat
 use Rattle.laws.specs.Search.Analysis.{Analyzed, AnalysisEnded}
 use Rattle.laws.specs.Search.Step.{analysis-ends}
-use Rattle.assignment.specs.State.{assignmentOf, column, Ready, Unchanged}
+use Rattle.assignment.specs.State.{column, Ready, Unchanged}
 use Rattle.assignment.specs.Scores.{scoresOf, Fixed, Others, Decays}
 use Rattle.assignment.specs.StateLaws.{unchanged-none, unchanged-both, unchanged-within, level-is}
 use Rattle.assignment.specs.declared.state.Activity.{Activity}
@@ -26,7 +26,7 @@ use Rattle.assignment.specs.ScoreLaws.{others-none, others-both}
 use Rattle.sat.specs.CapacityLaws.{analysis-fits, asserting-below, clause-below, clause-length, clause-clean}
 use Rattle.sat.specs.ViewLaws.{analysis-of}
 use Rattle.sat.specs.SoundLaws.{sound-analysis, solver-analysis}
-use Rattle.sat.specs.State.{baseOf, stateOf, Fits, Stopped, solveRegions, Results, Assertable}
+use Rattle.sat.specs.State.{baseOf, stateOf, Stopped, solveRegions, Results, Assertable}
 use Rattle.sat.specs.declared.state.State.{State}
 use Rattle.sat.specs.declared.state.Step.{Step}
 use Rattle.sat.specs.declared.state.Step.the-variants as Steps

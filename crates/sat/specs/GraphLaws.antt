@@ -1,19 +1,19 @@
 -- The graph that the operations of aig leave in lent words is one that a search may be asked. Assumes nothing.
 use mathlib.Core.Path.{_≡_, refl}
 use mathlib.Core.List.{List}
-use Prim.Native.Nat.{ℕ, zero, suc, _+_, _*_, _/_, _≤_, _<_}
+use Prim.Native.Nat.{ℕ, zero, suc, _<_}
 use native.Mathlib.Omega.{arith}
 use lib.Dec.{eqb}
 use borrow.Author.Tests.{eqb-true, eqb-false}
 use mathlib.Core.Bool.{Bool, true, false}
-use lib.ListN.{length, getD, List·getD-append}
+use lib.ListN.{getD, List·getD-append}
 use lib.Seq.{getD-at}
 use Rattle.words.specs.Region.{region}
 use Rattle.model.specs.Lists.{snoc}
-use Rattle.model.specs.Aig.{Node, Constant, Variable, And, Aig}
+use Rattle.model.specs.Aig.{Constant}
 use Rattle.aig.specs.Graph.{nodeOf, nodesOf, graphAt, graphOf, length-nodes, length-graph}
 use Rattle.aig.specs.Made.{Ready}
-use Rattle.clauses.specs.State.{Gates, Holds, nodeIn}
+use Rattle.clauses.specs.State.{Gates, Holds}
 use Rattle.clauses.specs.State as Watches
 
 -- a node past the first is the same in both readings of its two words

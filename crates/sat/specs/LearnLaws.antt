@@ -11,7 +11,7 @@ use lib.Ieee.{Float}
 use Rattle.words.specs.Region.{region, length-region}
 use Rattle.model.specs.Lists.{snoc}
 use Rattle.model.specs.Sat as Sat
-use Rattle.assignment.specs.State.{Unchanged, column, assignmentOf, assignmentRegions, Ready, Becomes}
+use Rattle.assignment.specs.State.{Unchanged, column, assignmentOf, assignmentRegions, Becomes}
 use Rattle.assignment.specs.Scores.{Others}
 use Rattle.assignment.specs.StateLaws.{unchanged-none, unchanged-both, unchanged-within, assignment-kept}
 use Rattle.assignment.specs.declared.state.Trail.{Trail}
@@ -128,10 +128,6 @@ module _ (m : Store) (t : Trail) (w : List ℕ) (x : List Float) (asserting coun
 
   same : assignmentOf t w₁ ≡ assignmentOf t w
   same = assignment-kept analysisRegions t refl within
-
-  -- what backtracking asks
-  pub learn-ready : Ready t w₁
-  learn-ready = let y = able .sound .formed .ready in record { words = o .words; variables = y .variables; literals = y .literals; levels = y .levels }
 
   module _ (level : ℕ) (l : level ≡ Sat.highestLevel (assignmentOf t w) (column count 1114112 w)) (r : Trail) (w₂ : List ℕ) (b : Becomes t w₁ (Sat.backtrack (assignmentOf t w₁) level) r w₂) where
     sound₂ : Sound m r w₂ []

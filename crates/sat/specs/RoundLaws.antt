@@ -1,9 +1,9 @@
 -- Laws of a round of the search: each part of it is the definition's, and keeps the words sound. Assumes nothing.
 use mathlib.Core.Path.{_≡_, refl, ap, sym, _∙_}
 use mathlib.Core.Bool.{true, false}
-use mathlib.Core.List.{List, [], _∷_}
-use mathlib.Core.Option.{Option, none, some}
-use Prim.Native.Nat.{ℕ, zero, suc, _+_, _*_, _<_, _≤_}
+use mathlib.Core.List.{List, []}
+use mathlib.Core.Option.{Option, some}
+use Prim.Native.Nat.{ℕ, suc, _+_}
 use native.Mathlib.Omega.{arith}
 use native.Mathlib.Numerals.{add-one}
 use lib.ListN.{length}
@@ -16,13 +16,12 @@ use Rattle.assignment.specs.Scores.{scoresOf}
 use Rattle.assignment.specs.StateLaws.{unchanged-both, unchanged-within}
 use Rattle.assignment.specs.declared.state.Enqueued.{Enqueued}
 use Rattle.clauses.specs.Clauses.{watchesOf}
-use Rattle.clauses.specs.State.{solverOf, scored, Sound, UnitStep, clean}
+use Rattle.clauses.specs.State.{solverOf, scored, UnitStep}
 use Rattle.clauses.specs.StepLaws.{assigned-clauses, assigned-queues}
 use Rattle.sat.specs.LearnLaws.{learnedClause, learnRegions, Learns, counted, learn-of}
-use Rattle.sat.specs.State.{baseOf, stateOf, stepOf, Fits, solveRegions, Next, Results, Assertable}
+use Rattle.sat.specs.State.{baseOf, stateOf, Fits, solveRegions, Results, Assertable}
 use Rattle.sat.specs.declared.state.Learned.{Learned}
 use Rattle.sat.specs.declared.state.State.{State}
-use Rattle.sat.specs.declared.state.Step.{Step}
 use Rattle.sat.specs.declared.state.Step.the-variants as Steps
 
 -- ---- the asserting literal

@@ -1,12 +1,12 @@
 -- Laws of the whole search: from the encoding of a graph and its assumptions to the definition's answer. Assumes nothing.
 use mathlib.Core.Path.{_≡_, refl, ap, sym, _∙_}
 use mathlib.Core.Bool.{Bool, true, false}
-use mathlib.Core.List.{List, []}
-use mathlib.Core.Option.{Option, none, some}
-use Prim.Native.Nat.{ℕ, _+_, _*_, _/_, _<_, _≤_}
+use mathlib.Core.List.{List}
+use mathlib.Core.Option.{some}
+use Prim.Native.Nat.{ℕ, _+_, _*_, _<_, _≤_}
 use native.Mathlib.Omega.{arith}
 use native.Mathlib.Nat.{mul-le-mul}
-use lib.ListN.{length, getD, take}
+use lib.ListN.{length, take}
 use lib.Seq.{getD-take, length-take-le}
 use lib.Ieee.{Float}
 use Rattle.model.specs.Aig.{Node}
@@ -28,7 +28,7 @@ use Rattle.clauses.specs.StepLaws.{assigned-clauses, assigned-queues}
 use Rattle.clauses.specs.declared.state.Encoded.{Encoded}
 use Rattle.laws.specs.Search.Adding.{search-answered}
 use Rattle.assignment.specs.ScoreLaws.{others-both}
-use Rattle.sat.specs.State.{baseOf, stateOf, Fits, Going, solveRegions}
+use Rattle.sat.specs.State.{baseOf, stateOf, Fits, solveRegions}
 use Rattle.sat.specs.SolveLaws.{answerOf, ranFrom, Searchable, Searches}
 use Rattle.sat.specs.declared.state.State.{State}
 use Rattle.sat.specs.declared.state.Answer.{Answer}

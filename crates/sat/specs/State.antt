@@ -12,7 +12,6 @@ use Rattle.laws.specs.Search.State.{Idle, Stuck, Conflicting}
 use Rattle.assignment.specs.State.{wordValue, column, Unchanged}
 use Rattle.assignment.specs.Scores.{scoresOf, Fixed, Others}
 use Rattle.clauses.specs.State.{solverOf, Sound, searchRegions}
-use Rattle.analysis.specs.Analysis.{analysisRegions}
 use Rattle.sat.specs.LearnLaws.{learnedClause, Learnable}
 use Rattle.sat.specs.declared.state.State.{State}
 use Rattle.sat.specs.declared.state.Step.{Step}

@@ -1,17 +1,17 @@
 -- Laws of a round of the search by the end of its propagation: a decision, the model, or a conflict. Assumes nothing.
 use mathlib.Core.Path.{_≡_, refl, ap, sym, subst, _∙_}
 use mathlib.Core.List.{List, [], map}
-use Prim.Native.Nat.{ℕ, _+_, _<_, _≤_}
+use Prim.Native.Nat.{ℕ, _<_, _≤_}
 use native.Mathlib.Omega.{arith}
 use lib.ListN.{length}
 use lib.Ieee.{Float}
 use Rattle.model.specs.Sat as Sat
-use Rattle.laws.specs.Search.State.{Idle, Done, RoundOk}
+use Rattle.laws.specs.Search.State.{Done, RoundOk}
 use Rattle.laws.specs.Search.Propagation.{propagate-keeps}
 use Rattle.laws.specs.Search.Rounds.{Ended, propagate-ends}
 use Rattle.laws.specs.Search.Reachable.{Reachable, core-reachable}
 use Rattle.assignment.specs.State.{assignmentOf, assignmentRegions, Unchanged}
-use Rattle.assignment.specs.Scores.{scoresOf, Others}
+use Rattle.assignment.specs.Scores.{scoresOf}
 use Rattle.assignment.specs.StateLaws.{unchanged-both, unchanged-within, level-is}
 use Rattle.assignment.specs.declared.state.Trail.{Trail}
 use Rattle.clauses.specs.State.{solverOf, scored, Sound, trailOf, propagationOf, Propagates, searchRegions}
@@ -19,7 +19,7 @@ use Rattle.clauses.specs.declared.state.Propagation.{Propagation}
 use Rattle.clauses.specs.declared.state.Propagation.the-variants as Propagations
 use Rattle.assignment.specs.ScoreLaws.{others-none}
 use Rattle.sat.specs.DecideLaws.{Decides}
-use Rattle.sat.specs.State.{baseOf, stateOf, stepOf, modelOf, Fits, Going, Stopped, solveRegions, Results}
+use Rattle.sat.specs.State.{baseOf, stateOf, modelOf, Fits, Going, Stopped, solveRegions, Results}
 use Rattle.sat.specs.ConflictLaws.{results-after}
 use Rattle.sat.specs.declared.state.Decided.the-variants as Outcomes
 use Rattle.sat.specs.declared.state.State.{State}

@@ -1,6 +1,6 @@
 -- The transition graph of a record, by its size. Assumes nothing.
-use mathlib.Core.Path.{_≡_, refl, ap, sym, _∙_}
-use mathlib.Core.Bool.{Bool, true, false, cond}
+use mathlib.Core.Path.{_≡_, ap, sym, _∙_}
+use mathlib.Core.Bool.{cond}
 use mathlib.Core.List.{List}
 use Prim.Native.Nat.{ℕ, _+_, _≤_, _<_}
 use native.Mathlib.Omega.{arith}
@@ -12,12 +12,12 @@ use Rattle.model.specs.Aig.{Aig}
 use Rattle.model.specs.Record.{Read, parsed, refusedRecord}
 use Rattle.model.specs.Transition.{fromNetlist}
 use Rattle.struo_ir.specs.Decoded.{decoded}
-use Rattle.struo_ir.specs.Reading.{readOf, readBy, refusedAt}
+use Rattle.struo_ir.specs.Reading.{readBy, refusedAt}
 use Rattle.struo_ir.specs.declared.netlist.Netlist.{Netlist}
 use Rattle.struo_ir.specs.declared.reader.Answer.{Answer}
 use Rattle.struo_ir.specs.declared.reader.Answer.the-variants as Answers
 use Rattle.aig.specs.Graph.{graphAt, length-nodes}
-use Rattle.aig.specs.Made.{Ready, HeadsBelow, heads-ready}
+use Rattle.aig.specs.Made.{HeadsBelow, heads-ready}
 use Rattle.lowering.specs.System.{Lowered}
 
 -- how many nodes the transition graph of a reading has; a refused one has none

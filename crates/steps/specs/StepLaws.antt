@@ -12,7 +12,7 @@ use lib.Dec.{eqb}
 use Rattle.model.specs.Names.{Place}
 use Rattle.model.specs.Netlist.{Enable, Reset, Register, Design, inputs, outputs, inputCount}
 use Rattle.model.specs.Run.{InputBits, StoredBits, nodeValues, bitAt, enabledBit, resetBit, nextBit, nextFrom, nextStored, outputBits}
-use Rattle.model.specs.Replay.{Position, Stepped, claimBit, claimInputs, bitsDiffer, differAsMarked, differAsClaimed, advance, step}
+use Rattle.model.specs.Replay.{Position, Stepped, claimBit, claimInputs, bitsDiffer, differAsMarked, differAsClaimed, advance}
 use Rattle.run.specs.RunTables.{rowInputs, padded}
 use Rattle.run.specs.RunLaws.{Alike, bitAt-append}
 

@@ -7,7 +7,6 @@ ghost use lib.ListN.{take};
 ghost use Rattle.model.specs.Names.{Place};
 ghost use Rattle.model.specs.Netlist.{inputs};
 ghost use Rattle.model.specs.Replay.{bitsDiffer, differAsMarked};
-ghost use Rattle.model.specs.Replay as Replay;
 ghost use Rattle.name_order.specs.Places.{Formed, places};
 ghost use Rattle.steps.specs.StepSides.{Sound, Ready, Cycled, outcomeOf, Paired, Advanced, StepTaken};
 use name_order::order::Order;

@@ -1,6 +1,5 @@
 -- The design that a decoded netlist stands for, given the record that its names are places in. Definitions only.
 use Prim.Native.Nat.{ℕ, zero, suc}
-use mathlib.Core.Bool.{Bool, cond}
 use mathlib.Core.List.{List, [], _∷_, map}
 use mathlib.Core.Option.{Option, none, some}
 use lib.ListN.{getD, take, drop}

@@ -8,7 +8,6 @@ use borrow.Author.Tests.{ne-eqb}
 use Rattle.model.specs.Answers.{Refusal}
 use Rattle.model.specs.Record.{Step, got, refused, pure, goOn, _>>=_, number, numbers, hasName}
 use Rattle.fields.specs.Fields.{mapStep}
-use Rattle.struo_ir.specs.Nodes.{three}
 
 -- ---- numbers one by one
 

@@ -1,8 +1,8 @@
 // The trace of a counterexample: the inputs of each cycle up to the first mismatch, and the outputs that differ in it.
 ghost use mathlib.Core.Path.{_≡_};
-ghost use mathlib.Core.Bool.{Bool, xor as xorBool};
+ghost use mathlib.Core.Bool.{xor as xorBool};
 ghost use mathlib.Core.List.{_++_};
-ghost use Prim.Native.Nat.{ℕ, _+_, _*_, _≤_, _<_};
+ghost use Prim.Native.Nat.{_+_, _*_, _≤_, _<_};
 ghost use lib.ListN.{length, getD, set};
 ghost use Rattle.words.specs.Region.{region};
 ghost use Rattle.model.specs.Aig.{evaluate};

@@ -1,17 +1,14 @@
 -- Comparisons of pairs of literals, one pair after another. Assumes nothing.
-use mathlib.Core.Path.{_≡_, refl, ap, ap₂, sym, _∙_}
-use mathlib.Core.List.{List, [], _∷_, _++_}
-use Prim.Native.Nat.{ℕ, zero, suc, _+_, _*_, _≤_, _<_}
+use mathlib.Core.Path.{_≡_, refl, ap, _∙_}
+use mathlib.Core.List.{List, [], _∷_}
+use Prim.Native.Nat.{ℕ, _+_, _*_, _≤_}
 use native.Mathlib.Omega.{arith}
-use native.Mathlib.Numerals.{add-one}
-use lib.ListN.{length, getD}
 use Rattle.model.specs.Literal.{Literal, FALSE}
 use Rattle.model.specs.Lists.{snoc}
 use Rattle.model.specs.Aig.{Aig, Built, xor, or}
 use Rattle.model.specs.Equivalence.{orMismatch, anyDifference, comparePairs}
 use Rattle.aig.specs.Graph.{graphOf}
-use Rattle.aig.specs.Made.{Ready, Same, Made, outside, made-none, same-trans}
-use Rattle.lowering.specs.Firsts.{pairs, pairs-suc}
+use Rattle.aig.specs.Made.{Ready, Made, made-none, same-trans}
 
 -- one operation after another
 pub made-then : (j k n c₀ : ℕ) (w₀ : List ℕ) (c : ℕ) (w : List ℕ) (m : ℕ) (b : Built) (c′ : ℕ) (w′ : List ℕ) (l : ℕ) (f : Built → Built) → j + k ≤ n

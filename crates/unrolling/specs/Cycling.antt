@@ -1,15 +1,13 @@
 -- One cycle of both sides in the proof graph: the inputs, both frames, and the outputs compared. Assumes nothing.
-use mathlib.Core.Path.{_≡_, refl, ap, ap₂, sym, _∙_}
-use mathlib.Core.Bool.{Bool, true, false}
-use mathlib.Core.List.{List, [], _∷_, _++_, map}
-use Prim.Native.Nat.{ℕ, zero, suc, _+_, _*_, _≤_, _<_}
+use mathlib.Core.Path.{_≡_, refl, ap, sym, _∙_}
+use mathlib.Core.List.{List, []}
+use Prim.Native.Nat.{ℕ, _+_, _*_, _≤_, _<_}
 use native.Mathlib.Omega.{arith}
-use lib.ListN.{length, getD, length-map}
-use Rattle.model.specs.Literal.{Literal, node}
-use Rattle.model.specs.Lists.{zip}
+use lib.ListN.{length, length-map}
+use Rattle.model.specs.Literal.{node}
 use Rattle.model.specs.Aig.{Aig, Built}
-use Rattle.model.specs.Transition.{Port, StateBit, TransitionSystem}
-use Rattle.model.specs.Equivalence.{Problem, LiteralList, proofInputs, Frame, importFrame, Frames, importFrames, comparePairs, compareOutputs, FrameComparison, Cycle, cycleOf, comparedCycle}
+use Rattle.model.specs.Transition.{Port}
+use Rattle.model.specs.Equivalence.{Problem, LiteralList, proofInputs, Frame, importFrame, Frames, importFrames, comparePairs, compareOutputs, cycleOf, comparedCycle}
 use Rattle.aig.specs.Graph.{graphOf}
 use Rattle.aig.specs.Made.{Ready, Same, Made, same-trans}
 use Rattle.import.specs.Importing.{beyond, same-beyond}

@@ -1,25 +1,22 @@
 -- One cycle of a side in the proof graph, by the literals given to its variables and the import. Assumes nothing.
 use mathlib.Core.Path.{_≡_, ap, ap₂, sym, _∙_}
-use mathlib.Core.Bool.{Bool, true, false, cond}
 use mathlib.Core.List.{List, _++_, map, map-append}
-use Prim.Native.Nat.{ℕ, zero, suc, _+_, _*_, _/_, _≤_, _<_}
+use Prim.Native.Nat.{ℕ, _+_, _*_, _≤_, _<_}
 use native.Mathlib.Omega.{arith}
-use lib.ListN.{length, getD, take}
+use lib.ListN.{getD, take}
 use Rattle.words.specs.Region.{region}
-use Rattle.model.specs.Literal.{Literal, FALSE, inverted, negate}
-use Rattle.model.specs.Lists.{zip, lookup, member}
-use Rattle.model.specs.Aig.{Aig}
+use Rattle.model.specs.Literal.{FALSE}
+use Rattle.model.specs.Lists.{lookup}
 use Rattle.model.specs.Transition.{Port, StateBit, TransitionSystem}
-use Rattle.model.specs.Equivalence.{Import, remapLiteral, importAig, Frame, frameVariables, frameOf, importFrame}
-use Rattle.aig.specs.Graph.{graphOf, graphAt}
+use Rattle.model.specs.Equivalence.{Import, remapLiteral, importAig, frameVariables, frameOf, importFrame}
+use Rattle.aig.specs.Graph.{graphOf}
 use Rattle.aig.specs.Made.{Ready, Same, same-trans}
-use Rattle.aig.specs.Shortcut.{negate-below}
-use Rattle.import.specs.Importing.{beyond, Importing, Sourced, Given, Inside, imported-is, remap-inside, remap-take}
+use Rattle.import.specs.Importing.{beyond, Importing, Sourced, imported-is, remap-inside, remap-take}
 use Rattle.lowering.specs.Firsts.{firsts, pairs, pairs-zip, Below, Mapped, firsts-map}
 use Rattle.transition.specs.Gather.{map-map}
-use Rattle.unrolling.specs.Side.{conjunctionsOf, rhs-same, graph-same, formed-same, stands-same, conjunctions-same}
+use Rattle.unrolling.specs.Side.{conjunctionsOf, rhs-same, graph-same, formed-same, conjunctions-same}
 use Rattle.transition.specs.Side.{Formed, Stands}
-use Rattle.unrolling.specs.Give.{given, given-same, given-ready, given-graph, given-at, given-append, lookup-covered, AllBelow, lookup-below, below-append, below-pairs, keys-pairs}
+use Rattle.unrolling.specs.Give.{given, given-same, given-ready, given-graph, given-at, given-append, lookup-covered, lookup-below, below-append, below-pairs, keys-pairs}
 use Rattle.transition.specs.declared.system.System.{System}
 
 -- What a frame asks: a side in order, room for its conjunctions, and literals of the proof graph.

@@ -1,15 +1,13 @@
 -- States named alike, by an array of matches: one more than the place of the other side's state with the name, 0 for none. Assumes nothing.
 use mathlib.Core.Path.{_≡_, refl, ap, ap₂, sym, _∙_}
 use mathlib.Core.Bool.{Bool, true, false, cond}
-use mathlib.Core.List.{List, [], _∷_, _++_, map}
+use mathlib.Core.List.{List, [], _∷_}
 use mathlib.Core.Option.{Option, none, some}
-use Prim.Native.Nat.{ℕ, zero, suc, _+_, _*_, _≤_, _<_}
+use Prim.Native.Nat.{ℕ, zero, suc, _+_, _<_}
 use native.Mathlib.Omega.{arith}
 use native.Mathlib.Numerals.{add-one}
-use lib.ListN.{length, getD, length-map, List·getD-append}
-use lib.Seq.{getD-at}
+use lib.ListN.{length, getD}
 use Rattle.model.specs.Names.{Name, sameName}
-use Rattle.model.specs.Literal.{Literal}
 use Rattle.model.specs.Lists.{snoc, position, nextPlace}
 use Rattle.model.specs.Aig.{Aig, Built, variable}
 use Rattle.model.specs.Transition.{StateBit}

@@ -1,19 +1,18 @@
 -- The comparison of states named alike, one gold state after another. Assumes nothing.
-use mathlib.Core.Path.{_≡_, refl, ap, ap₂, sym, _∙_}
+use mathlib.Core.Path.{_≡_}
 use mathlib.Core.Bool.{Bool, true, false}
-use mathlib.Core.List.{List, [], _∷_, _++_}
+use mathlib.Core.List.{List}
 use mathlib.Core.Option.{Option, none, some}
 use Prim.Native.Nat.{ℕ, zero, suc, _+_, _-_, _*_, _≤_, _<_}
 use native.Mathlib.Omega.{arith}
-use lib.ListN.{length, getD}
+use lib.ListN.{getD}
 use Rattle.model.specs.Literal.{Literal}
-use Rattle.model.specs.Lists.{snoc}
 use Rattle.model.specs.Aig.{Aig, Built, variable}
 use Rattle.model.specs.Equivalence.{comparePairs}
 use Rattle.aig.specs.Graph.{graphOf}
-use Rattle.aig.specs.Made.{Ready, Made}
+use Rattle.aig.specs.Made.{Made}
 use Rattle.lowering.specs.Firsts.{Below}
-use Rattle.unrolling.specs.Comparing.{orDifference, compare-more, made-le}
+use Rattle.unrolling.specs.Comparing.{orDifference, compare-more}
 use Rattle.unrolling.specs.Comparing as Comparing
 use Rattle.unrolling.specs.Matching.{atMatch, addPair, namedBy, named-suc, gateBuilt, sharedMatch}
 

@@ -1,14 +1,10 @@
 -- New variables, one after another, in the proof graph: the literals lie in an array. Assumes nothing.
-use mathlib.Core.Path.{_≡_, refl, ap, ap₂, sym, _∙_}
-use mathlib.Core.Bool.{Bool, true, false, _&&_}
-use mathlib.Core.List.{List, [], _∷_, _++_, map}
-use mathlib.Core.Option.{Option, none, some}
+use mathlib.Core.Path.{_≡_, refl, ap, _∙_}
+use mathlib.Core.List.{List, [], _∷_}
 use Prim.Native.Nat.{ℕ, zero, suc, _+_, _*_, _≤_, _<_}
 use native.Mathlib.Omega.{arith}
 use native.Mathlib.Numerals.{add-one}
-use lib.ListN.{length, getD, set}
-use Rattle.words.specs.Region.{region}
-use Rattle.model.specs.Literal.{Literal}
+use lib.ListN.{length, set}
 use Rattle.model.specs.Lists.{snoc}
 use Rattle.model.specs.Aig.{Aig, Built, variable}
 use Rattle.model.specs.Equivalence.{LiteralList, withBuilt, newVariables}

@@ -1,7 +1,5 @@
 // One cycle of both sides: proof_inputs, both frames, and the outputs compared.
-ghost use mathlib.Core.Path.{_≡_};
-ghost use Prim.Native.Nat.{ℕ, _+_, _*_, _≤_, _<_};
-ghost use lib.ListN.{length};
+ghost use Prim.Native.Nat.{_+_, _*_};
 ghost use Rattle.unrolling.specs.Cycling.{frameCost, Startable, FramesMade, Compared};
 use crate::compare::compare_outputs;
 use crate::frame::import_frame;

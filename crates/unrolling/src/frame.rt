@@ -1,6 +1,6 @@
 // One cycle of a side in the proof graph: import_frame of equivalence.rs.
 ghost use mathlib.Core.Path.{_≡_};
-ghost use Prim.Native.Nat.{ℕ, _+_, _*_, _≤_, _<_};
+ghost use Prim.Native.Nat.{_+_, _≤_, _<_};
 ghost use lib.ListN.{length};
 ghost use Rattle.words.specs.Region.{region};
 ghost use Rattle.model.specs.Equivalence.{remapLiteral};

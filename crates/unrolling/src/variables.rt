@@ -1,8 +1,8 @@
 // New variables of the proof graph: the inputs of a cycle, and the free states of both sides.
 ghost use mathlib.Core.Path.{_≡_};
-ghost use mathlib.Core.List.{List, []};
-ghost use Prim.Native.Nat.{ℕ, _+_, _*_, _≤_, _<_};
-ghost use lib.ListN.{length, getD};
+ghost use mathlib.Core.List.{[]};
+ghost use Prim.Native.Nat.{_+_, _*_, _≤_, _<_};
+ghost use lib.ListN.{getD};
 ghost use Rattle.aig.specs.Graph.{graphOf};
 ghost use Rattle.aig.specs.Made.{Ready, Made};
 ghost use Rattle.lowering.specs.Firsts.{Below};

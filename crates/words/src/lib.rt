@@ -1,6 +1,6 @@
 // The lent words: the layout of their regions, and total accessors. Everything else reaches lent words through this crate.
 ghost use mathlib.Core.Path.{_≡_};
-ghost use Prim.Native.Nat.{ℕ, _+_, _<_, _≤_};
+ghost use Prim.Native.Nat.{_+_, _<_, _≤_};
 ghost use lib.ListN.{length, getD, replicate};
 ghost use lib.Ieee.{fin};
 ghost use lib.IntN.{pos};

@@ -1,7 +1,5 @@
 -- `counter_registers` ends. Assumes nothing.
-use Prim.Native.Nat.{ℕ, _+_, _-_, _*_, _<_, _≤_}
-use mathlib.Core.Path.{_≡_}
-use native.Mathlib.Omega.{arith}
+use Prim.Native.Nat.{_-_}
 use borrow.Author.Needs.{needs}
 use Rattle.designs.proofs.counter_registers.Statement.{statement}
 use Rattle.designs.proofs.counter_registers.Tie as tie

@@ -15,7 +15,7 @@ use Rattle.model.specs.Induction.{Query1, Query2, Query3, Query4, Closes, Undec
 use Rattle.model.specs.Literal.{Literal}
 use Rattle.model.specs.Aig.{evaluate, aigNodeValues}
 use Rattle.model.specs.Sat.{model, noModel}
-use Rattle.model.specs.Equivalence.{Problem, Query, baseCounterexample, basePreservesNamedState, inductionCloses, ask, firstMismatch, traceBytes, Verdict, Equivalent, NotEquivalent, Inconclusive, GaveUp, OutOfFuel, undecided, notEquivalentAt, proveSequentialEquivalence}
+use Rattle.model.specs.Equivalence.{Problem, Query, baseCounterexample, basePreservesNamedState, inductionCloses, ask, firstMismatch, traceBytes, Verdict, Equivalent, NotEquivalent, Inconclusive, GaveUp, OutOfFuel, notEquivalentAt, proveSequentialEquivalence}
 use Rattle.model.specs.Check.{checkDesigns}
 use Rattle.laws.specs.Terms.{NoModel, Model, NamedOpen, Passed}
 use Rattle.laws.specs.Check.Course.{Decides, differs, closes-named, closes, stops, Course, decides, passes, verdict-course}

@@ -11,7 +11,7 @@ use lib.ListN.{length}
 use lib.Dec.{ltb}
 use lib.Ieee.{Float}
 use borrow.Author.Tests.{ltb-false}
-use Rattle.model.specs.Answers.{accepted, Status, statusNumber, acceptedAnswer}
+use Rattle.model.specs.Answers.{Status, statusNumber, acceptedAnswer}
 use Rattle.model.specs.Answers as Answers
 use Rattle.model.specs.Netlist.{Design, inputCount, outputCount}
 use Rattle.model.specs.Run.{initialBits}

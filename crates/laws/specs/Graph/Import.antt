@@ -7,7 +7,7 @@ use mathlib.Core.List.{List, [], _∷_, _++_, append-assoc, append-nil}
 use mathlib.Core.Option.{Option, none, some}
 use lib.ListN.{length}
 use borrow.Author.Tests.{eq-eqb}
-use Rattle.model.specs.Literal.{Literal, FALSE, node, inverted, negate}
+use Rattle.model.specs.Literal.{Literal, FALSE, inverted, negate}
 use Rattle.model.specs.Lists.{position, nextPlace, snoc}
 use Rattle.model.specs.Aig.{Node, Constant, Variable, And, Aig, isAnd, andFound, andShortcut, andUnless, and, or, xorShortcut, xorUnless, xor}
 use Rattle.model.specs.Transition.{TransitionSystem}

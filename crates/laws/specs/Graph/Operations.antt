@@ -11,7 +11,7 @@ use lib.Dec.{eqb, leb}
 use borrow.Author.Tests.{eqb-true, leb-true, leb-false}
 use Rattle.model.specs.Literal.{Literal, FALSE, TRUE, node, inverted, negate}
 use Rattle.model.specs.Lists.{position, nextPlace, snoc}
-use Rattle.model.specs.Aig.{Node, Constant, Variable, And, Aig, Built, new, variable, isAnd, andFound, andShortcut, andUnless, and, or, xorShortcut, xorUnless, xor, muxShortcut, muxUnless, mux, evaluate, aigNodeValue, aigValuesFrom, aigNodeValues}
+use Rattle.model.specs.Aig.{Node, Constant, Variable, And, Aig, Built, variable, isAnd, andFound, andShortcut, andUnless, and, or, xorShortcut, xorUnless, xor, muxShortcut, muxUnless, mux, evaluate, aigNodeValue, aigValuesFrom, aigNodeValues}
 use Rattle.laws.specs.Lists.{length-snoc, getD-snoc-new}
 use Rattle.laws.specs.Graph.Values.{Below, InOrder, at-node, values-snoc, length-values, Grounded, node-negate, lit-neg, lit-0, lit-1, Sound, and-shortcut-sound, lit-even}
 use Rattle.facts.specs.Bools.{and-left, and-right, by-cond, xor-self, cond-same}

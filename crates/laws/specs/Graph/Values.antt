@@ -11,7 +11,7 @@ use lib.Dec.{eqb}
 use borrow.Author.Tests.{eqb-true, eqb-false, eq-eqb, ne-eqb}
 use Rattle.model.specs.Literal.{node, inverted, negate}
 use Rattle.model.specs.Lists.{snoc}
-use Rattle.model.specs.Aig.{Node, Constant, Variable, And, andShortcut, and, evaluate, aigNodeValue, aigValuesFrom}
+use Rattle.model.specs.Aig.{Node, Constant, Variable, And, andShortcut, evaluate, aigNodeValue, aigValuesFrom}
 use Rattle.laws.specs.Lists.{length-snoc, getD-snoc-new}
 use Rattle.facts.specs.Bools.{by-cond}
 

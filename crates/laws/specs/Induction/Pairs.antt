@@ -180,5 +180,3 @@ module _ (check : Check) (sound : Sound check) (accepts : Accepts check) (refuse
   -- the swap law of a check that is sound and refuses exactly where a refusal applies
   pub swap-law : SwapLaw check
   swap-law = record { verdict = verdict-swap; refusal = refused-swap }
-
--- ---- one walk, as a loop takes it: the list from i on

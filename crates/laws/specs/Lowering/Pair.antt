@@ -18,10 +18,6 @@ use Rattle.laws.specs.Lowering.SystemRun.{systemOutputs, systemNext, pai
 use Rattle.laws.specs.Pairwise.{Pairwise}
 use Rattle.laws.specs.Lowering.Run.{rowOf, byName, outputs-right, next-right, states-named}
 
--- ---- one design
-
--- ---- two designs
-
 bits-differ : (xs ys : List Bool) → pairsDiffer (zip xs ys) ≡ bitsDiffer xs ys
 unfolding pairsDiffer zip bitsDiffer
 bits-differ [] ys = refl

@@ -9,7 +9,7 @@ use mathlib.Core.Option.{Option, none, some}
 use lib.ListN.{length, length-map}
 use Rattle.model.specs.Literal.{Literal, FALSE, constantLiteral}
 use Rattle.model.specs.Lists.{snoc, zip, lookup}
-use Rattle.model.specs.Aig.{Node, Constant, Variable, And, Aig, Built, new, variable, and, or, xor, mux}
+use Rattle.model.specs.Aig.{Node, Constant, Variable, And, Aig, Built, new, variable, or, xor, mux}
 use Rattle.model.specs.Netlist.{Node as Node′, Input, Constant as Constant′, RegisterOutput, Not, Output, And as And′, Or, Xor, Mux, Enable, Reset, Register, Design}
 use Rattle.model.specs.Transition.{StateBit, TransitionSystem, Lowering, assertedLiteral, netLiteral, driverReset, withNet, withLiteral, lowerInput, lowerOutput, resetMux, shown, lowerShown, lowerRegisterOutput, lowerNode, lowerNodes, noNodes, enabled, resetNext, Registers, withState, lowerRegister, lowerRegisters, systemOf, withRegisters, fromNetlist}
 use Rattle.model.specs.Validate.{driver}

@@ -7,7 +7,7 @@ use mathlib.Core.Option.{Option, none, some}
 use lib.ListN.{length}
 use Rattle.model.specs.Literal.{Literal, node, constantLiteral}
 use Rattle.model.specs.Lists.{snoc, zip}
-use Rattle.model.specs.Aig.{Aig, Variable, new, variable, or, aigNodeValues}
+use Rattle.model.specs.Aig.{Aig, Variable, new, variable, aigNodeValues}
 use Rattle.model.specs.Names.{Name}
 use Rattle.model.specs.Transition.{StateBit}
 use Rattle.model.specs.Equivalence.{Problem, compareNamedState, importFrame, LiteralList, withBuilt, newVariables, proofInputs, orMismatch, compareOutputs, Cycle, Frames, importFrames, cycleOf, comparedCycle, Base, baseStart, counterexampleNext, counterexampleCompared, counterexampleCycle, counterexampleCycles, namedStateNext, namedStateCompared, namedStateCycle, namedStateCycles, Induction, gateVariable, matched, gateVariables, freeProductState, cycleMismatch, assumed, inductionNext, inductionCompared, inductionCycle, inductionCycles, inductionQuery, inductionCloses}

@@ -9,7 +9,7 @@ use lib.ListN.{length, getD, getElem?}
 use lib.Dec.{eqb}
 use Rattle.model.specs.Literal.{Literal, FALSE, node, inverted, negate}
 use Rattle.model.specs.Lists.{snoc, zip, lookup}
-use Rattle.model.specs.Aig.{Node, Constant, Variable, And, Aig, Built, and, evaluate, aigNodeValue, aigValuesFrom, aigNodeValues}
+use Rattle.model.specs.Aig.{Node, Constant, Variable, And, Aig, Built, evaluate, aigNodeValue, aigValuesFrom, aigNodeValues}
 use Rattle.model.specs.Transition.{Port, StateBit, TransitionSystem}
 use Rattle.model.specs.Equivalence.{remapLiteral, Import, withImported, importNode, importNodes, importAig, Frame, frameVariables, frameOf, importFrame}
 use Rattle.laws.specs.Graph.Values.{lit-0, lit-neg, node-negate}

@@ -12,7 +12,7 @@ use Rattle.model.specs.Literal.{Literal, node, negate}
 use Rattle.model.specs.Sat.{Clause, Assignment, Solver, Analysis, seeLiterals, pivotIndex, Resolution, resolving, resolved, reasonOf, closePivot, resolveNext, resolvePivot, resolveBelow, resolveRound, resolveRounds, noAnalysis, analyze}
 use Rattle.laws.specs.Graph.Values.{node-negate}
 use Rattle.laws.specs.Search.Resolvent.{Meaning, Pending, pending-means, close-ok, close-means, last-holds}
-use Rattle.laws.specs.Search.Seeing.{level, current-level, Learned, AnalysisOk, Ready, literals-ok, literals-mark, literals-new}
+use Rattle.laws.specs.Search.Seeing.{current-level, Learned, AnalysisOk, Ready, literals-ok, literals-mark, literals-new}
 use Rattle.facts.specs.Lists.{getD-replicate, All, all-from, all-map}
 use Rattle.facts.specs.Numbers.{by-eq}
 use Rattle.laws.specs.Search.Clauses.{lits, clauseValue, Satisfied}

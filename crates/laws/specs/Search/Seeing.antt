@@ -3,7 +3,7 @@ use Prim.Native.Nat.{ℕ, zero, suc, _≤_, _<_}
 use native.Mathlib.Omega.{arith}
 use mathlib.Core.Path.{_≡_, refl, sym, ap, _∙_}
 use mathlib.Core.Logic.{_≢_, _⊎_, inl, inr}
-use mathlib.Core.Bool.{Bool, true, false, not, false≢true}
+use mathlib.Core.Bool.{Bool, true, false, false≢true}
 use mathlib.Core.List.{List, [], _∷_}
 use lib.ListN.{length, getD, set, length-set}
 use lib.Seq.{getD-set-same, getD-set-other}
@@ -11,7 +11,7 @@ use lib.Dec.{eqb}
 use borrow.Author.Tests.{eqb-true, eqb-false, not-false}
 use Rattle.model.specs.Literal.{Literal, node}
 use Rattle.model.specs.Aig.{evaluate}
-use Rattle.model.specs.Sat.{Assignment, decisionLevel, Analysis, seeVariable, seeUnless, skipped, seeLiterals, resolved}
+use Rattle.model.specs.Sat.{Assignment, decisionLevel, Analysis, seeVariable, seeUnless, skipped, seeLiterals}
 use Rattle.laws.specs.Graph.Values.{node-negate, lit-neg}
 use Rattle.facts.specs.Lists.{set-any, All, all-map}
 use Rattle.facts.specs.Numbers.{by-eq, by-lt}

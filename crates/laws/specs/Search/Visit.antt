@@ -4,7 +4,6 @@ use native.Mathlib.Omega.{arith}
 use native.Mathlib.Nat.{zero-add}
 use mathlib.Core.Path.{_≡_, refl, sym, ap, subst, _∙_}
 use mathlib.Core.Logic.{_≢_, _⊎_, inl, inr}
-use mathlib.Core.Bool.{true}
 use mathlib.Core.List.{List, [], _∷_}
 use mathlib.Core.Option.{Option, none, some}
 use lib.ListN.{length, getD, set, length-set, List·getD-eq-default}
@@ -23,7 +22,7 @@ use Rattle.laws.specs.Search.State.{clauseAt, PairOf, watched-differ, Co
 use Rattle.laws.specs.Search.Values.{negate-true, negate-negate}
 use Rattle.laws.specs.Search.Watches.{TrueBy, Fixed, Safe, pair-swap, pair-map, safe-less, true-low, fixed-assign, safe-assign}
 use Rattle.model.specs.Sat.{Value, False, Unassigned, True, Clause, Assignment, Solver, withAssignment, withWatches, value, assign, enqueueValued, enqueue, emptyClause, pushWatch}
-use Rattle.model.specs.Sat.{conflict, Slot, slot0, slot1, neither, watched0, watched1, falseSlot, otherLiteral, moveWatch, replacementFrom, replacement, keepWatch, replaceWatch, visitEnqueued, visitReplacing, visitOther, visitSlot, visitClause, visit}
+use Rattle.model.specs.Sat.{Slot, slot0, slot1, neither, watched0, watched1, falseSlot, otherLiteral, moveWatch, replacementFrom, replacement, keepWatch, replaceWatch, visitEnqueued, visitReplacing, visitOther, visitSlot, visitClause, visit}
 
 module _ (n : ℕ) (C : List Clause) where
   -- one clause less is pending

@@ -1,5 +1,5 @@
 -- `lender::words` has the length that it promises. Assumes nothing.
-use mathlib.Core.Path.{_≡_, sym}
+use mathlib.Core.Path.{sym}
 use Prim.Native.Nat.{ℕ}
 use lib.ListN.{length-replicate}
 use Rattle.lender.proofs.words.Statement.{statement}

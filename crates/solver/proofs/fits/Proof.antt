@@ -1,7 +1,6 @@
 -- `fits` is the definition's test. Assumes nothing.
 use native.Mathlib.Omega.{arith}
 use Rattle.solver.specs.QueryLaws.{fits-not, fits-yes}
-use borrow.Author.Needs.{needs}
 use Rattle.solver.proofs.fits.Statement.{statement}
 use Rattle.solver.proofs.fits.Tie as tie
 

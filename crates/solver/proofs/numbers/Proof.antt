@@ -1,5 +1,5 @@
 -- `numbers` gives each answer its status. Assumes nothing.
-use mathlib.Core.Path.{refl, sym, ap}
+use mathlib.Core.Path.{sym, ap}
 use mathlib.Core.Option.{some}
 use Rattle.sat.specs.SolveLaws.{answerOf}
 use Rattle.solver.specs.Query.{statusOf}

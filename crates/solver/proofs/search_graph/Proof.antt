@@ -1,6 +1,5 @@
 -- `search_graph` meets its contract: the assumptions are literals of the graph, or the call is refused. Assumes nothing.
 use mathlib.Core.Path.{sym, _∙_}
-use native.Mathlib.Omega.{arith}
 use borrow.Author.Tests.{not-true, not-false}
 use Rattle.solver.specs.QueryLaws.{search-refused, search-asked, search-answered}
 use borrow.Author.Needs.{needs}

@@ -1,10 +1,7 @@
 -- `trace::byte` meets its contract. Assumes nothing.
 use Rattle.model.specs.Equivalence.{byte}
-use borrow.Author.Needs.{needs}
 use Rattle.trace.proofs.byte.Statement.{statement}
 use Rattle.trace.proofs.byte.Tie as tie
-use Rattle.trace.proofs.byte.Reads as reads
-use Rattle.trace.proofs.byte.Lts as lts
 
 returns : tie.Need-returns
 unfolding byte

@@ -7,10 +7,6 @@ use Rattle.trace.specs.Values.{evaluate-is}
 use borrow.Author.Needs.{needs}
 use Rattle.trace.proofs.evaluate.Statement.{statement}
 use Rattle.trace.proofs.evaluate.Tie as tie
-use Rattle.trace.proofs.evaluate.Reads as reads
-use Rattle.trace.proofs.evaluate.Lts as lts
-use Rattle.assignment.proofs.trail.fetch_below.Reads as fetch-below-reads
-use Rattle.words.proofs.wide.Reads as wide-reads
 
 returns : tie.Need-returns
 returns c =

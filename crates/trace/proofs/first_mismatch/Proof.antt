@@ -8,9 +8,6 @@ use Rattle.trace.specs.Cycles.{Equal, equal-none, equal-more, no-mismatc
 use borrow.Author.Needs.{needs}
 use Rattle.trace.proofs.first_mismatch.Statement.{statement}
 use Rattle.trace.proofs.first_mismatch.Tie as tie
-use Rattle.trace.proofs.first_mismatch.Reads as reads
-use Rattle.trace.proofs.first_mismatch.Lts as lts
-use Rattle.trace.proofs.value_at.Reads as value-at-reads
 
 abbrev Inv-loop : tie.InvT-loop
 Inv-loop words nodes cycles cycle₀ cycle = (cycle ≤ cycles) × Equal (modelOf nodes words) cycle (region 524288 words)

@@ -5,9 +5,6 @@ use Rattle.trace.specs.Values.{xor-set, xor-unset}
 use borrow.Author.Needs.{needs}
 use Rattle.trace.proofs.mark.Statement.{statement}
 use Rattle.trace.proofs.mark.Tie as tie
-use Rattle.trace.proofs.mark.Reads as reads
-use Rattle.trace.proofs.mark.Lts as lts
-use Rattle.trace.proofs.byte.Reads as byte-reads
 
 returns : tie.Need-returns
 returns c = c .byte .ensures ∙ ap byte (sym (xor-set _ _ (c .before .if1 .taken)))

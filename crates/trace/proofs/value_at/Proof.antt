@@ -2,10 +2,6 @@
 use borrow.Author.Needs.{needs}
 use Rattle.trace.proofs.value_at.Statement.{statement}
 use Rattle.trace.proofs.value_at.Tie as tie
-use Rattle.trace.proofs.value_at.Reads as reads
-use Rattle.trace.proofs.value_at.Lts as lts
-use Rattle.trace.proofs.evaluate.Reads as evaluate-reads
-use Rattle.words.proofs.fetch.Reads as fetch-reads
 
 returns : tie.Need-returns
 returns c = cc

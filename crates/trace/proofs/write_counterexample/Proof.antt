@@ -4,11 +4,6 @@ use Rattle.trace.specs.Cycles.{rows-room, traced}
 use borrow.Author.Needs.{needs}
 use Rattle.trace.proofs.write_counterexample.Statement.{statement}
 use Rattle.trace.proofs.write_counterexample.Tie as tie
-use Rattle.trace.proofs.write_counterexample.Reads as reads
-use Rattle.trace.proofs.write_counterexample.Lts as lts
-use Rattle.trace.proofs.first_mismatch.Reads as first-mismatch-reads
-use Rattle.trace.proofs.write_trace.Reads as write-trace-reads
-use Rattle.words.proofs.wide.Reads as wide-reads
 
 write-trace-requires : tie.Need-write-trace-requires
 write-trace-requires c κs =

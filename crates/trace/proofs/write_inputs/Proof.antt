@@ -10,9 +10,6 @@ use Rattle.trace.specs.Cycles.{inputsOf, inputs-none, inputs-more, lengt
 use borrow.Author.Needs.{needs}
 use Rattle.trace.proofs.write_inputs.Statement.{statement}
 use Rattle.trace.proofs.write_inputs.Tie as tie
-use Rattle.trace.proofs.write_inputs.Reads as reads
-use Rattle.trace.proofs.write_inputs.Lts as lts
-use Rattle.trace.proofs.write_values.Reads as write-values-reads
 
 abbrev Inv-loop : tie.InvT-loop
 Inv-loop words trace₀ nodes input-count n cycle₀ trace cycle =

@@ -13,11 +13,6 @@ use Rattle.trace.specs.Cycles.{marksOf, marks-none, marks-more, length-m
 use borrow.Author.Needs.{needs}
 use Rattle.trace.proofs.write_marks.Statement.{statement}
 use Rattle.trace.proofs.write_marks.Tie as tie
-use Rattle.trace.proofs.write_marks.Reads as reads
-use Rattle.trace.proofs.write_marks.Lts as lts
-use Rattle.trace.proofs.mark.Reads as mark-reads
-use Rattle.trace.proofs.put.Reads as put-reads
-use Rattle.trace.proofs.value_at.Reads as value-at-reads
 
 abbrev Inv-loop : tie.InvT-loop
 Inv-loop words trace₀ nodes row place n i₀ trace i =

@@ -8,10 +8,6 @@ use Rattle.trace.specs.Cycles.{length-inputs}
 use borrow.Author.Needs.{needs}
 use Rattle.trace.proofs.write_trace.Statement.{statement}
 use Rattle.trace.proofs.write_trace.Tie as tie
-use Rattle.trace.proofs.write_trace.Reads as reads
-use Rattle.trace.proofs.write_trace.Lts as lts
-use Rattle.trace.proofs.write_inputs.Reads as write-inputs-reads
-use Rattle.trace.proofs.write_marks.Reads as write-marks-reads
 
 returns : tie.Need-returns
 returns c =

@@ -12,11 +12,6 @@ use Rattle.trace.specs.Cycles.{bytesOf, bytes-none, bytes-more, length-b
 use borrow.Author.Needs.{needs}
 use Rattle.trace.proofs.write_values.Statement.{statement}
 use Rattle.trace.proofs.write_values.Tie as tie
-use Rattle.trace.proofs.write_values.Reads as reads
-use Rattle.trace.proofs.write_values.Lts as lts
-use Rattle.trace.proofs.byte.Reads as byte-reads
-use Rattle.trace.proofs.put.Reads as put-reads
-use Rattle.trace.proofs.value_at.Reads as value-at-reads
 
 abbrev Inv-loop : tie.InvT-loop
 Inv-loop words trace₀ nodes row place n i₀ trace i =

@@ -1,7 +1,5 @@
 -- `tell_marks` ends. Assumes nothing.
-use Prim.Native.Nat.{ℕ, _+_, _-_, _*_, _<_, _≤_}
-use mathlib.Core.Path.{_≡_}
-use native.Mathlib.Omega.{arith}
+use Prim.Native.Nat.{_-_}
 use borrow.Author.Needs.{needs}
 use Rattle.console.proofs.trace.tell_marks.Statement.{statement}
 use Rattle.console.proofs.trace.tell_marks.Tie as tie

@@ -1,14 +1,9 @@
 -- `equivalence::base::base_preserves_named_state` meets its contract. Assumes nothing.
-use mathlib.Core.Path.{_≡_, refl, ap, sym, _∙_}
 use native.Mathlib.Omega.{arith}
 use Rattle.equivalence.specs.NamedState.{startable-base, preserves}
 use borrow.Author.Needs.{needs}
 use Rattle.equivalence.proofs.base.base_preserves_named_state.Statement.{statement}
 use Rattle.equivalence.proofs.base.base_preserves_named_state.Tie as tie
-use Rattle.equivalence.proofs.base.base_preserves_named_state.Reads as reads
-use Rattle.equivalence.proofs.base.base_preserves_named_state.Lts as lts
-use Rattle.aig.proofs.Aig.new.Reads as new-reads
-use Rattle.equivalence.proofs.base.named_state_cycles.Reads as named-state-cycles-reads
 
 named-state-cycles-requires : tie.Need-named-state-cycles-requires
 named-state-cycles-requires c κs =

@@ -1,16 +1,11 @@
 -- `equivalence::base::named_state_cycle` meets its contract. Assumes nothing.
-use mathlib.Core.Path.{_≡_, refl, ap, sym, _∙_}
-use Prim.Native.Nat.{ℕ, suc, _+_, _-_, _*_, _<_, _≤_}
+use Prim.Native.Nat.{_-_}
 use native.Mathlib.Omega.{arith}
 use Rattle.unrolling.specs.Naming.{matches-below}
 use Rattle.equivalence.specs.NamedState.{startable-named, named-cycled}
 use borrow.Author.Needs.{needs}
 use Rattle.equivalence.proofs.base.named_state_cycle.Statement.{statement}
 use Rattle.equivalence.proofs.base.named_state_cycle.Tie as tie
-use Rattle.equivalence.proofs.base.named_state_cycle.Reads as reads
-use Rattle.equivalence.proofs.base.named_state_cycle.Lts as lts
-use Rattle.unrolling.proofs.cycle.import_frames.Reads as import-frames-reads
-use Rattle.equivalence.proofs.induction.cycle_mismatch.Reads as cycle-mismatch-reads
 
 cycle-mismatch-requires : tie.Need-cycle-mismatch-requires
 cycle-mismatch-requires c κs =

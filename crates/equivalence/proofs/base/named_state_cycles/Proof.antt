@@ -1,6 +1,6 @@
 -- `equivalence::base::named_state_cycles` meets its contract. Assumes nothing.
-use mathlib.Core.Path.{_≡_, refl, ap, sym, _∙_}
-use Prim.Native.Nat.{ℕ, suc, _+_, _-_, _*_, _<_, _≤_}
+use mathlib.Core.Path.{_≡_, refl}
+use Prim.Native.Nat.{suc, _+_, _-_, _*_, _<_, _≤_}
 use native.Mathlib.Omega.{arith}
 use lib.ListN.{length}
 use Rattle.unrolling.specs.Cycling.{Startable}
@@ -8,9 +8,6 @@ use Rattle.equivalence.specs.NamedState.{namedCost, NamedLeft, named-non
 use borrow.Author.Needs.{needs}
 use Rattle.equivalence.proofs.base.named_state_cycles.Statement.{statement}
 use Rattle.equivalence.proofs.base.named_state_cycles.Tie as tie
-use Rattle.equivalence.proofs.base.named_state_cycles.Reads as reads
-use Rattle.equivalence.proofs.base.named_state_cycles.Lts as lts
-use Rattle.equivalence.proofs.base.named_state_cycle.Reads as named-state-cycle-reads
 
 abbrev Inv-loop : tie.InvT-loop
 Inv-loop gold gate matches words₀ n base₀ i₀ words base i =

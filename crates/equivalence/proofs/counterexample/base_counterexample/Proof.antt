@@ -4,10 +4,6 @@ use Rattle.equivalence.specs.Counterexample.{startable-compared, compare
 use borrow.Author.Needs.{needs}
 use Rattle.equivalence.proofs.counterexample.base_counterexample.Statement.{statement}
 use Rattle.equivalence.proofs.counterexample.base_counterexample.Tie as tie
-use Rattle.equivalence.proofs.counterexample.base_counterexample.Reads as reads
-use Rattle.equivalence.proofs.counterexample.base_counterexample.Lts as lts
-use Rattle.aig.proofs.Aig.new.Reads as new-reads
-use Rattle.equivalence.proofs.counterexample.counterexample_cycles.Reads as counterexample-cycles-reads
 
 counterexample-cycles-requires : tie.Need-counterexample-cycles-requires
 counterexample-cycles-requires c κs =

@@ -1,14 +1,8 @@
 -- `equivalence::counterexample::counterexample_cycle` meets its contract. Assumes nothing.
-use native.Mathlib.Omega.{arith}
 use Rattle.equivalence.specs.Counterexample.{compared-next}
 use borrow.Author.Needs.{needs}
 use Rattle.equivalence.proofs.counterexample.counterexample_cycle.Statement.{statement}
 use Rattle.equivalence.proofs.counterexample.counterexample_cycle.Tie as tie
-use Rattle.equivalence.proofs.counterexample.counterexample_cycle.Reads as reads
-use Rattle.equivalence.proofs.counterexample.counterexample_cycle.Lts as lts
-use Rattle.aig.proofs.Aig.or.Reads as or-reads
-use Rattle.equivalence.proofs.counterexample.keep_comparison.Reads as keep-comparison-reads
-use Rattle.unrolling.proofs.cycle.compared_cycle.Reads as compared-cycle-reads
 
 keep-comparison-requires : tie.Need-keep-comparison-requires
 keep-comparison-requires c κs =

@@ -8,9 +8,6 @@ use Rattle.equivalence.specs.Counterexample.{comparedCost, ComparedLeft,
 use borrow.Author.Needs.{needs}
 use Rattle.equivalence.proofs.counterexample.counterexample_cycles.Statement.{statement}
 use Rattle.equivalence.proofs.counterexample.counterexample_cycles.Tie as tie
-use Rattle.equivalence.proofs.counterexample.counterexample_cycles.Reads as reads
-use Rattle.equivalence.proofs.counterexample.counterexample_cycles.Lts as lts
-use Rattle.equivalence.proofs.counterexample.counterexample_cycle.Reads as counterexample-cycle-reads
 
 abbrev Inv-loop : tie.InvT-loop
 Inv-loop gold gate words₀ n base₀ i₀ words base i =

@@ -1,13 +1,8 @@
 -- `equivalence::counterexample::keep_comparison` meets its contract. Assumes nothing.
-use native.Mathlib.Omega.{arith}
 use Rattle.equivalence.specs.Rows.{kept-comparison}
 use borrow.Author.Needs.{needs}
 use Rattle.equivalence.proofs.counterexample.keep_comparison.Statement.{statement}
 use Rattle.equivalence.proofs.counterexample.keep_comparison.Tie as tie
-use Rattle.equivalence.proofs.counterexample.keep_comparison.Reads as reads
-use Rattle.equivalence.proofs.counterexample.keep_comparison.Lts as lts
-use Rattle.equivalence.proofs.counterexample.keep_row.Reads as keep-row-reads
-use Rattle.words.proofs.stash.Reads as stash-reads
 
 returns : tie.Need-returns
 returns c =

@@ -7,10 +7,6 @@ use Rattle.equivalence.specs.Rows.{KeptRow, kept-none, kept-more}
 use borrow.Author.Needs.{needs}
 use Rattle.equivalence.proofs.counterexample.keep_row.Statement.{statement}
 use Rattle.equivalence.proofs.counterexample.keep_row.Tie as tie
-use Rattle.equivalence.proofs.counterexample.keep_row.Reads as reads
-use Rattle.equivalence.proofs.counterexample.keep_row.Lts as lts
-use Rattle.unrolling.proofs.variables.at.Reads as at-reads
-use Rattle.words.proofs.stash.Reads as stash-reads
 
 abbrev Inv-loop : tie.InvT-loop
 Inv-loop words₀ place literals n i₀ words i =

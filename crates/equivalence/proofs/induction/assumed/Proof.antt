@@ -1,14 +1,9 @@
 -- `equivalence::induction::assumed` meets its contract. Assumes nothing.
-use mathlib.Core.Path.{_≡_, refl, ap, sym, _∙_}
-use Prim.Native.Nat.{ℕ, _+_, _-_, _*_, _<_, _≤_}
-use native.Mathlib.Omega.{arith}
+use Prim.Native.Nat.{_-_}
 use Rattle.model.specs.Equivalence.{assumed}
 use borrow.Author.Needs.{needs}
 use Rattle.equivalence.proofs.induction.assumed.Statement.{statement}
 use Rattle.equivalence.proofs.induction.assumed.Tie as tie
-use Rattle.equivalence.proofs.induction.assumed.Reads as reads
-use Rattle.equivalence.proofs.induction.assumed.Lts as lts
-use Rattle.aig.proofs.Literal.negate.Reads as negate-reads
 
 returns : tie.Need-returns
 unfolding assumed

@@ -1,16 +1,10 @@
 -- `equivalence::induction::cycle_mismatch` meets its contract. Assumes nothing.
-use mathlib.Core.Path.{_≡_, refl, ap, sym, _∙_}
-use Prim.Native.Nat.{ℕ, _+_, _-_, _*_, _<_, _≤_}
-use native.Mathlib.Omega.{arith}
+use Prim.Native.Nat.{_-_}
 use borrow.Author.Tests.{not-true, not-false}
 use Rattle.equivalence.specs.Inducing.{joined, not-joined}
 use borrow.Author.Needs.{needs}
 use Rattle.equivalence.proofs.induction.cycle_mismatch.Statement.{statement}
 use Rattle.equivalence.proofs.induction.cycle_mismatch.Tie as tie
-use Rattle.equivalence.proofs.induction.cycle_mismatch.Reads as reads
-use Rattle.equivalence.proofs.induction.cycle_mismatch.Lts as lts
-use Rattle.aig.proofs.Aig.or.Reads as or-reads
-use Rattle.unrolling.proofs.compare.compare_named_state.Reads as compare-named-state-reads
 
 returns : tie.Need-returns
 returns c =

@@ -1,16 +1,12 @@
 -- `equivalence::induction::free_product_state` meets its contract. Assumes nothing.
-use mathlib.Core.Path.{_≡_, refl, ap, sym, _∙_}
-use Prim.Native.Nat.{ℕ, _+_, _-_, _*_, _<_, _≤_}
+use mathlib.Core.Path.{refl}
+use Prim.Native.Nat.{_-_}
 use native.Mathlib.Omega.{arith}
 use Rattle.unrolling.specs.Naming.{matches-below}
 use Rattle.equivalence.specs.FreeState.{freed}
 use borrow.Author.Needs.{needs}
 use Rattle.equivalence.proofs.induction.free_product_state.Statement.{statement}
 use Rattle.equivalence.proofs.induction.free_product_state.Tie as tie
-use Rattle.equivalence.proofs.induction.free_product_state.Reads as reads
-use Rattle.equivalence.proofs.induction.free_product_state.Lts as lts
-use Rattle.unrolling.proofs.variables.gate_variables.Reads as gate-variables-reads
-use Rattle.unrolling.proofs.variables.new_variables.Reads as new-variables-reads
 
 gate-variables-requires : tie.Need-gate-variables-requires
 gate-variables-requires c κs =

@@ -1,16 +1,10 @@
 -- `equivalence::induction::induction_closes` meets its contract. Assumes nothing.
-use mathlib.Core.Path.{_≡_, refl, ap, sym, _∙_}
-use Prim.Native.Nat.{ℕ, _+_, _-_, _*_, _<_, _≤_}
+use Prim.Native.Nat.{_-_}
 use native.Mathlib.Omega.{arith}
 use Rattle.equivalence.specs.FreeState.{startable-free, induces}
 use borrow.Author.Needs.{needs}
 use Rattle.equivalence.proofs.induction.induction_closes.Statement.{statement}
 use Rattle.equivalence.proofs.induction.induction_closes.Tie as tie
-use Rattle.equivalence.proofs.induction.induction_closes.Reads as reads
-use Rattle.equivalence.proofs.induction.induction_closes.Lts as lts
-use Rattle.aig.proofs.Aig.new.Reads as new-reads
-use Rattle.equivalence.proofs.induction.free_product_state.Reads as free-product-state-reads
-use Rattle.equivalence.proofs.induction.induction_cycles.Reads as induction-cycles-reads
 
 free-product-state-requires : tie.Need-free-product-state-requires
 free-product-state-requires c κs =

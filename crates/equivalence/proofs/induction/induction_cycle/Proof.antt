@@ -1,19 +1,13 @@
 -- `equivalence::induction::induction_cycle` meets its contract. Assumes nothing.
-use mathlib.Core.Path.{_≡_, refl, ap, sym, _∙_}
-use Prim.Native.Nat.{ℕ, _+_, _-_, _*_, _<_, _≤_}
+use Prim.Native.Nat.{_-_}
 use native.Mathlib.Omega.{arith}
-use lib.ListN.{length, length-set}
-use Rattle.lowering.specs.Firsts.{Below, below-le}
+use lib.ListN.{length-set}
+use Rattle.lowering.specs.Firsts.{below-le}
 use Rattle.unrolling.specs.Naming.{matches-below}
 use Rattle.equivalence.specs.Inducing.{cycled}
 use borrow.Author.Needs.{needs}
 use Rattle.equivalence.proofs.induction.induction_cycle.Statement.{statement}
 use Rattle.equivalence.proofs.induction.induction_cycle.Tie as tie
-use Rattle.equivalence.proofs.induction.induction_cycle.Reads as reads
-use Rattle.equivalence.proofs.induction.induction_cycle.Lts as lts
-use Rattle.unrolling.proofs.cycle.compared_cycle.Reads as compared-cycle-reads
-use Rattle.equivalence.proofs.induction.assumed.Reads as assumed-reads
-use Rattle.equivalence.proofs.induction.cycle_mismatch.Reads as cycle-mismatch-reads
 
 cycle-mismatch-requires : tie.Need-cycle-mismatch-requires
 cycle-mismatch-requires c κs =

@@ -1,6 +1,6 @@
 -- `equivalence::induction::induction_cycles` meets its contract. Assumes nothing.
-use mathlib.Core.Path.{_≡_, refl, ap, sym, _∙_}
-use Prim.Native.Nat.{ℕ, suc, _+_, _-_, _*_, _<_, _≤_}
+use mathlib.Core.Path.{_≡_, refl}
+use Prim.Native.Nat.{suc, _+_, _-_, _*_, _≤_}
 use native.Mathlib.Omega.{arith}
 use lib.ListN.{length}
 use Rattle.unrolling.specs.Cycling.{Startable}
@@ -8,9 +8,6 @@ use Rattle.equivalence.specs.Inducing.{cycleCost, Induced, induced-none,
 use borrow.Author.Needs.{needs}
 use Rattle.equivalence.proofs.induction.induction_cycles.Statement.{statement}
 use Rattle.equivalence.proofs.induction.induction_cycles.Tie as tie
-use Rattle.equivalence.proofs.induction.induction_cycles.Reads as reads
-use Rattle.equivalence.proofs.induction.induction_cycles.Lts as lts
-use Rattle.equivalence.proofs.induction.induction_cycle.Reads as induction-cycle-reads
 
 abbrev Inv-loop : tie.InvT-loop
 Inv-loop gold gate matches words₀ include depth state₀ i₀ words state i =

@@ -1,8 +1,6 @@
 -- `digits` ends. Assumes nothing.
-use Prim.Native.Nat.{ℕ, _+_, _-_, _*_, _<_, _≤_}
-use mathlib.Core.Path.{_≡_}
+use Prim.Native.Nat.{_-_}
 use lib.ListN.{length}
-use native.Mathlib.Omega.{arith}
 use borrow.Author.Needs.{needs}
 use Rattle.lender.proofs.text.digits.Statement.{statement}
 use Rattle.lender.proofs.text.digits.Tie as tie

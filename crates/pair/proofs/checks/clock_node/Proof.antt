@@ -7,8 +7,6 @@ use Rattle.pair.specs.PairCheckLaws.{clock-in, clock-out}
 use borrow.Author.Needs.{needs}
 use Rattle.pair.proofs.checks.clock_node.Statement.{statement}
 use Rattle.pair.proofs.checks.clock_node.Tie as tie
-use Rattle.pair.proofs.checks.clock_node.Reads as reads
-use Rattle.pair.proofs.checks.clock_node.Lts as lts
 
 returns : tie.Need-returns
 returns c =

@@ -4,18 +4,12 @@ use Prim.Native.Nat.{_-_, _<_}
 use native.Mathlib.Omega.{arith}
 use mathlib.Core.Bool.{not}
 use lib.ListN.{length, getD, length-map}
-use Rattle.model.specs.Pair as Pair
 use Rattle.model.specs.Pair.{sameDomain}
 use Rattle.name_order.specs.Places.{noCell}
 use Rattle.pair.specs.PairCheckLaws.{domain-by, domain-some, differ-left, differ-right, differ-some}
 use borrow.Author.Needs.{needs}
 use Rattle.pair.proofs.checks.domains_differ.Statement.{statement}
 use Rattle.pair.proofs.checks.domains_differ.Tie as tie
-use Rattle.pair.proofs.checks.domains_differ.Reads as reads
-use Rattle.pair.proofs.checks.domains_differ.Lts as lts
-use Rattle.pair.proofs.checks.clock_node.Reads as clock-node-reads
-use Rattle.pair.proofs.checks.same_domain.Reads as same-domain-reads
-use Rattle.name_order.proofs.names.wide.Reads as wide-reads
 
 returns : tie.Need-returns
 returns c =

@@ -8,10 +8,6 @@ use Rattle.pair.specs.PairChecks.{faultOf}
 use borrow.Author.Needs.{needs}
 use Rattle.pair.proofs.checks.domains_fault.Statement.{statement}
 use Rattle.pair.proofs.checks.domains_fault.Tie as tie
-use Rattle.pair.proofs.checks.domains_fault.Reads as reads
-use Rattle.pair.proofs.checks.domains_fault.Lts as lts
-use Rattle.pair.proofs.checks.domains_differ.Reads as domains-differ-reads
-use Rattle.pair.proofs.checks.many_domains.Reads as many-domains-reads
 
 returns : tie.Need-returns
 unfolding faultOf

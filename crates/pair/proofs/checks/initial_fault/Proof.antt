@@ -5,9 +5,6 @@ use Rattle.pair.specs.PairCheckLaws.{first-refuses, second-decides}
 use borrow.Author.Needs.{needs}
 use Rattle.pair.proofs.checks.initial_fault.Statement.{statement}
 use Rattle.pair.proofs.checks.initial_fault.Tie as tie
-use Rattle.pair.proofs.checks.initial_fault.Reads as reads
-use Rattle.pair.proofs.checks.initial_fault.Lts as lts
-use Rattle.pair.proofs.checks.resets_fault.Reads as resets-fault-reads
 
 returns : tie.Need-returns
 unfolding faultOf

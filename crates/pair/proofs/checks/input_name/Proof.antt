@@ -9,10 +9,6 @@ use Rattle.pair.specs.PairCheckLaws.{input-name-of}
 use borrow.Author.Needs.{needs}
 use Rattle.pair.proofs.checks.input_name.Statement.{statement}
 use Rattle.pair.proofs.checks.input_name.Tie as tie
-use Rattle.pair.proofs.checks.input_name.Reads as reads
-use Rattle.pair.proofs.checks.input_name.Lts as lts
-use Rattle.name_order.proofs.names.name_of.Reads as name-of-reads
-use Rattle.name_order.proofs.names.wide.Reads as wide-reads
 
 returns : tie.Need-returns
 returns c =

@@ -6,10 +6,6 @@ use Rattle.pair.specs.PairCheckLaws.{inputs-by, outputs-by, inputs-fault
 use borrow.Author.Needs.{needs}
 use Rattle.pair.proofs.checks.interface_fault.Statement.{statement}
 use Rattle.pair.proofs.checks.interface_fault.Tie as tie
-use Rattle.pair.proofs.checks.interface_fault.Reads as reads
-use Rattle.pair.proofs.checks.interface_fault.Lts as lts
-use Rattle.pair.proofs.checks.domains_fault.Reads as domains-fault-reads
-use Rattle.pair.proofs.checks.same_names.Reads as same-names-reads
 
 returns : tie.Need-returns
 unfolding faultOf

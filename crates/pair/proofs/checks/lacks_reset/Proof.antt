@@ -3,8 +3,6 @@ use borrow.Author.Tests.{lt-ltb, le-ltb}
 use Rattle.pair.specs.PairChecks.{lacksReset}
 use Rattle.pair.proofs.checks.lacks_reset.Statement.{statement}
 use Rattle.pair.proofs.checks.lacks_reset.Tie as tie
-use Rattle.pair.proofs.checks.lacks_reset.Reads as reads
-use Rattle.pair.proofs.checks.lacks_reset.Lts as lts
 
 returns : tie.Need-returns
 unfolding lacksReset

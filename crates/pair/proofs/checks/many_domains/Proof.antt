@@ -8,18 +8,13 @@ use mathlib.Core.Bool.{not}
 use lib.ListN.{length, drop, getD, getElem?, length-map}
 use Rattle.model.specs.Netlist.{inputName}
 use Rattle.model.specs.Pair as Pair
-use Rattle.model.specs.Pair.{nameOr, domainOf, sameDomain, allIn, manyDomains, domain}
+use Rattle.model.specs.Pair.{nameOr, domainOf, sameDomain, allIn, manyDomains}
 use Rattle.struo_ir.specs.Decoded.{decodedNode, decodedRegister, decoded}
 use Rattle.name_order.specs.Places.{noCell}
 use Rattle.pair.specs.PairCheckLaws.{domain-by, domains-none, domains-first, domains-more, domains-apart, domains-all}
 use borrow.Author.Needs.{needs}
 use Rattle.pair.proofs.checks.many_domains.Statement.{statement}
 use Rattle.pair.proofs.checks.many_domains.Tie as tie
-use Rattle.pair.proofs.checks.many_domains.Reads as reads
-use Rattle.pair.proofs.checks.many_domains.Lts as lts
-use Rattle.pair.proofs.checks.clock_node.Reads as clock-node-reads
-use Rattle.pair.proofs.checks.same_domain.Reads as same-domain-reads
-use Rattle.name_order.proofs.names.wide.Reads as wide-reads
 
 abbrev Inv-loop : tie.InvT-loop
 Inv-loop bytes netlist count first node k₀ k =

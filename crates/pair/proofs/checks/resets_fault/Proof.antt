@@ -13,12 +13,6 @@ use Rattle.pair.specs.declared.checks.Fault.the-variants.{Refused}
 use borrow.Author.Needs.{needs}
 use Rattle.pair.proofs.checks.resets_fault.Statement.{statement}
 use Rattle.pair.proofs.checks.resets_fault.Tie as tie
-use Rattle.pair.proofs.checks.resets_fault.Reads as reads
-use Rattle.pair.proofs.checks.resets_fault.Lts as lts
-use Rattle.pair.proofs.checks.lacks_reset.Reads as lacks-reset-reads
-use Rattle.pair.proofs.checks.no_reset.Reads as no-reset-reads
-use Rattle.pair.proofs.checks.within.Reads as within-reads
-use Rattle.name_order.proofs.names.wide.Reads as wide-reads
 
 abbrev Inv-loop : tie.InvT-loop
 Inv-loop side order netlist count limit k₀ k =

@@ -9,11 +9,6 @@ use Rattle.pair.specs.PairChecks.{domainBy}
 use borrow.Author.Needs.{needs}
 use Rattle.pair.proofs.checks.same_domain.Statement.{statement}
 use Rattle.pair.proofs.checks.same_domain.Tie as tie
-use Rattle.pair.proofs.checks.same_domain.Reads as reads
-use Rattle.pair.proofs.checks.same_domain.Lts as lts
-use Rattle.pair.proofs.checks.input_name.Reads as input-name-reads
-use Rattle.pair.proofs.checks.same_edge.Reads as same-edge-reads
-use Rattle.name_order.proofs.names.same.Reads as same-reads
 
 returns : tie.Need-returns
 unfolding sameDomain domainBy

@@ -4,8 +4,6 @@ use borrow.Author.Tests.{eq-eqb, ne-eqb}
 use Rattle.pair.specs.PairCheckLaws.{edges}
 use Rattle.pair.proofs.checks.same_edge.Statement.{statement}
 use Rattle.pair.proofs.checks.same_edge.Tie as tie
-use Rattle.pair.proofs.checks.same_edge.Reads as reads
-use Rattle.pair.proofs.checks.same_edge.Lts as lts
 
 returns : tie.Need-returns
 returns c = let a = c .before .args in sym (edges (a .edge) (a .other) ∙ rw (eq-eqb (a .edge) 0 (c .if1 .taken)))

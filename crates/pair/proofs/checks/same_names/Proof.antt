@@ -11,10 +11,6 @@ use Rattle.pair.specs.PairCheckLaws.{names-longer, names-apart, names-mo
 use borrow.Author.Needs.{needs}
 use Rattle.pair.proofs.checks.same_names.Statement.{statement}
 use Rattle.pair.proofs.checks.same_names.Tie as tie
-use Rattle.pair.proofs.checks.same_names.Reads as reads
-use Rattle.pair.proofs.checks.same_names.Lts as lts
-use Rattle.name_order.proofs.names.same_name.Reads as same-name-reads
-use Rattle.name_order.proofs.names.wide.Reads as wide-reads
 
 abbrev Inv-loop : tie.InvT-loop
 Inv-loop gold gate a b count limit k₀ k =

@@ -1,8 +1,7 @@
 -- `hold_words` ends, and its buffers keep their lengths. Assumes nothing.
-use Prim.Native.Nat.{ℕ, _+_, _-_, _*_, _<_, _≤_}
+use Prim.Native.Nat.{_-_}
 use mathlib.Core.Path.{_≡_}
 use lib.ListN.{length}
-use native.Mathlib.Omega.{arith}
 use borrow.Author.Needs.{needs}
 use Rattle.recorded.proofs.lent.hold_words.Statement.{statement}
 use Rattle.recorded.proofs.lent.hold_words.Tie as tie

@@ -1,8 +1,6 @@
 -- `score_fault` ends. Assumes nothing.
-use Prim.Native.Nat.{ℕ, _+_, _-_, _*_, _<_, _≤_}
-use mathlib.Core.Path.{_≡_}
+use Prim.Native.Nat.{_-_}
 use lib.ListN.{length}
-use native.Mathlib.Omega.{arith}
 use borrow.Author.Needs.{needs}
 use Rattle.recorded.proofs.lent.score_fault.Statement.{statement}
 use Rattle.recorded.proofs.lent.score_fault.Tie as tie

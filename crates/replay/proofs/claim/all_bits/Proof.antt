@@ -8,8 +8,6 @@ use Rattle.replay.specs.ClaimLaws.{bits-bad, bits-more, bits-done}
 use borrow.Author.Needs.{needs}
 use Rattle.replay.proofs.claim.all_bits.Statement.{statement}
 use Rattle.replay.proofs.claim.all_bits.Tie as tie
-use Rattle.replay.proofs.claim.all_bits.Reads as reads
-use Rattle.replay.proofs.claim.all_bits.Lts as lts
 
 abbrev Inv-loop : tie.InvT-loop
 Inv-loop claim k₀ k = (k ≤ length claim) × (allBits claim ≡ allBits (drop k claim))

@@ -10,9 +10,6 @@ use Rattle.replay.specs.ClaimLaws.{claim-within}
 use borrow.Author.Needs.{needs}
 use Rattle.replay.proofs.claim.bad_claim.Statement.{statement}
 use Rattle.replay.proofs.claim.bad_claim.Tie as tie
-use Rattle.replay.proofs.claim.bad_claim.Reads as reads
-use Rattle.replay.proofs.claim.bad_claim.Lts as lts
-use Rattle.replay.proofs.claim.all_bits.Reads as all-bits-reads
 
 returns : tie.Need-returns
 unfolding claimBad

@@ -5,9 +5,6 @@ use Rattle.replay.specs.ClaimChecks.{claimFault}
 use borrow.Author.Needs.{needs}
 use Rattle.replay.proofs.claim.claim_fault.Statement.{statement}
 use Rattle.replay.proofs.claim.claim_fault.Tie as tie
-use Rattle.replay.proofs.claim.claim_fault.Reads as reads
-use Rattle.replay.proofs.claim.claim_fault.Lts as lts
-use Rattle.replay.proofs.claim.bad_claim.Reads as bad-claim-reads
 
 returns : tie.Need-returns
 unfolding faultOf claimFault refuseIf

@@ -7,10 +7,6 @@ use Rattle.replay.specs.ReplayRight.{claim-of, later-first, later-second
 use borrow.Author.Needs.{needs}
 use Rattle.replay.proofs.replay.later_fault.Statement.{statement}
 use Rattle.replay.proofs.replay.later_fault.Tie as tie
-use Rattle.replay.proofs.replay.later_fault.Reads as reads
-use Rattle.replay.proofs.replay.later_fault.Lts as lts
-use Rattle.pair.proofs.checks.initial_fault.Reads as initial-fault-reads
-use Rattle.replay.proofs.claim.claim_fault.Reads as claim-fault-reads
 
 returns : tie.Need-returns
 unfolding faultOf

@@ -5,11 +5,6 @@ use Rattle.replay.specs.ReplayRight.{gold-refused, gold-accepted}
 use borrow.Author.Needs.{needs}
 use Rattle.replay.proofs.replay.replay.Statement.{statement}
 use Rattle.replay.proofs.replay.replay.Tie as tie
-use Rattle.replay.proofs.replay.replay.Reads as reads
-use Rattle.replay.proofs.replay.replay.Lts as lts
-use Rattle.replay.proofs.replay.refused.Reads as refused-reads
-use Rattle.replay.proofs.replay.replay_gate.Reads as replay-gate-reads
-use Rattle.netlist_checks.proofs.record.read_record.Reads as read-record-reads
 
 replay-gate-requires : tie.Need-replay-gate-requires
 replay-gate-requires c κs =

@@ -6,10 +6,6 @@ use Rattle.replay.specs.ReplayRight.{replay-first, replay-second}
 use borrow.Author.Needs.{needs}
 use Rattle.replay.proofs.replay.replay_fault.Statement.{statement}
 use Rattle.replay.proofs.replay.replay_fault.Tie as tie
-use Rattle.replay.proofs.replay.replay_fault.Reads as reads
-use Rattle.replay.proofs.replay.replay_fault.Lts as lts
-use Rattle.pair.proofs.checks.interface_fault.Reads as interface-fault-reads
-use Rattle.replay.proofs.replay.later_fault.Reads as later-fault-reads
 
 returns : tie.Need-returns
 unfolding faultOf

@@ -6,11 +6,6 @@ use Rattle.replay.specs.ReplayRight.{gate-refused, gate-accepted}
 use borrow.Author.Needs.{needs}
 use Rattle.replay.proofs.replay.replay_gate.Statement.{statement}
 use Rattle.replay.proofs.replay.replay_gate.Tie as tie
-use Rattle.replay.proofs.replay.replay_gate.Reads as reads
-use Rattle.replay.proofs.replay.replay_gate.Lts as lts
-use Rattle.replay.proofs.replay.refused.Reads as refused-reads
-use Rattle.replay.proofs.replay.replay_pair.Reads as replay-pair-reads
-use Rattle.netlist_checks.proofs.record.read_record.Reads as read-record-reads
 
 replay-pair-requires : tie.Need-replay-pair-requires
 replay-pair-requires c κs =

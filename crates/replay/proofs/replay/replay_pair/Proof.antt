@@ -6,11 +6,6 @@ use Rattle.replay.specs.ReplayRight.{accepted-cycle, answer-refused, ans
 use borrow.Author.Needs.{needs}
 use Rattle.replay.proofs.replay.replay_pair.Statement.{statement}
 use Rattle.replay.proofs.replay.replay_pair.Tie as tie
-use Rattle.replay.proofs.replay.replay_pair.Reads as reads
-use Rattle.replay.proofs.replay.replay_pair.Lts as lts
-use Rattle.pair.proofs.orders.by_name.Reads as by-name-reads
-use Rattle.replay.proofs.replay.replay_fault.Reads as replay-fault-reads
-use Rattle.replay.proofs.replay.replays_from_reset.Reads as replays-from-reset-reads
 
 replays-from-reset-requires : tie.Need-replays-from-reset-requires
 unfolding faultOf

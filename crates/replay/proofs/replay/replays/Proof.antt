@@ -12,9 +12,6 @@ use Rattle.replay.specs.ReplayRight.{position-more, answer-after, replay
 use borrow.Author.Needs.{needs}
 use Rattle.replay.proofs.replay.replays.Statement.{statement}
 use Rattle.replay.proofs.replay.replays.Tie as tie
-use Rattle.replay.proofs.replay.replays.Reads as reads
-use Rattle.replay.proofs.replay.replays.Lts as lts
-use Rattle.steps.proofs.step.step.Reads as step-reads
 
 abbrev Inv-loop : tie.InvT-loop
 Inv-loop gold gate inputs cycle claim position₀ k₀ position k =

@@ -7,11 +7,6 @@ use Rattle.replay.specs.ReplayRight.{sound-of, from-reset}
 use borrow.Author.Needs.{needs}
 use Rattle.replay.proofs.replay.replays_from_reset.Statement.{statement}
 use Rattle.replay.proofs.replay.replays_from_reset.Tie as tie
-use Rattle.replay.proofs.replay.replays_from_reset.Reads as reads
-use Rattle.replay.proofs.replay.replays_from_reset.Lts as lts
-use Rattle.replay.proofs.replay.replays.Reads as replays-reads
-use Rattle.run.proofs.run.initial_row.Reads as initial-row-reads
-use Rattle.steps.proofs.step.side_of.Reads as side-of-reads
 
 initial-row-requires-2 : tie.Need-initial-row-requires-2
 initial-row-requires-2 c κs = c .before .before .before .before .before .before .before .before .before .pre .1 .registers

@@ -4,8 +4,6 @@ use Rattle.model.specs.Record.{levelOf}
 use Rattle.model.specs.Run.{asserted}
 use Rattle.run.proofs.run.asserted.Statement.{statement}
 use Rattle.run.proofs.run.asserted.Tie as tie
-use Rattle.run.proofs.run.asserted.Reads as reads
-use Rattle.run.proofs.run.asserted.Lts as lts
 
 returns : tie.Need-returns
 unfolding asserted levelOf

@@ -5,8 +5,6 @@ use Rattle.model.specs.Run.{bitAt}
 use borrow.Author.Needs.{needs}
 use Rattle.run.proofs.run.bit_at.Statement.{statement}
 use Rattle.run.proofs.run.bit_at.Tie as tie
-use Rattle.run.proofs.run.bit_at.Reads as reads
-use Rattle.run.proofs.run.bit_at.Lts as lts
 
 returns : tie.Need-returns
 unfolding bitAt

@@ -6,8 +6,6 @@ use Rattle.model.specs.Replay.{claimBit}
 use borrow.Author.Needs.{needs}
 use Rattle.run.proofs.run.claim_bit.Statement.{statement}
 use Rattle.run.proofs.run.claim_bit.Tie as tie
-use Rattle.run.proofs.run.claim_bit.Reads as reads
-use Rattle.run.proofs.run.claim_bit.Lts as lts
 
 returns : tie.Need-returns
 unfolding claimBit bit

@@ -4,8 +4,6 @@ use Rattle.run.specs.RunTables.{gateOf}
 use Rattle.run.specs.RunLaws.{xor-true, xor-false}
 use Rattle.run.proofs.run.gate_value.Statement.{statement}
 use Rattle.run.proofs.run.gate_value.Tie as tie
-use Rattle.run.proofs.run.gate_value.Reads as reads
-use Rattle.run.proofs.run.gate_value.Lts as lts
 
 returns : tie.Need-returns
 unfolding gateOf

@@ -3,8 +3,6 @@ use mathlib.Core.Path.{sym}
 use Rattle.run.specs.RowLaws.{initial-none, initial-some}
 use Rattle.run.proofs.run.initial_bit.Statement.{statement}
 use Rattle.run.proofs.run.initial_bit.Tie as tie
-use Rattle.run.proofs.run.initial_bit.Reads as reads
-use Rattle.run.proofs.run.initial_bit.Lts as lts
 
 returns : tie.Need-returns
 returns c = sym (initial-none (c .before .before .args .cell) (c .if1 .taken))

@@ -13,9 +13,6 @@ use Rattle.run.specs.RowLaws.{initial-more, mapped-done}
 use borrow.Author.Needs.{needs}
 use Rattle.run.proofs.run.initial_row.Statement.{statement}
 use Rattle.run.proofs.run.initial_row.Tie as tie
-use Rattle.run.proofs.run.initial_row.Reads as reads
-use Rattle.run.proofs.run.initial_row.Lts as lts
-use Rattle.run.proofs.run.initial_bit.Reads as initial-bit-reads
 
 abbrev Inv-loop : tie.InvT-loop
 Inv-loop netlist count row₀ k₀ row k =

@@ -10,9 +10,6 @@ use Rattle.run.specs.RowLaws.{kept-more, next-more, next-done}
 use borrow.Author.Needs.{needs}
 use Rattle.run.proofs.run.next_stored.Statement.{statement}
 use Rattle.run.proofs.run.next_stored.Tie as tie
-use Rattle.run.proofs.run.next_stored.Reads as reads
-use Rattle.run.proofs.run.next_stored.Lts as lts
-use Rattle.run.proofs.run.next_bit.Reads as next-bit-reads
 
 abbrev Inv-loop : tie.InvT-loop
 Inv-loop values netlist count old new₀ k₀ new k =

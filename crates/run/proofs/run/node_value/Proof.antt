@@ -3,11 +3,6 @@ use Rattle.run.specs.RunTables.{nodeBy}
 use borrow.Author.Needs.{needs}
 use Rattle.run.proofs.run.node_value.Statement.{statement}
 use Rattle.run.proofs.run.node_value.Tie as tie
-use Rattle.run.proofs.run.node_value.Reads as reads
-use Rattle.run.proofs.run.node_value.Lts as lts
-use Rattle.run.proofs.run.bit_at.Reads as bit-at-reads
-use Rattle.run.proofs.run.value_of.Reads as value-of-reads
-use Rattle.name_order.proofs.names.wide.Reads as wide-reads
 
 returns : tie.Need-returns
 unfolding nodeBy

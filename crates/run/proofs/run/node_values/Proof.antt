@@ -16,13 +16,6 @@ use Rattle.run.specs.RunLaws.{rest-more, value-right, values-more, padde
 use borrow.Author.Needs.{needs}
 use Rattle.run.proofs.run.node_values.Statement.{statement}
 use Rattle.run.proofs.run.node_values.Tie as tie
-use Rattle.run.proofs.run.node_values.Reads as reads
-use Rattle.run.proofs.run.node_values.Lts as lts
-use Rattle.run.proofs.run.input_bit.Reads as input-bit-reads
-use Rattle.run.proofs.run.node_value.Reads as node-value-reads
-use Rattle.run.proofs.run.register_of.Reads as register-of-reads
-use Rattle.run.proofs.run.shown_by.Reads as shown-by-reads
-use Rattle.name_order.proofs.names.wide.Reads as wide-reads
 
 abbrev Inv-loop : tie.InvT-loop
 Inv-loop claim at netlist ranks drivers stored count values₀ i₀ values i =

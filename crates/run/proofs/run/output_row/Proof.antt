@@ -14,10 +14,6 @@ use Rattle.run.specs.RowLaws.{output-more, mapped-done}
 use borrow.Author.Needs.{needs}
 use Rattle.run.proofs.run.output_row.Statement.{statement}
 use Rattle.run.proofs.run.output_row.Tie as tie
-use Rattle.run.proofs.run.output_row.Reads as reads
-use Rattle.run.proofs.run.output_row.Lts as lts
-use Rattle.run.proofs.run.bit_at.Reads as bit-at-reads
-use Rattle.name_order.proofs.names.wide.Reads as wide-reads
 
 abbrev Inv-loop : tie.InvT-loop
 Inv-loop values outputs count row₀ k₀ row k =

@@ -6,11 +6,6 @@ use Rattle.run.specs.RunLaws.{shown-none, shown-synchronous, shown-async
 use borrow.Author.Needs.{needs}
 use Rattle.run.proofs.run.shown_bit.Statement.{statement}
 use Rattle.run.proofs.run.shown_bit.Tie as tie
-use Rattle.run.proofs.run.shown_bit.Reads as reads
-use Rattle.run.proofs.run.shown_bit.Lts as lts
-use Rattle.run.proofs.run.asserted.Reads as asserted-reads
-use Rattle.run.proofs.run.bit_at.Reads as bit-at-reads
-use Rattle.name_order.proofs.names.wide.Reads as wide-reads
 
 returns : tie.Need-returns
 returns c = let a = c .before .before .before .args in sym (shown-none _ _ (a .cell) (c .if1 .taken))

@@ -8,10 +8,6 @@ use Rattle.run.specs.RunTables.{resetOf, shownBy}
 use borrow.Author.Needs.{needs}
 use Rattle.run.proofs.run.shown_by.Statement.{statement}
 use Rattle.run.proofs.run.shown_by.Tie as tie
-use Rattle.run.proofs.run.shown_by.Reads as reads
-use Rattle.run.proofs.run.shown_by.Lts as lts
-use Rattle.run.proofs.run.bit_at.Reads as bit-at-reads
-use Rattle.run.proofs.run.shown_bit.Reads as shown-bit-reads
 
 returns : tie.Need-returns
 unfolding shownBy

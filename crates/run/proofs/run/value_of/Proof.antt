@@ -4,9 +4,6 @@ use Rattle.run.specs.RunTables.{valueOf}
 use borrow.Author.Needs.{needs}
 use Rattle.run.proofs.run.value_of.Statement.{statement}
 use Rattle.run.proofs.run.value_of.Tie as tie
-use Rattle.run.proofs.run.value_of.Reads as reads
-use Rattle.run.proofs.run.value_of.Lts as lts
-use Rattle.run.proofs.run.gate_value.Reads as gate-value-reads
 
 returns : tie.Need-returns
 unfolding valueOf

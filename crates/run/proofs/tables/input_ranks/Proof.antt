@@ -9,9 +9,6 @@ use Rattle.run.specs.TableLaws.{filled-more}
 use borrow.Author.Needs.{needs}
 use Rattle.run.proofs.tables.input_ranks.Statement.{statement}
 use Rattle.run.proofs.tables.input_ranks.Tie as tie
-use Rattle.run.proofs.tables.input_ranks.Reads as reads
-use Rattle.run.proofs.tables.input_ranks.Lts as lts
-use Rattle.run.proofs.tables.node_rank.Reads as node-rank-reads
 
 abbrev Inv-loop : tie.InvT-loop
 Inv-loop bytes gold order netlist count ranks₀ i₀ ranks i =

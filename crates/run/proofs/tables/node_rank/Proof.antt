@@ -9,10 +9,6 @@ use Rattle.run.specs.RunTables.{inputRank}
 use borrow.Author.Needs.{needs}
 use Rattle.run.proofs.tables.node_rank.Statement.{statement}
 use Rattle.run.proofs.tables.node_rank.Tie as tie
-use Rattle.run.proofs.tables.node_rank.Reads as reads
-use Rattle.run.proofs.tables.node_rank.Lts as lts
-use Rattle.run.proofs.tables.rank_in.Reads as rank-in-reads
-use Rattle.name_order.proofs.names.wide.Reads as wide-reads
 
 returns : tie.Need-returns
 unfolding inputRank

@@ -10,10 +10,6 @@ use Rattle.run.specs.TableLaws.{rank-passed, rank-here, rank-none}
 use borrow.Author.Needs.{needs}
 use Rattle.run.proofs.tables.rank_in.Statement.{statement}
 use Rattle.run.proofs.tables.rank_in.Tie as tie
-use Rattle.run.proofs.tables.rank_in.Reads as reads
-use Rattle.run.proofs.tables.rank_in.Lts as lts
-use Rattle.name_order.proofs.names.same_name.Reads as same-name-reads
-use Rattle.name_order.proofs.names.wide.Reads as wide-reads
 
 abbrev Inv-loop : tie.InvT-loop
 Inv-loop bytes place other order count k₀ k =

@@ -1,5 +1,4 @@
 -- `struo_build` meets its contract: 0, or the size of the graph of an accepted record. Assumes nothing.
-use mathlib.Core.Path.{refl}
 use Rattle.struo_ir.specs.Reading.{readOf}
 use Rattle.solver.specs.Built.{read-short, read-refused, read-accepted}
 use borrow.Author.Needs.{needs}

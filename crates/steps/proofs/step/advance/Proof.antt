@@ -7,11 +7,6 @@ use Rattle.steps.specs.StepLaws.{rows-small}
 use borrow.Author.Needs.{needs}
 use Rattle.steps.proofs.step.advance.Statement.{statement}
 use Rattle.steps.proofs.step.advance.Tie as tie
-use Rattle.steps.proofs.step.advance.Reads as reads
-use Rattle.steps.proofs.step.advance.Lts as lts
-use Rattle.steps.proofs.step.compare.Reads as compare-reads
-use Rattle.steps.proofs.step.cycle_of.Reads as cycle-of-reads
-use Rattle.steps.proofs.step.outcome.Reads as outcome-reads
 
 mul-at : tie.Need-mul-at
 mul-at c = let a = c .before .before .args in let p = c .before .before .pre in omega (arith, rows-small (a .p .cycle) (a .inputs) (omega (arith, p .4)) (p .2))

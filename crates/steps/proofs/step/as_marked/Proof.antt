@@ -10,10 +10,6 @@ use Rattle.steps.specs.StepLaws.{marked-longer, marked-wrong, marked-mor
 use borrow.Author.Needs.{needs}
 use Rattle.steps.proofs.step.as_marked.Statement.{statement}
 use Rattle.steps.proofs.step.as_marked.Tie as tie
-use Rattle.steps.proofs.step.as_marked.Reads as reads
-use Rattle.steps.proofs.step.as_marked.Lts as lts
-use Rattle.run.proofs.run.claim_bit.Reads as claim-bit-reads
-use Rattle.steps.proofs.step.mismarked.Reads as mismarked-reads
 
 abbrev Inv-loop : tie.InvT-loop
 Inv-loop claim place xs ys k₀ k = (k ≤ length xs) × (differAsMarked claim place xs ys ≡ differAsMarked claim (place + k) (drop k xs) (drop k ys))

@@ -8,9 +8,6 @@ use Rattle.steps.specs.StepLaws.{differ-longer, differ-here, differ-more
 use borrow.Author.Needs.{needs}
 use Rattle.steps.proofs.step.bits_differ.Statement.{statement}
 use Rattle.steps.proofs.step.bits_differ.Tie as tie
-use Rattle.steps.proofs.step.bits_differ.Reads as reads
-use Rattle.steps.proofs.step.bits_differ.Lts as lts
-use Rattle.steps.proofs.step.differ.Reads as differ-reads
 
 abbrev Inv-loop : tie.InvT-loop
 Inv-loop xs ys k₀ k = (k ≤ length xs) × (bitsDiffer xs ys ≡ bitsDiffer (drop k xs) (drop k ys))

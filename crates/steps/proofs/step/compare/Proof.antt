@@ -6,10 +6,6 @@ use lib.Seq.{length-take-le}
 use borrow.Author.Needs.{needs}
 use Rattle.steps.proofs.step.compare.Statement.{statement}
 use Rattle.steps.proofs.step.compare.Tie as tie
-use Rattle.steps.proofs.step.compare.Reads as reads
-use Rattle.steps.proofs.step.compare.Lts as lts
-use Rattle.steps.proofs.step.as_marked.Reads as as-marked-reads
-use Rattle.steps.proofs.step.bits_differ.Reads as bits-differ-reads
 
 slice-aggregate-bits-differ : tie.Need-slice-aggregate-bits-differ
 slice-aggregate-bits-differ c = sym (length-take-le _ _ (omega (arith, c .before .before .good .1 .1 .0 .1 .0 .1, c .before .before .pre .1)))

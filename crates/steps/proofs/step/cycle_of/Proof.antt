@@ -12,12 +12,6 @@ use Rattle.steps.specs.StepLaws.{alike-padded, nextStored-alike, outputB
 use borrow.Author.Needs.{needs}
 use Rattle.steps.proofs.step.cycle_of.Statement.{statement}
 use Rattle.steps.proofs.step.cycle_of.Tie as tie
-use Rattle.steps.proofs.step.cycle_of.Reads as reads
-use Rattle.steps.proofs.step.cycle_of.Lts as lts
-use Rattle.run.proofs.run.exchange.Reads as exchange-reads
-use Rattle.run.proofs.run.next_stored.Reads as next-stored-reads
-use Rattle.run.proofs.run.node_values.Reads as node-values-reads
-use Rattle.run.proofs.run.output_row.Reads as output-row-reads
 
 returns : tie.Need-returns
 returns c =

@@ -2,8 +2,6 @@
 use Rattle.run.specs.RunLaws.{xor-true, xor-false}
 use Rattle.steps.proofs.step.differ.Statement.{statement}
 use Rattle.steps.proofs.step.differ.Tie as tie
-use Rattle.steps.proofs.step.differ.Reads as reads
-use Rattle.steps.proofs.step.differ.Lts as lts
 
 returns : tie.Need-returns
 returns c = rw (c .if1 .taken) (xor-true _)

@@ -7,9 +7,6 @@ use Rattle.steps.specs.StepSides.{outcomeOf}
 use borrow.Author.Needs.{needs}
 use Rattle.steps.proofs.step.outcome.Statement.{statement}
 use Rattle.steps.proofs.step.outcome.Tie as tie
-use Rattle.steps.proofs.step.outcome.Reads as reads
-use Rattle.steps.proofs.step.outcome.Lts as lts
-use Rattle.steps.proofs.step.both.Reads as both-reads
 
 returns : tie.Need-returns
 unfolding outcomeOf

@@ -3,10 +3,6 @@ use mathlib.Core.Path.{refl}
 use borrow.Author.Needs.{needs}
 use Rattle.steps.proofs.step.side_of.Statement.{statement}
 use Rattle.steps.proofs.step.side_of.Tie as tie
-use Rattle.steps.proofs.step.side_of.Reads as reads
-use Rattle.steps.proofs.step.side_of.Lts as lts
-use Rattle.netlist_checks.proofs.validate.drivers.Reads as drivers-reads
-use Rattle.run.proofs.tables.input_ranks.Reads as input-ranks-reads
 
 returns : tie.Need-returns
 returns c = (refl, refl, record { ranked = c .before .before .input-ranks .ensures; driven = c .drivers .ensures })

@@ -3,9 +3,6 @@ use Rattle.steps.specs.StepRight.{step-still, step-taken}
 use borrow.Author.Needs.{needs}
 use Rattle.steps.proofs.step.step.Statement.{statement}
 use Rattle.steps.proofs.step.step.Tie as tie
-use Rattle.steps.proofs.step.step.Reads as reads
-use Rattle.steps.proofs.step.step.Lts as lts
-use Rattle.steps.proofs.step.advance.Reads as advance-reads
 
 returns : tie.Need-returns
 returns c = let a = c .before .before .before .args in let p = c .before .before .before .pre in λ s t q. step-still s t (a .inputs) (a .gold) (a .gate) (a .cycle) (a .claim .now) (a .p) (p .0) (p .1) q (c .if1 .taken)

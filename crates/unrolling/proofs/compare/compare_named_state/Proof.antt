@@ -1,22 +1,18 @@
 -- `unrolling::compare::compare_named_state` meets its contract. Assumes nothing.
-use mathlib.Core.Path.{_≡_, refl, ap, sym, _∙_}
-use Prim.Native.Nat.{ℕ, _+_, _-_, _*_, _<_, _≤_}
+use mathlib.Core.Path.{_≡_, refl}
+use Prim.Native.Nat.{_-_, _*_, _≤_}
 use native.Mathlib.Omega.{arith}
 use lib.ListN.{length}
 use Rattle.model.specs.Equivalence.{comparePairs}
 use Rattle.aig.specs.Graph.{graphOf}
 use Rattle.aig.specs.Made.{Ready, Made}
-use Rattle.lowering.specs.Firsts.{Below, below-le}
+use Rattle.lowering.specs.Firsts.{below-le}
 use Rattle.unrolling.specs.Comparing.{compare-none}
 use Rattle.unrolling.specs.Matching.{namedBy}
 use Rattle.unrolling.specs.Naming.{named-more}
 use borrow.Author.Needs.{needs}
 use Rattle.unrolling.proofs.compare.compare_named_state.Statement.{statement}
 use Rattle.unrolling.proofs.compare.compare_named_state.Tie as tie
-use Rattle.unrolling.proofs.compare.compare_named_state.Reads as reads
-use Rattle.unrolling.proofs.compare.compare_named_state.Lts as lts
-use Rattle.unrolling.proofs.compare.or_named.Reads as or-named-reads
-use Rattle.unrolling.proofs.variables.at.Reads as at-reads
 
 abbrev Inv-loop : tie.InvT-loop
 Inv-loop words₀ matches gold gate n aig₀ mismatch₀ i₀ words aig mismatch i =

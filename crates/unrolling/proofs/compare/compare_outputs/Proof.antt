@@ -1,20 +1,16 @@
 -- `unrolling::compare::compare_outputs` meets its contract. Assumes nothing.
-use mathlib.Core.Path.{_≡_, refl, ap, sym, _∙_}
-use Prim.Native.Nat.{ℕ, _+_, _-_, _*_, _<_, _≤_}
+use mathlib.Core.Path.{_≡_, refl}
+use Prim.Native.Nat.{_-_, _*_, _≤_}
 use native.Mathlib.Omega.{arith}
 use lib.ListN.{length}
 use Rattle.model.specs.Equivalence.{comparePairs}
 use Rattle.aig.specs.Graph.{graphOf}
 use Rattle.aig.specs.Made.{Ready, Made}
-use Rattle.lowering.specs.Firsts.{pairs, pairs-suc, Below}
+use Rattle.lowering.specs.Firsts.{pairs, pairs-suc}
 use Rattle.unrolling.specs.Comparing.{compare-none, compare-more}
 use borrow.Author.Needs.{needs}
 use Rattle.unrolling.proofs.compare.compare_outputs.Statement.{statement}
 use Rattle.unrolling.proofs.compare.compare_outputs.Tie as tie
-use Rattle.unrolling.proofs.compare.compare_outputs.Reads as reads
-use Rattle.unrolling.proofs.compare.compare_outputs.Lts as lts
-use Rattle.unrolling.proofs.compare.or_difference.Reads as or-difference-reads
-use Rattle.unrolling.proofs.variables.at.Reads as at-reads
 
 abbrev Inv-loop : tie.InvT-loop
 Inv-loop words₀ gold gate n aig₀ mismatch₀ i₀ words aig mismatch i =

@@ -3,10 +3,6 @@ use Rattle.unrolling.specs.Comparing.{difference-made}
 use borrow.Author.Needs.{needs}
 use Rattle.unrolling.proofs.compare.or_difference.Statement.{statement}
 use Rattle.unrolling.proofs.compare.or_difference.Tie as tie
-use Rattle.unrolling.proofs.compare.or_difference.Reads as reads
-use Rattle.unrolling.proofs.compare.or_difference.Lts as lts
-use Rattle.aig.proofs.Aig.or.Reads as or-reads
-use Rattle.aig.proofs.Aig.xor.Reads as xor-reads
 
 returns : tie.Need-returns
 returns c =

@@ -1,6 +1,6 @@
 -- `unrolling::compare::or_named` meets its contract. Assumes nothing.
-use mathlib.Core.Path.{_≡_, refl, ap, sym, _∙_}
-use Prim.Native.Nat.{ℕ, _+_, _-_, _*_, _<_, _≤_}
+use mathlib.Core.Path.{_≡_, ap, _∙_}
+use Prim.Native.Nat.{ℕ, _-_, _<_}
 use native.Mathlib.Omega.{arith}
 use lib.ListN.{getD}
 use Rattle.aig.specs.Made.{made-none}
@@ -8,11 +8,6 @@ use Rattle.unrolling.specs.Naming.{or-unmatched, or-matched}
 use borrow.Author.Needs.{needs}
 use Rattle.unrolling.proofs.compare.or_named.Statement.{statement}
 use Rattle.unrolling.proofs.compare.or_named.Tie as tie
-use Rattle.unrolling.proofs.compare.or_named.Reads as reads
-use Rattle.unrolling.proofs.compare.or_named.Lts as lts
-use Rattle.unrolling.proofs.compare.or_difference.Reads as or-difference-reads
-use Rattle.unrolling.proofs.variables.at.Reads as at-reads
-use Rattle.words.proofs.wide.Reads as wide-reads
 
 returns : tie.Need-returns
 returns c =

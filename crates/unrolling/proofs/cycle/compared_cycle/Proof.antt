@@ -1,14 +1,9 @@
 -- `unrolling::cycle::compared_cycle` meets its contract. Assumes nothing.
-use mathlib.Core.Path.{_≡_}
 use native.Mathlib.Omega.{arith}
 use Rattle.unrolling.specs.Cycling.{compared}
 use borrow.Author.Needs.{needs}
 use Rattle.unrolling.proofs.cycle.compared_cycle.Statement.{statement}
 use Rattle.unrolling.proofs.cycle.compared_cycle.Tie as tie
-use Rattle.unrolling.proofs.cycle.compared_cycle.Reads as reads
-use Rattle.unrolling.proofs.cycle.compared_cycle.Lts as lts
-use Rattle.unrolling.proofs.compare.compare_outputs.Reads as compare-outputs-reads
-use Rattle.unrolling.proofs.cycle.import_frames.Reads as import-frames-reads
 
 compare-outputs-requires : tie.Need-compare-outputs-requires
 compare-outputs-requires c κs =

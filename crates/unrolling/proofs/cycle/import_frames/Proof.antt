@@ -1,14 +1,10 @@
 -- `unrolling::cycle::import_frames` meets its contract. Assumes nothing.
-use mathlib.Core.Path.{_≡_, refl}
+use mathlib.Core.Path.{refl}
 use native.Mathlib.Omega.{arith}
 use Rattle.unrolling.specs.Cycling.{framable-gold, framable-gate, frames-made}
 use borrow.Author.Needs.{needs}
 use Rattle.unrolling.proofs.cycle.import_frames.Statement.{statement}
 use Rattle.unrolling.proofs.cycle.import_frames.Tie as tie
-use Rattle.unrolling.proofs.cycle.import_frames.Reads as reads
-use Rattle.unrolling.proofs.cycle.import_frames.Lts as lts
-use Rattle.unrolling.proofs.frame.import_frame.Reads as import-frame-reads
-use Rattle.unrolling.proofs.variables.new_variables.Reads as new-variables-reads
 
 import-frame-requires : tie.Need-import-frame-requires
 import-frame-requires c κs =

@@ -1,19 +1,13 @@
 -- `unrolling::frame::give` meets its contract. Assumes nothing.
-use mathlib.Core.Path.{_≡_, refl, ap, sym, _∙_}
-use mathlib.Core.List.{List, []}
-use Prim.Native.Nat.{ℕ, _+_, _-_, _<_, _≤_}
+use mathlib.Core.Path.{_≡_, refl, _∙_}
+use Prim.Native.Nat.{_-_, _<_, _≤_}
 use native.Mathlib.Omega.{arith}
-use lib.ListN.{length, length-set, getD}
+use lib.ListN.{length, getD}
 use Rattle.lowering.specs.Firsts.{pairs}
 use Rattle.unrolling.specs.Give.{given, given-last}
 use borrow.Author.Needs.{needs}
 use Rattle.unrolling.proofs.frame.give.Statement.{statement}
 use Rattle.unrolling.proofs.frame.give.Tie as tie
-use Rattle.unrolling.proofs.frame.give.Reads as reads
-use Rattle.unrolling.proofs.frame.give.Lts as lts
-use Rattle.unrolling.proofs.variables.at.Reads as at-reads
-use Rattle.words.proofs.stash.Reads as stash-reads
-use Rattle.words.proofs.wide.Reads as wide-reads
 
 abbrev Inv-loop : tie.InvT-loop
 Inv-loop words₀ places literals n i₀ words i =

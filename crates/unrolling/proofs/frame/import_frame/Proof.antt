@@ -3,11 +3,6 @@ use Rattle.unrolling.specs.Framing.{sourced-after, framed-after}
 use borrow.Author.Needs.{needs}
 use Rattle.unrolling.proofs.frame.import_frame.Statement.{statement}
 use Rattle.unrolling.proofs.frame.import_frame.Tie as tie
-use Rattle.unrolling.proofs.frame.import_frame.Reads as reads
-use Rattle.unrolling.proofs.frame.import_frame.Lts as lts
-use Rattle.unrolling.proofs.frame.give.Reads as give-reads
-use Rattle.unrolling.proofs.frame.remap_literals.Reads as remap-literals-reads
-use Rattle.import.proofs.import_aig.Reads as import-aig-reads
 
 import-aig-requires : tie.Need-import-aig-requires
 import-aig-requires c κs =

@@ -1,7 +1,6 @@
 -- `unrolling::frame::remap_literals` meets its contract. Assumes nothing.
-use mathlib.Core.Path.{_≡_, refl, ap, sym, _∙_}
-use mathlib.Core.List.{List, []}
-use Prim.Native.Nat.{ℕ, _+_, _-_, _<_, _≤_}
+use mathlib.Core.Path.{_≡_, refl}
+use Prim.Native.Nat.{_-_, _≤_}
 use native.Mathlib.Omega.{arith}
 use lib.ListN.{length, length-set}
 use Rattle.words.specs.Region.{region}
@@ -10,10 +9,6 @@ use Rattle.lowering.specs.Firsts.{Mapped, mapped-none, mapped-more}
 use borrow.Author.Needs.{needs}
 use Rattle.unrolling.proofs.frame.remap_literals.Statement.{statement}
 use Rattle.unrolling.proofs.frame.remap_literals.Tie as tie
-use Rattle.unrolling.proofs.frame.remap_literals.Reads as reads
-use Rattle.unrolling.proofs.frame.remap_literals.Lts as lts
-use Rattle.unrolling.proofs.variables.at.Reads as at-reads
-use Rattle.import.proofs.remap_literal.Reads as remap-literal-reads
 
 abbrev Inv-loop : tie.InvT-loop
 Inv-loop words literals n mapped₀ i₀ mapped i =

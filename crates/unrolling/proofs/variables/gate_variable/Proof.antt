@@ -1,6 +1,6 @@
 -- `unrolling::variables::gate_variable` meets its contract. Assumes nothing.
-use mathlib.Core.Path.{_≡_, refl, ap, sym, _∙_}
-use Prim.Native.Nat.{ℕ, _+_, _-_, _*_, _<_, _≤_}
+use mathlib.Core.Path.{_≡_, ap, _∙_}
+use Prim.Native.Nat.{ℕ, _-_, _<_}
 use native.Mathlib.Omega.{arith}
 use lib.ListN.{getD}
 use Rattle.aig.specs.Made.{made-none}
@@ -8,11 +8,6 @@ use Rattle.unrolling.specs.Naming.{gate-unmatched, gate-matched}
 use borrow.Author.Needs.{needs}
 use Rattle.unrolling.proofs.variables.gate_variable.Statement.{statement}
 use Rattle.unrolling.proofs.variables.gate_variable.Tie as tie
-use Rattle.unrolling.proofs.variables.gate_variable.Reads as reads
-use Rattle.unrolling.proofs.variables.gate_variable.Lts as lts
-use Rattle.aig.proofs.Aig.variable.Reads as variable-reads
-use Rattle.unrolling.proofs.variables.at.Reads as at-reads
-use Rattle.words.proofs.wide.Reads as wide-reads
 
 returns : tie.Need-returns
 returns c =

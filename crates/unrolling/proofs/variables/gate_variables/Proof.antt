@@ -1,23 +1,17 @@
 -- `unrolling::variables::gate_variables` meets its contract. Assumes nothing.
-use mathlib.Core.Path.{_≡_, refl, ap, sym, _∙_}
-use Prim.Native.Nat.{ℕ, _+_, _-_, _*_, _<_, _≤_}
+use mathlib.Core.Path.{_≡_, refl, ap, _∙_}
+use Prim.Native.Nat.{ℕ, _-_, _≤_}
 use native.Mathlib.Omega.{arith}
-use mathlib.Core.List.{List, []}
+use mathlib.Core.List.{[]}
 use lib.ListN.{length, length-set, getD}
 use Rattle.aig.specs.Graph.{graphOf}
-use Rattle.aig.specs.Made.{Ready, Made}
-use Rattle.lowering.specs.Firsts.{Below, below-le}
+use Rattle.aig.specs.Made.{Ready}
 use Rattle.unrolling.specs.Variables.{Listed, listed-none, listed-more}
 use Rattle.unrolling.specs.Matching.{gateBy, gate-suc, gateBuilt, sharedMatch}
 use Rattle.unrolling.specs.Naming.{shared-le}
 use borrow.Author.Needs.{needs}
 use Rattle.unrolling.proofs.variables.gate_variables.Statement.{statement}
 use Rattle.unrolling.proofs.variables.gate_variables.Tie as tie
-use Rattle.unrolling.proofs.variables.gate_variables.Reads as reads
-use Rattle.unrolling.proofs.variables.gate_variables.Lts as lts
-use Rattle.unrolling.proofs.variables.at.Reads as at-reads
-use Rattle.unrolling.proofs.variables.gate_variable.Reads as gate-variable-reads
-use Rattle.unrolling.proofs.variables.shared_match.Reads as shared-match-reads
 
 abbrev Inv-loop : tie.InvT-loop
 Inv-loop words₀ share matches gold n aig₀ literals₀ i₀ words aig literals i =

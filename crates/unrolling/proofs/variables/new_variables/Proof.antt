@@ -1,19 +1,16 @@
 -- `unrolling::variables::new_variables` meets its contract. Assumes nothing.
-use mathlib.Core.Path.{_≡_, refl, ap, sym, _∙_}
-use mathlib.Core.List.{List, []}
-use Prim.Native.Nat.{ℕ, _+_, _-_, _<_, _≤_}
+use mathlib.Core.Path.{_≡_, refl}
+use mathlib.Core.List.{[]}
+use Prim.Native.Nat.{_-_, _≤_}
 use native.Mathlib.Omega.{arith}
-use lib.ListN.{length, length-set, length-replicate}
-use Rattle.model.specs.Aig.{Aig, variable}
+use lib.ListN.{length, length-set}
+use Rattle.model.specs.Aig.{variable}
 use Rattle.aig.specs.Graph.{graphOf}
 use Rattle.aig.specs.Made.{Ready}
 use Rattle.unrolling.specs.Variables.{Listed, listed-none, listed-more, grown, grown-more}
 use borrow.Author.Needs.{needs}
 use Rattle.unrolling.proofs.variables.new_variables.Statement.{statement}
 use Rattle.unrolling.proofs.variables.new_variables.Tie as tie
-use Rattle.unrolling.proofs.variables.new_variables.Reads as reads
-use Rattle.unrolling.proofs.variables.new_variables.Lts as lts
-use Rattle.aig.proofs.Aig.variable.Reads as variable-reads
 
 abbrev Inv-loop : tie.InvT-loop
 Inv-loop words₀ n aig₀ literals₀ i₀ words aig literals i =
