@@ -23,6 +23,12 @@ use Rattle.struo_ir.specs.ListLaws.{drop-map-cons}
 use Rattle.run.specs.RunTables.{enableOf, resetOf, nextOf}
 use Rattle.run.specs.RunLaws.{some-reset, written-more}
 
+-- ---- a control signal
+
+-- a signal read at its number and asserted by its level
+pub signal-asserted : (values : List Bool) (level signal : ℕ) {i : ℕ} {b r : Bool} → i ≡ signal → b ≡ bitAt values i → r ≡ asserted (levelOf level) b → r ≡ asserted (levelOf level) (bitAt values signal)
+signal-asserted values level signal p q h = h ∙ ap (λ (x : Bool). asserted (levelOf level) x) (q ∙ ap (λ (k : ℕ). bitAt values k) p)
+
 -- ---- a register's next bit
 
 -- a code that is not 0 says an enable

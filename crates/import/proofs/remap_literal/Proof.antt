@@ -1,5 +1,6 @@
 -- `import::remap_literal` meets its contract. Assumes nothing.
-use mathlib.Core.Path.{_≡_, sym, _∙_}
+use Prim.Native.Nat.{ℕ}
+use mathlib.Core.Path.{_≡_, ap, sym, _∙_}
 use lib.ListN.{getD}
 use Rattle.words.specs.Region.{region}
 use Rattle.model.specs.Literal.{node}
@@ -13,7 +14,8 @@ returns c =
     let i = c .before .before in
     let f = i .before in
     let a = f .before .before .before .before .args in
-    let e : f .fetch .result ≡ getD (region 458752 (a .words .now)) (node (a .literal .0)) 0 = cc in
+    let e : f .fetch .result ≡ getD (region 458752 (a .words .now)) (node (a .literal .0)) 0 =
+    f .fetch .ensures ∙ ap (λ (i : ℕ). getD (region 458752 (a .words .now)) i 0) (f .before .wide .ensures ∙ f .before .before .node .ensures) in
     remap-inverted (region 458752 (a .words .now)) (a .literal .0) _ _ e (sym (i .inverted .ensures) ∙ c .before .if1 .taken) (c .negate .ensures)
 
 returns-2 : tie.Need-returns-2
@@ -21,7 +23,8 @@ returns-2 c =
     let i = c .before in
     let f = i .before in
     let a = f .before .before .before .before .args in
-    let e : f .fetch .result ≡ getD (region 458752 (a .words .now)) (node (a .literal .0)) 0 = cc in
+    let e : f .fetch .result ≡ getD (region 458752 (a .words .now)) (node (a .literal .0)) 0 =
+    f .fetch .ensures ∙ ap (λ (i : ℕ). getD (region 458752 (a .words .now)) i 0) (f .before .wide .ensures ∙ f .before .before .node .ensures) in
     remap-plain (region 458752 (a .words .now)) (a .literal .0) _ e (sym (i .inverted .ensures) ∙ c .if1 .left)
 
 pub remap-literal-spec : {M : Type 1} → statement M

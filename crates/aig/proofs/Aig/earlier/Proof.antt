@@ -34,7 +34,8 @@ returns c =
     let f = c .before .before .before .before .before in
     let k = head f in
     let p : 0 < l .at = omega arith in
-    let e : getD (region 0 (s .args .words .now)) (l .at) 0 ≡ s .args .lhs = cc in
+    let e : getD (region 0 (s .args .words .now)) (l .at) 0 ≡ s .args .lhs =
+    ap (λ (i : ℕ). getD (region 0 (s .args .words .now)) i 0) (sym (c .before .before .wide2 .ensures)) ∙ sym (c .before .fetch2 .ensures) ∙ c .if1 .taken in
     (link-found _ _ (s .pre .0) _ _ (s .pre .1) (f .fetch .result) (l .at) k (sym (chained-hit _ _ _ _ _ p e) ∙ l .inv .2), omega (arith, k .earlier))
 
 -- the node after the one in hand
@@ -45,17 +46,20 @@ next c =
     let l = c .before .before .before .before .before .before .loop in
     let k = head (c .before .before .before .before .before .before .before) in
     let p : 0 < l .at = omega arith in
-    link-next (s .args .self .count) _ (s .pre .0) _ _ (s .pre .1) (l .at) _ p (omega (arith, k .earlier)) (l .inv .1 p) (cc)
+    link-next (s .args .self .count) _ (s .pre .0) _ _ (s .pre .1) (l .at) _ p (omega (arith, k .earlier)) (l .inv .1 p)
+    (c .fetch3 .ensures ∙ ap (λ (i : ℕ). getD (region 131072 (s .args .words .now)) i 0) (c .before .wide3 .ensures))
 
 loop-less : tie.Need-loop-less Inv-loop μ-loop
 loop-less c = next c .earlier
 
 loop-again : tie.Need-loop-again Inv-loop μ-loop
 loop-again c =
+    let s = c .before .before .before .before .before .before .before .before .before .before in
+    let f = c .before .before .before in
     let l = c .before .before .before .before .before .before .loop in
     let k = next c in
     let p : 0 < l .at = omega arith in
-    (omega (arith, k .earlier), k .has, k .finds ∙ sym (chained-miss _ _ _ _ _ p (λ x. c .before .before .if1 .left (cc))) ∙ l .inv .2)
+    (omega (arith, k .earlier), k .has, k .finds ∙ sym (chained-miss _ _ _ _ _ p (λ x. c .before .before .if1 .left (f .fetch2 .ensures ∙ ap (λ (i : ℕ). getD (region 0 (s .args .words .now)) i 0) (f .before .wide2 .ensures) ∙ x))) ∙ l .inv .2)
 
 returns-2 : tie.Need-returns-2 Inv-loop μ-loop
 returns-2 c =

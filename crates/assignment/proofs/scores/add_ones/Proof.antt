@@ -1,5 +1,5 @@
-use mathlib.Core.Path.{_≡_}
-use Prim.Native.Nat.{_≤_, _-_, _/_}
+use mathlib.Core.Path.{_≡_, ap, _∙_}
+use Prim.Native.Nat.{ℕ, _≤_, _-_, _/_}
 use native.Mathlib.Omega.{arith}
 use lib.Ieee as Ieee
 use lib.ListN.{length, getD}
@@ -28,7 +28,7 @@ loop-again c =
     let s = l .before .before .before in
     let w = s .args .words .now in
     let k : s .args .end ≤ length (region 4718592 w) = omega (arith, length-region 4718592 w (omega arith)) in
-    let e : d .before .wide .result ≡ getD (region 4718592 w) (l .loop .i) 0 / 2 = cc in
+    let e : d .before .wide .result ≡ getD (region 4718592 w) (l .loop .i) 0 / 2 = d .before .wide .ensures ∙ ap (λ (x : ℕ). x / 2) (f .fetch .ensures) in
     adding-step _ _ _ _ _ _ _ _ _ k (l .loop .inv) (f .before .loop-test .taken) e (d .add-score .ensures)
 
 same-length : tie.Need-same-length Inv-loop μ-loop

@@ -1,4 +1,8 @@
 -- `seal` meets its contract: its three stores are those of `sealedWords`. Assumes nothing.
+use Prim.Native.Nat.{ℕ, _+_, _*_}
+use mathlib.Core.Path.{ap, _∙_}
+use mathlib.Core.List.{List}
+use Rattle.words.specs.Region.{stored}
 use Rattle.clauses.specs.State.{sealedWords}
 use borrow.Author.Needs.{needs}
 use Rattle.clauses.proofs.add.seal.Statement.{statement}
@@ -6,7 +10,13 @@ use Rattle.clauses.proofs.add.seal.Tie as tie
 
 returns : tie.Need-returns
 unfolding sealedWords
-returns c = (cc, search needs)
+returns c =
+    let last = c .before .before in
+    let zero = last .before .before .before .before in
+    let start = zero .before .before .before .before in
+    let a = start .before .before .before .args in
+    let x = zero .stash2 .ensures .0 ∙ ap (λ (w : List ℕ). stored 2621440 w (a .id * 2) 0) (start .stash .ensures .0) in
+    (last .stash3 .ensures .0 ∙ ap (λ (w : List ℕ). stored 2621440 w (a .id * 2 + 1) (a .place)) x, search needs)
 
 pub seal-spec : {M : Type 1} → statement M
 seal-spec =

@@ -1,6 +1,8 @@
 -- `literal_at` meets its contract: by whether the place is before the clause's end. Assumes nothing.
-use Prim.Native.Nat.{_+_, _<_, _≤_}
-use mathlib.Core.Path.{_≡_}
+use Prim.Native.Nat.{ℕ, _+_, _<_, _≤_}
+use mathlib.Core.Path.{_≡_, ap, ap₂, sym, _∙_}
+use lib.ListN.{getD}
+use Rattle.words.specs.Region.{region}
 use native.Mathlib.Omega.{arith}
 use Rattle.clauses.specs.ClauseLaws.{literal-in, literal-out}
 use borrow.Author.Needs.{needs}
@@ -11,16 +13,18 @@ returns : tie.Need-returns
 returns c =
     let i = c .before in
     let a = i .before .before .before .before .before .args in
-    let e : i .before .before .before .wide .result + i .before .before .wide2 .result ≡ a .c .start + a .place = cc in
+    let e : i .before .before .before .wide .result + i .before .before .wide2 .result ≡ a .c .start + a .place =
+    ap₂ _+_ (i .before .before .before .wide .ensures) (i .before .before .wide2 .ensures) in
     let h : a .c .start + a .place < a .c .end = omega (arith, i .if1 .taken, i .before .wide3 .ensures) in
-    cc (literal-in (a .c) (a .words .now) (a .place) h)
+    c .fetch .ensures ∙ ap (λ (k : ℕ). getD (region 4718592 (a .words .now)) k 0) e ∙ sym (literal-in (a .c) (a .words .now) (a .place) h)
 
 returns-2 : tie.Need-returns-2
 returns-2 c =
     let a = c .before .before .before .before .before .args in
-    let e : c .before .before .before .wide .result + c .before .before .wide2 .result ≡ a .c .start + a .place = cc in
+    let e : c .before .before .before .wide .result + c .before .before .wide2 .result ≡ a .c .start + a .place =
+    ap₂ _+_ (c .before .before .before .wide .ensures) (c .before .before .wide2 .ensures) in
     let h : a .c .end ≤ a .c .start + a .place = omega (arith, c .if1 .left, c .before .wide3 .ensures) in
-    cc (literal-out (a .c) (a .words .now) (a .place) h)
+    sym (literal-out (a .c) (a .words .now) (a .place) h)
 
 pub literal-at-spec : {M : Type 1} → statement M
 literal-at-spec =

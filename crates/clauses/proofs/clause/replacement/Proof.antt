@@ -1,6 +1,6 @@
 -- `replacement` meets its contract. The invariant: what is left of the clause's literals decides. Assumes nothing.
 use Prim.Native.Nat.{_-_, _<_, _≤_}
-use mathlib.Core.Path.{_≡_, _∙_}
+use mathlib.Core.Path.{_≡_, sym, _∙_}
 use native.Mathlib.Omega.{arith}
 use mathlib.Core.Bool.{true, false}
 use lib.ListN.{drop, getD, length}
@@ -31,7 +31,7 @@ returns c =
     let s = l .before .before .before .before in
     let a = s .args in
     let n : l .loop .i < length (clauseOf (a .c) (a .words .now) .literals) = omega (arith, length-literals (a .c) (a .words .now) (s .pre .0) (s .pre .1), c .before .before .if1 .taken, c .before .before .before .wide3 .ensures, l .before .wide2 .ensures, l .before .before .wide .ensures) in
-    let e : true ≡ Sat.canReplace (assignmentOf (a .t) (a .words .now)) (clauseOf (a .c) (a .words .now)) (l .loop .i) (getD (clauseOf (a .c) (a .words .now) .literals) (l .loop .i) 0) = cc in
+    let e : true ≡ Sat.canReplace (assignmentOf (a .t) (a .words .now)) (clauseOf (a .c) (a .words .now)) (l .loop .i) (getD (clauseOf (a .c) (a .words .now) .literals) (l .loop .i) 0) = sym (c .if2 .taken) ∙ c .before .can-replace .ensures in
     place-found (assignmentOf (a .t) (a .words .now)) (clauseOf (a .c) (a .words .now)) (l .loop .i) n e ∙ l .loop .inv .1
 
 loop-again : tie.Need-loop-again Inv-loop μ-loop
@@ -40,7 +40,7 @@ loop-again c =
     let s = l .before .before .before .before in
     let a = s .args in
     let n : l .loop .i < length (clauseOf (a .c) (a .words .now) .literals) = omega (arith, length-literals (a .c) (a .words .now) (s .pre .0) (s .pre .1), c .before .before .if1 .taken, c .before .before .before .wide3 .ensures, l .before .wide2 .ensures, l .before .before .wide .ensures) in
-    let e : false ≡ Sat.canReplace (assignmentOf (a .t) (a .words .now)) (clauseOf (a .c) (a .words .now)) (l .loop .i) (getD (clauseOf (a .c) (a .words .now) .literals) (l .loop .i) 0) = cc in
+    let e : false ≡ Sat.canReplace (assignmentOf (a .t) (a .words .now)) (clauseOf (a .c) (a .words .now)) (l .loop .i) (getD (clauseOf (a .c) (a .words .now) .literals) (l .loop .i) 0) = sym (c .if2 .left) ∙ c .before .can-replace .ensures in
     (omega (arith, length-literals (a .c) (a .words .now) (s .pre .0) (s .pre .1), s .pre .1), place-not-here (assignmentOf (a .t) (a .words .now)) (clauseOf (a .c) (a .words .now)) (l .loop .i) n e ∙ l .loop .inv .1)
 
 returns-2 : tie.Need-returns-2 Inv-loop μ-loop

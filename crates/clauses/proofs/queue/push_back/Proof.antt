@@ -1,4 +1,8 @@
 -- `push_back` meets its contract: its three stores are those of `pushedWords`. Assumes nothing.
+use Prim.Native.Nat.{ℕ, _+_}
+use mathlib.Core.Path.{ap, ap₂, _∙_}
+use mathlib.Core.List.{List}
+use Rattle.words.specs.Region.{stored}
 use Rattle.clauses.specs.Queue.{pushedWords}
 use borrow.Author.Needs.{needs}
 use Rattle.clauses.proofs.queue.push_back.Statement.{statement}
@@ -6,7 +10,14 @@ use Rattle.clauses.proofs.queue.push_back.Tie as tie
 
 returns : tie.Need-returns
 unfolding pushedWords
-returns c = (cc, search needs)
+returns c =
+    let count = c .before .before in
+    let tail = count .before .before .before .before in
+    let first = tail .before .before .before .before in
+    let read = first .before .before in
+    let a = read .before .before .before .args in
+    let x = tail .stash .ensures .0 ∙ ap (λ (w : List ℕ). stored 1835008 w (a .l) (a .cell)) (first .link .ensures .0) in
+    (count .stash2 .ensures .0 ∙ ap₂ (λ (w : List ℕ) (n : ℕ). stored 1966080 w (a .l) (n + 1)) x (read .fetch .ensures), search needs)
 
 pub push-back-spec : {M : Type 1} → statement M
 push-back-spec =

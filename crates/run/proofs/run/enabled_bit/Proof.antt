@@ -1,8 +1,6 @@
 -- `enabled_bit` goes by the enable's code and its signal. Assumes nothing.
-use mathlib.Core.Path.{_≡_, sym, _∙_}
-use Rattle.model.specs.Record.{levelOf}
-use Rattle.model.specs.Run.{bitAt, asserted}
-use Rattle.run.specs.RowLaws.{enabled-none, enabled-some}
+use mathlib.Core.Path.{sym, _∙_}
+use Rattle.run.specs.RowLaws.{enabled-none, enabled-some, signal-asserted}
 use borrow.Author.Needs.{needs}
 use Rattle.run.proofs.run.enabled_bit.Statement.{statement}
 use Rattle.run.proofs.run.enabled_bit.Tie as tie
@@ -13,13 +11,15 @@ returns c = let a = c .before .before .before .args in sym (enabled-none (a .val
 returns-2 : tie.Need-returns-2
 returns-2 c =
     let a = c .before .before .before .before .before .before .before .args in
-    let e : c .before .asserted .result ≡ asserted (levelOf (a .cell .enable)) (bitAt (a .values .now) (a .cell .«enable_signal»)) = cc in
+    let k = c .before in
+    let e = signal-asserted (a .values .now) (a .cell .enable) (a .cell .«enable_signal») (k .before .before .wide .ensures) (k .before .bit-at .ensures) (k .asserted .ensures) in
     sym (enabled-some (a .values .now) (a .stored) (a .next) (a .cell) (c .before .before .before .before .if1 .left) ∙ rw (← e, c .if2 .taken))
 
 returns-3 : tie.Need-returns-3
 returns-3 c =
     let a = c .before .before .before .before .before .before .before .args in
-    let e : c .before .asserted .result ≡ asserted (levelOf (a .cell .enable)) (bitAt (a .values .now) (a .cell .«enable_signal»)) = cc in
+    let k = c .before in
+    let e = signal-asserted (a .values .now) (a .cell .enable) (a .cell .«enable_signal») (k .before .before .wide .ensures) (k .before .bit-at .ensures) (k .asserted .ensures) in
     sym (enabled-some (a .values .now) (a .stored) (a .next) (a .cell) (c .before .before .before .before .if1 .left) ∙ rw (← e, c .if2 .left))
 
 pub enabled-bit-spec : {M : Type 1} → statement M
