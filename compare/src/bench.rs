@@ -1,6 +1,5 @@
 //! Measures the library beside the Rust on the same inputs, in one run.
 use std::hint::black_box;
-use std::time::Instant;
 
 use oracle::bridge::netlist;
 use oracle::random::Size;
@@ -8,16 +7,11 @@ use oracle::reads::random_design;
 use oracle::record::{self, encode};
 use oracle::rng::Rng;
 
+use crate::clock;
 
 /// The mean time of a call in nanoseconds, over enough rounds of all inputs to fill a quarter of a second.
-fn mean(count: usize, mut round: impl FnMut()) -> f64 {
-    let start = Instant::now();
-    let mut rounds = 0u32;
-    while start.elapsed().as_millis() < 250 {
-        round();
-        rounds += 1;
-    }
-    start.elapsed().as_nanos() as f64 / f64::from(rounds) / count as f64
+fn mean(count: usize, round: impl FnMut()) -> f64 {
+    clock::mean(0.25, round) * 1e9 / count as f64
 }
 
 /// Reads of accepted records: the library's whole read, the Rust's validate of the same netlist, and the oracle's own reader.

@@ -8,7 +8,7 @@ use oracle::reads::random_design;
 use oracle::record::{self, encode};
 use oracle::rng::Rng;
 
-use crate::bench_solve::best;
+use crate::clock::best;
 use crate::solve::Lent;
 
 extern "C" {

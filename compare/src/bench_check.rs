@@ -14,6 +14,7 @@ use oracle::struo_ir::Netlist;
 use oracle::transition::TransitionSystem;
 use oracle::vectors::{check_line, unhex};
 
+use crate::clock;
 
 /// One accepted check: the records, their netlists for the Rust, the depth and the oracle's answer.
 struct Pair {
@@ -40,37 +41,10 @@ fn pair(line: &str) -> Option<Pair> {
     Some(Pair { gold, gate, netlists, depth, answer })
 }
 
-/// The seconds and nanoseconds of a clock.
-#[repr(C)]
-struct Moment {
-    seconds: i64,
-    nanoseconds: i64,
-}
-
-extern "C" {
-    fn clock_gettime(clock: i32, moment: *mut Moment) -> i32;
-}
-
-/// The milliseconds that this thread has run so far: other work on the machine does not count.
-fn spent() -> f64 {
-    const THREAD_CPU_TIME: i32 = 3;
-    let mut moment = Moment { seconds: 0, nanoseconds: 0 };
-    // The call writes one moment.
-    let status = unsafe { clock_gettime(THREAD_CPU_TIME, &mut moment) };
-    assert_eq!(status, 0, "the system has a clock for threads");
-    moment.seconds as f64 * 1e3 + moment.nanoseconds as f64 / 1e6
-}
-
 /// The mean time of a call in milliseconds, over enough rounds of all pairs to fill half a second.
 fn mean(pairs: &[Pair], mut call: impl FnMut(&Pair)) -> f64 {
     pairs.iter().take(1).for_each(&mut call);
-    let start = spent();
-    let mut rounds = 0u32;
-    while spent() - start < 500.0 {
-        pairs.iter().for_each(&mut call);
-        rounds += 1;
-    }
-    (spent() - start) / f64::from(rounds) / pairs.len() as f64
+    clock::mean(0.5, || pairs.iter().for_each(&mut call)) * 1e3 / pairs.len() as f64
 }
 
 /// The Rust's check of two netlists; its give-up leaves it by unwinding.
@@ -108,12 +82,11 @@ fn groups(seed: u64) -> Vec<(&'static str, Vec<String>)> {
 /// Prints the table. What clearing costs is the time of the check that searches nothing.
 pub fn checks(seed: u64) -> ExitCode {
     let (mut trace, mut words, mut scores) = (vec![0u8; LENT.trace as usize], vec![0u32; WORDS as usize], vec![0f64; SCORES as usize]);
-    let start = spent();
-    (0..20).for_each(|_| {
+    let filling = clock::mean(0.1, || {
         black_box(&mut words).fill(0);
         black_box(&mut scores).fill(0.0);
     });
-    println!("filling 8,388,608 words and 65,536 scores with zeros from Rust: {:.1} ms", (spent() - start) / 20.0);
+    println!("filling 8,388,608 words and 65,536 scores with zeros from Rust: {:.1} ms", filling * 1e3);
     println!("| pairs | checks | most learned | Rust ms | library ms | ratio | library without clearing ms | ratio |");
     println!("|---|---|---|---|---|---|---|---|");
     let mut clearing = None;

@@ -6,19 +6,10 @@ use oracle::meter::{Ending, Problem, LEARNED_LIMIT};
 use oracle::rng::Rng;
 use oracle::solving::{large_graph, random_search, Graph};
 
+use crate::clock::best;
 use crate::solve::{queries, Handed, Lent};
 
-/// The C library's clock of this thread, and its time.
-const THREAD_TIME: i32 = 3;
-
-#[repr(C)]
-struct Time {
-    seconds: i64,
-    nanoseconds: i64,
-}
-
 extern "C" {
-    fn clock_gettime(clock: i32, time: *mut Time) -> i32;
     fn struo_rebuild(nodes: *const u32, nodes_length: usize, words: *mut u32, words_length: usize) -> u32;
 }
 
@@ -55,27 +46,6 @@ impl Measured {
             black_box(self.graph.plain_search());
         }
     }
-}
-
-/// The processor time of this thread in seconds: what others run on the machine does not count.
-fn seconds() -> f64 {
-    let mut time = Time { seconds: 0, nanoseconds: 0 };
-    // The C library fills in the time.
-    unsafe { clock_gettime(THREAD_TIME, &mut time) };
-    time.seconds as f64 + time.nanoseconds as f64 * 1e-9
-}
-
-/// The best of three processor times of each work, the works in turn.
-pub fn best<const N: usize>(mut works: [&mut dyn FnMut(); N]) -> [f64; N] {
-    let mut times = [f64::INFINITY; N];
-    for _ in 0..3 {
-        for (place, work) in works.iter_mut().enumerate() {
-            let start = seconds();
-            work();
-            times[place] = times[place].min(seconds() - start);
-        }
-    }
-    times
 }
 
 /// A class of problems: one row of the table.

@@ -7,6 +7,7 @@ mod bench_build;
 mod bench_check;
 mod bench_solve;
 mod checks;
+mod clock;
 mod lent;
 mod reads;
 mod replays;
