@@ -1,4 +1,4 @@
-//! A design as the Rust has it, and the agreement of the Rust's own checks with document 01's refusals.
+//! A design as the Rust has it, and the agreement of the Rust's own checks with the specification's refusals.
 use crate::equivalence::{validate_problem, EquivalenceError};
 use crate::meter::plain_node;
 use crate::record::{register_nets, Design, Node, Refusal, Register};

@@ -1,4 +1,4 @@
-//! Document 01's four questions on tiny designs, answered by search through all states and inputs.
+//! The specification's four questions on tiny designs, answered by search through all states and inputs.
 use std::collections::BTreeSet;
 
 use crate::check::{EQUIVALENT, INCONCLUSIVE, NOT_EQUIVALENT};

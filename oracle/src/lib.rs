@@ -1,4 +1,4 @@
-//! The oracle: records read by document 01's rules, checked by the Rust with a counter of learned literals.
+//! The oracle: records read by the specification's rules, checked by the Rust with a counter of learned literals.
 
 include!(concat!(env!("OUT_DIR"), "/struo.rs"));
 

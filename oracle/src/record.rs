@@ -1,4 +1,4 @@
-//! The record of document 01: its design, its reader with refusals 1 to 15, and its writer.
+//! The record of the specification: its design, its reader with refusals 1 to 15, and its writer.
 use std::collections::HashSet;
 
 /// A name's bytes.

@@ -1,4 +1,4 @@
-//! Document 01's cases, the sum of refusal 23 at its limit, and checks and replays that meet refusals.
+//! The specification's cases, the sum of refusal 23 at its limit, and checks and replays that meet refusals.
 use crate::families::{random_pair, Pair};
 use crate::pair::{trace_need, Lent, SCORES, WORDS};
 use crate::random::Size;
@@ -92,7 +92,7 @@ pub fn limits() -> Vec<String> {
     ]
 }
 
-/// All cases of document 01.
+/// All cases of the specification.
 pub fn cases() -> Vec<String> {
     let mut lines = starred();
     lines.extend(limits());

@@ -1,4 +1,4 @@
-//! The run of a design, as document 01 states it, and replay.
+//! The run of a design, as the specification states it, and replay.
 use std::collections::HashMap;
 
 use crate::pair::{read_pair, replay_refusal};

@@ -1,4 +1,4 @@
-//! Designs with a purpose: document 01's cases, rows, counters, multipliers.
+//! Designs with a purpose: the specification's cases, rows, counters, multipliers.
 use crate::record::{Design, Enable, Name, Node, Register, Reset};
 
 /// A design in the making.

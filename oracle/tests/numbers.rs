@@ -34,7 +34,7 @@ fn toggle() {
     assert_eq!(report.queries.iter().map(|query| query.conflicts).sum::<usize>(), 1);
 }
 
-/// Document 01's wire.
+/// The specification's wire.
 #[test]
 fn wire() {
     let bytes = encode(&shapes::wire());
@@ -88,7 +88,7 @@ fn limit() {
     assert_eq!(under(0).status, GAVE_UP);
 }
 
-/// Refusal 23's sums in document 01.
+/// Refusal 23's sums in the specification.
 #[test]
 fn sums() {
     let lines = generate("limits", 10, 1);

@@ -6,6 +6,7 @@ use native.Mathlib.Omega.{arith}
 use native.Mathlib.Numerals.{add-one}
 use lib.ListN.{length, getD, set, length-append}
 use lib.Seq.{getD-set-other, getD-set-same}
+use Rattle.words.specs.Layout.{SMALL, GRAPH-LHS, GRAPH-RHS}
 use Rattle.words.specs.Region.{region}
 use Rattle.model.specs.Lists.{snoc}
 use Rattle.model.specs.Aig.{Node, Constant, Variable, And, Aig}
@@ -27,7 +28,7 @@ nodesOf (suc n) ls rs = snoc (nodesOf n ls rs) (nodeAt ls rs n)
 
 -- the graph of n nodes whose smaller literals lie at `base` and whose larger literals lie in the region after it
 unfoldable pub graphAt : ℕ → ℕ → List ℕ → Aig
-graphAt base n words = nodesOf n (region base words) (region (base + 65536) words)
+graphAt base n words = nodesOf n (region base words) (region (base + SMALL) words)
 
 -- the proof graph
 abbrev pub graphOf : ℕ → List ℕ → Aig
@@ -40,7 +41,7 @@ length-nodes (suc n) ls rs = simp length-append (omega (arith, length-nodes n ls
 
 pub length-graph : (n : ℕ) (w : List ℕ) → length (graphOf n w) ≡ n
 unfolding graphAt
-length-graph n w = length-nodes n (region 0 w) (region 65536 w)
+length-graph n w = length-nodes n (region GRAPH-LHS w) (region GRAPH-RHS w)
 
 -- a store past the first n nodes
 pub nodes-set : (n : ℕ) (ls rs : List ℕ) (i a b : ℕ) → n ≤ i → nodesOf n (set ls i a) (set rs i b) ≡ nodesOf n ls rs

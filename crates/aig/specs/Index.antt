@@ -10,6 +10,7 @@ use lib.Dec.{eqb}
 use lib.ListN.{length, getD, set}
 use lib.Seq.{getD-set-other, getD-set-same}
 use borrow.Author.Tests.{eqb-true, eqb-false, eq-eqb, ne-eqb}
+use Rattle.words.specs.Layout.{DOUBLE}
 use Rattle.model.specs.Lists.{snoc, position, nextPlace}
 use Rattle.model.specs.Aig.{isAnd}
 use Rattle.aig.specs.Graph.{nodeOf, nodeAt, nodesOf, length-nodes, Ordered, ordered-set, Ascending}
@@ -31,7 +32,7 @@ place (suc i) = some (suc i)
 
 -- The chains of a graph of n nodes: `hs` has the newest node of each larger literal, `ns` the node before it in its chain, no pair stands twice, and each is ascending.
 pub record Indexed (n : ℕ) (ls rs ns hs : List ℕ) : Type 0 where
-  pub heads : (r : ℕ) → 0 < r → r < 131072 → getD hs r 0 ≡ latest rs r n
+  pub heads : (r : ℕ) → 0 < r → r < DOUBLE → getD hs r 0 ≡ latest rs r n
   pub nexts : (i : ℕ) → i < n → 0 < getD rs i 0 → getD ns i 0 ≡ latest rs (getD rs i 0) i
   pub once : (i : ℕ) → i < n → 0 < getD rs i 0 → lastAnd ls rs (getD ls i 0) (getD rs i 0) i ≡ 0
   pub ordered : Ordered n ls rs
@@ -230,11 +231,11 @@ module _ (n : ℕ) (ls rs ns hs : List ℕ) (ix : Indexed n ls rs ns hs) (hl : n
         gates = λ i h k. by-last i n (λ j. 0 < getD (set rs n 0) j 0 → Ascending (getD (set ls n 0) j 0) (getD (set rs n 0) j 0)) (old-gates 0 0 i) (λ m. absurd (omega arith)) h k;
       }
 
-  module _ (l r : ℕ) (hn : n < length ns) (hh : r < length hs) (hm : length hs ≤ 131072) (up : Ascending l r) where
+  module _ (l r : ℕ) (hn : n < length ns) (hh : r < length hs) (hm : length hs ≤ DOUBLE) (up : Ascending l r) where
     h0 : 0 < r
     h0 = omega (arith, up .1)
 
-    new-heads : (q : ℕ) → 0 < q → q < 131072 → getD (set hs r n) q 0 ≡ latest (set rs n r) q (n + 1)
+    new-heads : (q : ℕ) → 0 < q → q < DOUBLE → getD (set hs r n) q 0 ≡ latest (set rs n r) q (n + 1)
     new-heads q h k = go (eqb q r) refl
       where
         go : (t : Bool) → eqb q r ≡ t → getD (set hs r n) q 0 ≡ latest (set rs n r) q (n + 1)

@@ -10,18 +10,19 @@ use lib.Seq.{getD-set-same}
 use lib.Dec.{eqb, ltb, leb}
 use borrow.Author.Tests.{ltb-true, ltb-false}
 use Rattle.facts.specs.Bools.{and-both}
+use Rattle.words.specs.Layout.{LENT, SMALL, DOUBLE, MOST-NODES, GRAPH-LHS, GRAPH-RHS, AND-NEXT, AND-HEADS}
 use Rattle.words.specs.Region.{region, apart, stored, cleared, stores, length-region, length-stored, length-cleared, read-out, sizeOf, stored-out}
 use Rattle.words.specs.Fill.{filled, getD-filled, getD-filled-past}
 use Rattle.model.specs.Lists.{snoc}
 use Rattle.model.specs.Aig.{Node, Variable, And, Built, new, variable, andFound}
-use Rattle.aig.specs.Graph.{nodeOf, nodesOf, graphAt, graphOf, nodes-more, length-graph, ordered-le, Ascending}
-use Rattle.aig.specs.Index.{Indexed, latest, latest-suc-other, lastAnd, indexed-variable, indexed-and}
+use Rattle.aig.specs.Graph.{nodeOf, nodesOf, graphAt, graphOf, nodes-more, length-graph, Ascending}
+use Rattle.aig.specs.Index.{Indexed, latest, lastAnd, indexed-variable, indexed-and}
 
 -- ---- the frame
 
 -- the region at b is none of the proof graph's four
 abbrev pub outside : ℕ → Bool
-outside b = apart b 0 && (apart b 65536 && (apart b 131072 && apart b 1572864))
+outside b = apart b GRAPH-LHS && (apart b GRAPH-RHS && (apart b AND-NEXT && apart b AND-HEADS))
 
 -- the regions that pass the test are as they were
 pub record Same (p : ℕ → Bool) (w w′ : List ℕ) : Type 0 where
@@ -34,11 +35,11 @@ pub same-trans : {p : ℕ → Bool} {w w′ w″ : List ℕ} → Same p w w′ �
 same-trans f g = record { at = λ b e. g .at b e ∙ f .at b e }
 
 -- the four tests of `outside`
-pub outside-parts : (b : ℕ) → outside b ≡ true → (apart b 0 ≡ true) × (apart b 65536 ≡ true) × (apart b 131072 ≡ true) × (apart b 1572864 ≡ true)
+pub outside-parts : (b : ℕ) → outside b ≡ true → (apart b GRAPH-LHS ≡ true) × (apart b GRAPH-RHS ≡ true) × (apart b AND-NEXT ≡ true) × (apart b AND-HEADS ≡ true)
 outside-parts b e =
-    let p : (apart b 0 ≡ true) × ((apart b 65536 && (apart b 131072 && apart b 1572864)) ≡ true) = and-both _ _ e in
-    let q : (apart b 65536 ≡ true) × ((apart b 131072 && apart b 1572864) ≡ true) = and-both _ _ (p .1) in
-    let r : (apart b 131072 ≡ true) × (apart b 1572864 ≡ true) = and-both _ _ (q .1) in
+    let p : (apart b GRAPH-LHS ≡ true) × ((apart b GRAPH-RHS && (apart b AND-NEXT && apart b AND-HEADS)) ≡ true) = and-both _ _ e in
+    let q : (apart b GRAPH-RHS ≡ true) × ((apart b AND-NEXT && apart b AND-HEADS) ≡ true) = and-both _ _ (p .1) in
+    let r : (apart b AND-NEXT ≡ true) × (apart b AND-HEADS ≡ true) = and-both _ _ (q .1) in
     (p .0, q .0, r .0, r .1)
 
 -- ---- the graph in the words
@@ -46,8 +47,8 @@ outside-parts b e =
 -- the words are long enough, and hold n nodes, node 0 among them, with their chains
 pub record Ready (n : ℕ) (w : List ℕ) : Type 0 where
   pub positive : 0 < n
-  pub long : 8388608 ≤ length w
-  pub indexed : Indexed n (region 0 w) (region 65536 w) (region 131072 w) (region 1572864 w)
+  pub long : LENT ≤ length w
+  pub indexed : Indexed n (region GRAPH-LHS w) (region GRAPH-RHS w) (region AND-NEXT w) (region AND-HEADS w)
 
 -- a store outside the graph leaves it
 module _ (b c : ℕ) (w : List ℕ) (i v : ℕ) (out : outside b ≡ true) where
@@ -60,12 +61,12 @@ module _ (b c : ℕ) (w : List ℕ) (i v : ℕ) (out : outside b ≡ true) where
       record {
         positive = r .positive;
         long = simp length-stored (r .long);
-        indexed = rw (graph-words 0 (p .0), graph-words 65536 (p .1), graph-words 131072 (p .2), graph-words 1572864 (p .3)) (r .indexed);
+        indexed = rw (graph-words GRAPH-LHS (p .0), graph-words GRAPH-RHS (p .1), graph-words AND-NEXT (p .2), graph-words AND-HEADS (p .3)) (r .indexed);
       }
 
   pub graph-stored : graphOf c (stored b w i v) ≡ graphOf c w
   unfolding graphAt
-  graph-stored = let p = outside-parts b out in rw (graph-words 0 (p .0), graph-words 65536 (p .1))
+  graph-stored = let p = outside-parts b out in rw (graph-words GRAPH-LHS (p .0), graph-words GRAPH-RHS (p .1))
 
 -- From n nodes in w an operation made m, in w′ with n′ nodes: at most k more.
 pub record Made (k n : ℕ) (w : List ℕ) (n′ : ℕ) (w′ : List ℕ) (literal : ℕ) (m : Built) : Type 0 where
@@ -82,21 +83,21 @@ made-none k n w literal m ready below e =
     record { built = e; ready = ready; same = same-refl outside w; grows = omega arith; within = omega arith; below = below }
 
 -- the four lengths that a store needs
-long-graph : (w : List ℕ) → 8388608 ≤ length w → (length (region 0 w) ≡ 65536) × (length (region 65536 w) ≡ 65536) × (length (region 131072 w) ≡ 65536) × (length (region 1572864 w) ≡ 131072)
-long-graph w h = (length-region 0 w (omega arith), length-region 65536 w (omega arith), length-region 131072 w (omega arith), length-region 1572864 w (omega arith))
+long-graph : (w : List ℕ) → LENT ≤ length w → (length (region GRAPH-LHS w) ≡ SMALL) × (length (region GRAPH-RHS w) ≡ SMALL) × (length (region AND-NEXT w) ≡ SMALL) × (length (region AND-HEADS w) ≡ DOUBLE)
+long-graph w h = (length-region GRAPH-LHS w (omega arith), length-region GRAPH-RHS w (omega arith), length-region AND-NEXT w (omega arith), length-region AND-HEADS w (omega arith))
 
 -- the words after a new variable
 abbrev pub pushedVariable : List ℕ → ℕ → List ℕ
-pushedVariable w n = stored 65536 (stored 0 w n 0) n 0
+pushedVariable w n = stored GRAPH-RHS (stored GRAPH-LHS w n 0) n 0
 
 -- the words after a new conjunction: the head of its chain becomes its next
 abbrev pub pushedAnd : List ℕ → ℕ → ℕ → ℕ → List ℕ
 pushedAnd w n l r =
-    stored 1572864 (stored 131072 (stored 65536 (stored 0 w n l) n r) n (getD (region 1572864 (stored 65536 (stored 0 w n l) n r)) r 0)) r n
+    stored AND-HEADS (stored AND-NEXT (stored GRAPH-RHS (stored GRAPH-LHS w n l) n r) n (getD (region AND-HEADS (stored GRAPH-RHS (stored GRAPH-LHS w n l) n r)) r 0)) r n
 
 -- the stores of a new conjunction, one after another
-pub pushed-is : (w w₁ w₂ w₃ w₄ : List ℕ) (n at chain head l r : ℕ) → at ≡ n → w₁ ≡ stored 0 w at l → w₂ ≡ stored 65536 w₁ at r
-    → chain ≡ r → head ≡ getD (region 1572864 w₂) chain 0 → w₃ ≡ stored 131072 w₂ at head → w₄ ≡ stored 1572864 w₃ chain n → w₄ ≡ pushedAnd w n l r
+pub pushed-is : (w w₁ w₂ w₃ w₄ : List ℕ) (n at chain head l r : ℕ) → at ≡ n → w₁ ≡ stored GRAPH-LHS w at l → w₂ ≡ stored GRAPH-RHS w₁ at r
+    → chain ≡ r → head ≡ getD (region AND-HEADS w₂) chain 0 → w₃ ≡ stored AND-NEXT w₂ at head → w₄ ≡ stored AND-HEADS w₃ chain n → w₄ ≡ pushedAnd w n l r
 pushed-is w w₁ w₂ w₃ w₄ n at chain head l r p a b q h c d = cc
 
 variable-of : (i : ℕ) → 0 < i → nodeOf i 0 0 ≡ Variable i
@@ -110,13 +111,13 @@ and-of zero l r h k = absurd (omega arith)
 and-of (suc i) l zero h k = absurd (omega arith)
 and-of (suc i) l (suc r) h k = refl
 
-module _ (n : ℕ) (w : List ℕ) (ready : Ready n w) (room : n < 65536) where
+module _ (n : ℕ) (w : List ℕ) (ready : Ready n w) (room : n < MOST-NODES) where
   graph-variable : graphOf (n + 1) (pushedVariable w n) ≡ snoc (graphOf n w) (Variable n)
   unfolding graphAt
   graph-variable =
       let s = long-graph w (ready .long) in
-      simp stores (nodes-more n (region 0 w) (region 65536 w) 0 0 (omega arith) (omega arith)
-      ∙ ap (λ (x : Node). snoc (nodesOf n (region 0 w) (region 65536 w)) x) (variable-of n (ready .positive)))
+      simp stores (nodes-more n (region GRAPH-LHS w) (region GRAPH-RHS w) 0 0 (omega arith) (omega arith)
+      ∙ ap (λ (x : Node). snoc (nodesOf n (region GRAPH-LHS w) (region GRAPH-RHS w)) x) (variable-of n (ready .positive)))
 
   ready-variable : Ready (n + 1) (pushedVariable w n)
   ready-variable =
@@ -148,10 +149,10 @@ module _ (n : ℕ) (w : List ℕ) (ready : Ready n w) (room : n < 65536) where
     unfolding graphAt
     graph-and =
         let s = long-graph w (ready .long) in
-        simp stores (nodes-more n (region 0 w) (region 65536 w) l r (omega arith) (omega arith)
-        ∙ ap (λ (x : Node). snoc (nodesOf n (region 0 w) (region 65536 w)) x) (and-of n l r (ready .positive) h0))
+        simp stores (nodes-more n (region GRAPH-LHS w) (region GRAPH-RHS w) l r (omega arith) (omega arith)
+        ∙ ap (λ (x : Node). snoc (nodesOf n (region GRAPH-LHS w) (region GRAPH-RHS w)) x) (and-of n l r (ready .positive) h0))
 
-    ready-and : lastAnd (region 0 w) (region 65536 w) l r n ≡ 0 → Ready (n + 1) (pushedAnd w n l r)
+    ready-and : lastAnd (region GRAPH-LHS w) (region GRAPH-RHS w) l r n ≡ 0 → Ready (n + 1) (pushedAnd w n l r)
     ready-and fresh =
         let s = long-graph w (ready .long) in
         record {
@@ -161,7 +162,7 @@ module _ (n : ℕ) (w : List ℕ) (ready : Ready n w) (room : n < 65536) where
         }
 
     -- a new conjunction
-    pub made-and : lastAnd (region 0 w) (region 65536 w) l r n ≡ 0 → Made 1 n w (n + 1) (pushedAnd w n l r) (n * 2) (andFound (graphOf n w) l r none)
+    pub made-and : lastAnd (region GRAPH-LHS w) (region GRAPH-RHS w) l r n ≡ 0 → Made 1 n w (n + 1) (pushedAnd w n l r) (n * 2) (andFound (graphOf n w) l r none)
     unfolding andFound
     made-and fresh =
         record {
@@ -175,14 +176,6 @@ module _ (n : ℕ) (w : List ℕ) (ready : Ready n w) (room : n < 65536) where
 
 -- ---- the empty graph
 
--- only literals of the first `used` nodes have a chain
-pub record HeadsBelow (used : ℕ) (w : List ℕ) : Type 0 where
-  pub none-past : (r : ℕ) → used * 2 ≤ r → getD (region 1572864 w) r 0 ≡ 0
-
--- every words do, for all nodes that there is room for
-pub heads-all : (w : List ℕ) → HeadsBelow 65536 w
-heads-all w = record { none-past = λ r h. sym (read-out 1572864 w r h) }
-
 latest-one : (rs : List ℕ) (r : ℕ) → latest rs r 1 ≡ 0
 unfolding latest
 latest-one rs r = go (eqb (getD rs 0 0) r)
@@ -191,37 +184,19 @@ latest-one rs r = go (eqb (getD rs 0 0) r)
     go true = refl
     go false = refl
 
-latest-none : (rs : List ℕ) (r n : ℕ) → ((i : ℕ) → i < n → getD rs i 0 ≤ 2 * i) → n * 2 ≤ r → 0 < n → latest rs r n ≡ 0
-unfolding latest
-latest-none rs r zero below h k = refl
-latest-none rs r (suc zero) below h k = latest-one rs r
-latest-none rs r (suc (suc n)) below h k =
-    latest-suc-other rs r (suc n) (λ e. omega (arith, below (suc n) (omega arith))) ∙ latest-none rs r (suc n) (λ i j. below i (omega arith)) (omega arith) (omega arith)
-
--- the words of a graph do, for its nodes
-pub heads-ready : (n : ℕ) (w : List ℕ) → Ready n w → HeadsBelow n w
-heads-ready n w ready = record { none-past = λ r h. go r h (ltb r 131072) refl }
-  where
-    go : (r : ℕ) → n * 2 ≤ r → (t : Bool) → ltb r 131072 ≡ t → getD (region 1572864 w) r 0 ≡ 0
-    go r h true e =
-        let p : 0 < n = ready .positive in
-        ready .indexed .heads r (omega arith) (ltb-true r 131072 e) ∙ latest-none (region 65536 w) r n (ordered-le n _ _ (ready .indexed .ordered)) h p
-    go r h false e = sym (read-out 1572864 w r (ltb-false r 131072 e))
-
 -- the words after emptying: the chains cleared, and node 0 the constant
-abbrev pub emptied : List ℕ → ℕ → List ℕ
-emptied w used = stored 65536 (stored 0 (cleared 1572864 w (used * 2)) 0 0) 0 0
+abbrev pub emptied : List ℕ → List ℕ
+emptied w = stored GRAPH-RHS (stored GRAPH-LHS (cleared AND-HEADS w DOUBLE) 0 0) 0 0
 
-module _ (used : ℕ) (w : List ℕ) (long : 8388608 ≤ length w) (clear : HeadsBelow used w) where
-  no-heads : (r : ℕ) → getD (filled 0 (used * 2) (region 1572864 w)) r 0 ≡ 0
-  no-heads r = go (ltb r (used * 2)) refl
+module _ (w : List ℕ) (long : LENT ≤ length w) where
+  no-heads : (r : ℕ) → getD (filled 0 DOUBLE (region AND-HEADS w)) r 0 ≡ 0
+  no-heads r = go (ltb r DOUBLE) refl
     where
-      go : (t : Bool) → ltb r (used * 2) ≡ t → getD (filled 0 (used * 2) (region 1572864 w)) r 0 ≡ 0
-      go true e = getD-filled 0 (used * 2) (region 1572864 w) r (ltb-true r (used * 2) e)
-      go false e =
-          getD-filled-past 0 (used * 2) (region 1572864 w) r 0 (ltb-false r (used * 2) e) ∙ clear .none-past r (ltb-false r (used * 2) e)
+      go : (t : Bool) → ltb r DOUBLE ≡ t → getD (filled 0 DOUBLE (region AND-HEADS w)) r 0 ≡ 0
+      go true e = getD-filled 0 DOUBLE (region AND-HEADS w) r (ltb-true r DOUBLE e)
+      go false e = getD-filled-past 0 DOUBLE (region AND-HEADS w) r 0 (ltb-false r DOUBLE e) ∙ sym (read-out AND-HEADS w r (ltb-false r DOUBLE e))
 
-  one-indexed : (ls rs ns : List ℕ) → getD rs 0 0 ≡ 0 → Indexed 1 ls rs ns (filled 0 (used * 2) (region 1572864 w))
+  one-indexed : (ls rs ns : List ℕ) → getD rs 0 0 ≡ 0 → Indexed 1 ls rs ns (filled 0 DOUBLE (region AND-HEADS w))
   one-indexed ls rs ns z =
       record {
         heads = λ r h k. no-heads r ∙ sym (latest-one rs r);
@@ -236,19 +211,19 @@ module _ (used : ℕ) (w : List ℕ) (long : 8388608 ≤ length w) (clear : Head
       ground (suc i) h k = omega arith
 
   -- the graph is node 0 alone
-  pub graph-new : graphOf 1 (emptied w used) ≡ new
+  pub graph-new : graphOf 1 (emptied w) ≡ new
   unfolding graphAt nodesOf nodeOf new snoc
   graph-new = refl
 
   -- and the words are ready for it
-  pub ready-new : Ready 1 (emptied w used)
+  pub ready-new : Ready 1 (emptied w)
   ready-new =
       let s = long-graph w long in
       record {
         positive = omega arith;
         long = simp (length-stored, length-cleared) long;
-        indexed = simp stores (one-indexed _ (set (region 65536 w) 0 0) _ (getD-set-same (region 65536 w) 0 0 0 (omega arith)));
+        indexed = simp stores (one-indexed _ (set (region GRAPH-RHS w) 0 0) _ (getD-set-same (region GRAPH-RHS w) 0 0 0 (omega arith)));
       }
 
-  pub same-new : Same outside w (emptied w used)
+  pub same-new : Same outside w (emptied w)
   same-new = record { at = λ b e. let q = outside-parts b e in simp (stores, q .0, q .1, q .3) }

@@ -3,11 +3,13 @@ use mathlib.Core.Path.{_≡_, refl, ap, ap₂, sym, _∙_}
 use mathlib.Core.Bool.{Bool, true, false, not, xor as xorBool}
 use mathlib.Core.List.{List, map}
 use mathlib.Core.Option.{Option, none, some}
-use Prim.Native.Nat.{ℕ, zero, suc, _*_, _≤_, _<_, min, max}
+use Prim.Native.Nat.{ℕ, zero, suc, _*_, _%_, _≤_, _<_, min, max}
 use native.Mathlib.Omega.{arith}
 use lib.Dec.{eqb}
 use borrow.Author.Tests.{eq-eqb, ne-eqb}
-use lib.ListN.{getD, List·getD-map}
+use lib.ListN.{take, getD, length-take, List·getD-eq-default, List·getD-map}
+use lib.Seq.{getD-take}
+use Rattle.words.specs.Layout.{GRAPH-LHS, GRAPH-RHS}
 use Rattle.words.specs.Region.{region}
 use Rattle.model.specs.Literal.{node, inverted, negate}
 use Rattle.model.specs.Lists.{position}
@@ -17,9 +19,9 @@ use Rattle.aig.specs.Index.{place, lastAnd, first-position, place-some}
 use Rattle.aig.specs.Made.{Ready, Made, same-trans, made-none}
 use Rattle.aig.specs.Shortcut.{Under, negate-below, and-under, xor-under, mux-under}
 
--- a word of VALUES is true where it is 1
+-- a word of VALUES is true where it is odd
 abbrev pub isTrue : ℕ → Bool
-isTrue v = eqb v 1
+isTrue v = eqb (v % 2) 1
 
 -- the same work, whose result is said otherwise
 pub made-is : {k n : ℕ} {w : List ℕ} {n′ : ℕ} {w′ : List ℕ} {l : ℕ} {m m′ : Built} → Made k n w n′ w′ l m → m ≡ m′ → Made k n w n′ w′ l m′
@@ -34,9 +36,9 @@ place-none zero e = refl
 place-none (suc m) e = absurd (let z : _≡_ {A = ℕ} 0 1 = cc in omega arith)
 
 -- where the lookup finds nothing, no node is the pair
-pub fresh : (n : ℕ) (w : List ℕ) → Ready n w → (l r : ℕ) → place 0 ≡ position (isAnd l r) (graphOf n w) → lastAnd (region 0 w) (region 65536 w) l r n ≡ 0
+pub fresh : (n : ℕ) (w : List ℕ) → Ready n w → (l r : ℕ) → place 0 ≡ position (isAnd l r) (graphOf n w) → lastAnd (region GRAPH-LHS w) (region GRAPH-RHS w) l r n ≡ 0
 unfolding graphAt
-fresh n w ready l r e = place-none _ (e ∙ first-position (region 0 w) (region 65536 w) l r n (ready .indexed .once))
+fresh n w ready l r e = place-none _ (e ∙ first-position (region GRAPH-LHS w) (region GRAPH-RHS w) l r n (ready .indexed .once))
 
 -- the node that the lookup found
 pub found-is : (g : Aig) (l r at : ℕ) → 0 < at → place at ≡ position (isAnd l r) g → record { aig = g; literal = at * 2 } ≡ andFound g l r (position (isAnd l r) g)
@@ -143,14 +145,23 @@ xor-false false = refl
 
 -- the value of a literal, by its node's word
 module _ (values : List ℕ) (l v : ℕ) (e : v ≡ getD values (node l) 0) where
-  by-word : xorBool (eqb v 1) (inverted l) ≡ evaluate (map isTrue values) l
+  by-word : xorBool (isTrue v) (inverted l) ≡ evaluate (map isTrue values) l
   unfolding evaluate
   by-word = rw e (ap (λ (t : Bool). xorBool t (inverted l)) (sym (List·getD-map isTrue values (node l) 0)))
 
   -- of a true node
-  pub evaluate-true : v ≡ 1 → not (inverted l) ≡ evaluate (map isTrue values) l
-  evaluate-true h = sym (xor-true (inverted l)) ∙ (rw (eq-eqb v 1 h) at by-word)
+  pub evaluate-true : v % 2 ≡ 1 → not (inverted l) ≡ evaluate (map isTrue values) l
+  evaluate-true h = sym (xor-true (inverted l)) ∙ (rw (eq-eqb (v % 2) 1 h) at by-word)
 
   -- of another
-  pub evaluate-other : (v ≡ 1 → ⊥) → inverted l ≡ evaluate (map isTrue values) l
-  evaluate-other h = sym (xor-false (inverted l)) ∙ (rw (ne-eqb v 1 h) at by-word)
+  pub evaluate-other : (v % 2 ≡ 1 → ⊥) → inverted l ≡ evaluate (map isTrue values) l
+  evaluate-other h = sym (xor-false (inverted l)) ∙ (rw (ne-eqb (v % 2) 1 h) at by-word)
+
+-- a node's word among those of the nodes
+pub word-of : (nodes : ℕ) (values : List ℕ) (l i v : ℕ) → i ≡ node l → i < nodes → v ≡ getD values i 0 → v ≡ getD (take nodes values) (node l) 0
+word-of nodes values l i v e h f = f ∙ sym (getD-take nodes values i 0 h) ∙ ap (λ (k : ℕ). getD (take nodes values) k 0) e
+
+-- past the nodes
+pub evaluate-past : (nodes : ℕ) (values : List ℕ) (l : ℕ) → nodes ≤ node l → inverted l ≡ evaluate (map isTrue (take nodes values)) l
+evaluate-past nodes values l h =
+    evaluate-other (take nodes values) l 0 (sym (List·getD-eq-default (take nodes values) 0 (simp length-take (omega arith)))) (λ e. omega arith)

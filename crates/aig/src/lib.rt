@@ -2,7 +2,8 @@
 ghost use mathlib.Core.Path.{_≡_};
 ghost use mathlib.Core.List.{map};
 ghost use Prim.Native.Nat.{_+_, _*_, _≤_, _<_};
-ghost use lib.ListN.{length};
+ghost use lib.ListN.{length, take};
+ghost use Rattle.words.specs.Layout.{LENT, MOST-NODES, VALUES};
 ghost use Rattle.words.specs.Region.{region};
 ghost use Rattle.model.specs.Literal.{node, inverted, negate};
 ghost use Rattle.model.specs.Lists.{position};
@@ -12,7 +13,7 @@ ghost use Rattle.aig.specs.Shortcut.{shortcutOf};
 ghost use Rattle.aig.specs.Graph.{graphOf, Ascending};
 ghost use Rattle.aig.specs.Index.{place};
 ghost use Rattle.aig.specs.Operations.{orOfAnds, isTrue};
-ghost use Rattle.aig.specs.Made.{Ready, Same, HeadsBelow, Made, outside};
+ghost use Rattle.aig.specs.Made.{Ready, Same, Made, outside};
 use words::AND_HEADS;
 use words::AND_NEXT;
 use words::DOUBLE;
@@ -36,7 +37,7 @@ impl Literal {
 
     // The literal of a node, not inverted.
     pub fn of(node: u32) -> Literal
-        requires { ⌜ node ≤ 65536 ⌝ }
+        requires { ⌜ node ≤ MOST-NODES ⌝ }
         ensures { λ r. ⌜ r .0 ≡ node * 2 ⌝ }
     {
         Literal(node << 1)
@@ -76,12 +77,12 @@ pub struct Built {
 }
 
 impl Aig {
-    // The graph with node 0 alone, where only literals of the first `used` nodes had chains before: these are cleared.
-    pub fn new(words: &mut [u32], used: u32) -> Aig
-        requires { ⌜ (8388608 ≤ length (now words)) × (used ≤ 65536) × HeadsBelow used (now words) ⌝ }
+    // The graph with node 0 alone, whatever graph stood there before: the chains of all literals are cleared.
+    pub fn new(words: &mut [u32]) -> Aig
+        requires { ⌜ LENT ≤ length (now words) ⌝ }
         ensures { λ r. ⌜ (r .count ≡ 1) × (graphOf 1 (now (words .exit)) ≡ new) × Ready 1 (now (words .exit)) × Same outside (now (words .entry)) (now (words .exit)) ⌝ }
     {
-        clear(words, AND_HEADS, DOUBLE, wide(used) * 2);
+        clear(words, AND_HEADS, DOUBLE, DOUBLE);
         stash(words, GRAPH_LHS, SMALL, 0, 0);
         stash(words, GRAPH_RHS, SMALL, 0, 0);
         Aig { count: 1 }
@@ -89,7 +90,7 @@ impl Aig {
 
     // A new variable, named by its place.
     pub fn variable(self, words: &mut [u32]) -> Built
-        requires { ⌜ Ready (self .count) (now words) × (self .count + 1 ≤ 65536) ⌝ }
+        requires { ⌜ Ready (self .count) (now words) × (self .count + 1 ≤ MOST-NODES) ⌝ }
         ensures { λ r. ⌜ Made 1 (self .count) (now (words .entry)) (r .aig .count) (now (words .exit)) (r .literal .0) (variable (graphOf (self .count) (now (words .entry)))) ⌝ }
     {
         let count = self.count;
@@ -104,7 +105,7 @@ impl Aig {
 
     // The node of an earlier pair, by the chain of its larger literal; 0 where there is none.
     fn earlier(self, words: &[u32], lhs: u32, rhs: u32) -> u32
-        requires { ⌜ Ready (self .count) (now words) × (0 < rhs) × (rhs < self .count * 2) × (self .count ≤ 65536) ⌝ }
+        requires { ⌜ Ready (self .count) (now words) × (0 < rhs) × (rhs < self .count * 2) × (self .count ≤ MOST-NODES) ⌝ }
         ensures { λ r. ⌜ (place r ≡ position (isAnd lhs rhs) (graphOf (self .count) (now (words .entry)))) × (r < self .count) ⌝ }
     {
         let mut at = fetch(words, AND_HEADS, DOUBLE, wide(rhs));
@@ -119,7 +120,7 @@ impl Aig {
 
     // A new conjunction, which did not stand in the graph: it heads the chain of its larger literal.
     fn push(self, words: &mut [u32], lhs: Literal, rhs: Literal) -> Built
-        requires { ⌜ Ready (self .count) (now words) × (self .count + 1 ≤ 65536) × Ascending (lhs .0) (rhs .0) × (lhs .0 < self .count * 2) × (rhs .0 < self .count * 2) × (place 0 ≡ position (isAnd (lhs .0) (rhs .0)) (graphOf (self .count) (now words))) ⌝ }
+        requires { ⌜ Ready (self .count) (now words) × (self .count + 1 ≤ MOST-NODES) × Ascending (lhs .0) (rhs .0) × (lhs .0 < self .count * 2) × (rhs .0 < self .count * 2) × (place 0 ≡ position (isAnd (lhs .0) (rhs .0)) (graphOf (self .count) (now words))) ⌝ }
         ensures { λ r. ⌜ Made 1 (self .count) (now (words .entry)) (r .aig .count) (now (words .exit)) (r .literal .0) (andFound (graphOf (self .count) (now (words .entry))) (lhs .0) (rhs .0) none) ⌝ }
     {
         let count = self.count;
@@ -138,7 +139,7 @@ impl Aig {
 
     // The conjunction of an ordered pair: its earlier node, or a new one.
     fn pair(self, words: &mut [u32], lhs: Literal, rhs: Literal) -> Built
-        requires { ⌜ Ready (self .count) (now words) × (self .count + 1 ≤ 65536) × Ascending (lhs .0) (rhs .0) × (lhs .0 < self .count * 2) × (rhs .0 < self .count * 2) ⌝ }
+        requires { ⌜ Ready (self .count) (now words) × (self .count + 1 ≤ MOST-NODES) × Ascending (lhs .0) (rhs .0) × (lhs .0 < self .count * 2) × (rhs .0 < self .count * 2) ⌝ }
         ensures { λ r. ⌜ Made 1 (self .count) (now (words .entry)) (r .aig .count) (now (words .exit)) (r .literal .0) (andFound (graphOf (self .count) (now (words .entry))) (lhs .0) (rhs .0) (position (isAnd (lhs .0) (rhs .0)) (graphOf (self .count) (now (words .entry))))) ⌝ }
     {
         let at = self.earlier(words, lhs.0, rhs.0);
@@ -154,7 +155,7 @@ impl Aig {
 
     // The conjunction: aig.rs's shortcuts in their order, else the node of the ordered pair.
     pub fn and(self, words: &mut [u32], lhs: Literal, rhs: Literal) -> Built
-        requires { ⌜ Ready (self .count) (now words) × (self .count + 1 ≤ 65536) × (lhs .0 < self .count * 2) × (rhs .0 < self .count * 2) ⌝ }
+        requires { ⌜ Ready (self .count) (now words) × (self .count + 1 ≤ MOST-NODES) × (lhs .0 < self .count * 2) × (rhs .0 < self .count * 2) ⌝ }
         ensures { λ r. ⌜ Made 1 (self .count) (now (words .entry)) (r .aig .count) (now (words .exit)) (r .literal .0) (and (graphOf (self .count) (now (words .entry))) (lhs .0) (rhs .0)) ⌝ }
     {
         let short = and_shortcut(lhs, rhs);
@@ -175,7 +176,7 @@ impl Aig {
 
     // The disjunction.
     pub fn or(self, words: &mut [u32], lhs: Literal, rhs: Literal) -> Built
-        requires { ⌜ Ready (self .count) (now words) × (self .count + 1 ≤ 65536) × (lhs .0 < self .count * 2) × (rhs .0 < self .count * 2) ⌝ }
+        requires { ⌜ Ready (self .count) (now words) × (self .count + 1 ≤ MOST-NODES) × (lhs .0 < self .count * 2) × (rhs .0 < self .count * 2) ⌝ }
         ensures { λ r. ⌜ Made 1 (self .count) (now (words .entry)) (r .aig .count) (now (words .exit)) (r .literal .0) (or (graphOf (self .count) (now (words .entry))) (lhs .0) (rhs .0)) ⌝ }
     {
         let neither = self.and(words, lhs.negate(), rhs.negate());
@@ -189,7 +190,7 @@ impl Aig {
 
     // (a and b) or (c and d), as `xor` and `mux` build it.
     fn or_of_ands(self, words: &mut [u32], a: Literal, b: Literal, c: Literal, d: Literal) -> Built
-        requires { ⌜ Ready (self .count) (now words) × (self .count + 3 ≤ 65536) × (a .0 < self .count * 2) × (b .0 < self .count * 2) × (c .0 < self .count * 2) × (d .0 < self .count * 2) ⌝ }
+        requires { ⌜ Ready (self .count) (now words) × (self .count + 3 ≤ MOST-NODES) × (a .0 < self .count * 2) × (b .0 < self .count * 2) × (c .0 < self .count * 2) × (d .0 < self .count * 2) ⌝ }
         ensures { λ r. ⌜ Made 3 (self .count) (now (words .entry)) (r .aig .count) (now (words .exit)) (r .literal .0) (orOfAnds (graphOf (self .count) (now (words .entry))) (a .0) (b .0) (c .0) (d .0)) ⌝ }
     {
         let first = self.and(words, a, b);
@@ -201,7 +202,7 @@ impl Aig {
 
     // The exclusive or: its shortcuts, else lhs_only or rhs_only.
     pub fn xor(self, words: &mut [u32], lhs: Literal, rhs: Literal) -> Built
-        requires { ⌜ Ready (self .count) (now words) × (self .count + 3 ≤ 65536) × (lhs .0 < self .count * 2) × (rhs .0 < self .count * 2) ⌝ }
+        requires { ⌜ Ready (self .count) (now words) × (self .count + 3 ≤ MOST-NODES) × (lhs .0 < self .count * 2) × (rhs .0 < self .count * 2) ⌝ }
         ensures { λ r. ⌜ Made 3 (self .count) (now (words .entry)) (r .aig .count) (now (words .exit)) (r .literal .0) (xor (graphOf (self .count) (now (words .entry))) (lhs .0) (rhs .0)) ⌝ }
     {
         let short = xor_shortcut(lhs, rhs);
@@ -222,7 +223,7 @@ impl Aig {
         then_value: Literal,
         else_value: Literal,
     ) -> Built
-        requires { ⌜ Ready (self .count) (now words) × (self .count + 3 ≤ 65536) × (condition .0 < self .count * 2) × («then_value» .0 < self .count * 2) × («else_value» .0 < self .count * 2) ⌝ }
+        requires { ⌜ Ready (self .count) (now words) × (self .count + 3 ≤ MOST-NODES) × (condition .0 < self .count * 2) × («then_value» .0 < self .count * 2) × («else_value» .0 < self .count * 2) ⌝ }
         ensures { λ r. ⌜ Made 3 (self .count) (now (words .entry)) (r .aig .count) (now (words .exit)) (r .literal .0) (mux (graphOf (self .count) (now (words .entry))) (condition .0) («then_value» .0) («else_value» .0)) ⌝ }
     {
         let short = mux_shortcut(condition, then_value, else_value);
@@ -241,13 +242,16 @@ impl Aig {
         }
     }
 
-    // The value of a literal by the words of VALUES: 1 is true.
-    pub fn evaluate(literal: Literal, words: &[u32]) -> bool
-        requires { ⌜ 8388608 ≤ length (now words) ⌝ }
-        ensures { λ r. ⌜ r ≡ evaluate (map isTrue (region 655360 (now (words .entry)))) (literal .0) ⌝ }
+    // The value of a literal by the first `nodes` words of VALUES, each a node's value: an odd one is true.
+    pub fn evaluate(literal: Literal, words: &[u32], nodes: usize) -> bool
+        requires { ⌜ LENT ≤ length (now words) ⌝ }
+        ensures { λ r. ⌜ r ≡ evaluate (map isTrue (take nodes (region VALUES (now (words .entry))))) (literal .0) ⌝ }
     {
-        let value = fetch(words, VALUES, SMALL, wide(literal.node()));
-        if value == 1 {
+        let node = wide(literal.node());
+        if node >= nodes {
+            return literal.inverted();
+        }
+        if fetch(words, VALUES, SMALL, node) % 2 == 1 {
             !literal.inverted()
         } else {
             literal.inverted()

@@ -7,9 +7,10 @@ use lib.Dec.{ltb}
 use lib.ListN.{length, getD, replicate}
 use lib.Seq.{slice}
 use lib.Ieee.{Float}
+use Rattle.words.specs.Layout.{LENT, SMALL, POOL, SEEN, LEARNED, CLAUSE-STARTS, LITERALS}
 use Rattle.words.specs.Region.{region}
 use Rattle.model.specs.Sat as Sat
-use Rattle.assignment.specs.State.{wordBit, column, assignmentOf, Unchanged, Ready}
+use Rattle.assignment.specs.State.{wordBit, column, assignmentOf, Unchanged, TrailReady}
 use Rattle.assignment.specs.Scores.{scoresOf, Fixed, Others}
 use Rattle.assignment.specs.declared.state.Trail.{Trail}
 use Rattle.assignment.specs.declared.state.Activity.{Activity}
@@ -21,7 +22,7 @@ use Rattle.analysis.specs.declared.state.Bounds.{Bounds}
 
 -- the variables that are seen
 unfoldable pub seenOf : Trail → List ℕ → List Bool
-seenOf t w = map wordBit (column (t .variables) 917504 w)
+seenOf t w = map wordBit (column (t .variables) SEEN w)
 
 -- THE ABSTRACTION: the analysis that the numbers, the words and the scores stand for
 unfoldable pub analysisOf : Trail → Analysis → List ℕ → List Float → Sat.Analysis
@@ -29,7 +30,7 @@ analysisOf t a w s =
     record {
       scores = scoresOf (t .variables) (a .activity) s;
       seen = seenOf t w;
-      learned = column (a .learned) 1114112 w;
+      learned = column (a .learned) LEARNED w;
       openAtLevel = a .open_at_level;
     }
 
@@ -41,14 +42,14 @@ saw t v a l = Sat.seeUnless t a l (Sat.skipped t v a l)
 
 -- the regions of the analysis
 abbrev pub analysisRegions : List ℕ
-analysisRegions = 917504 ∷ 1114112 ∷ []
+analysisRegions = SEEN ∷ LEARNED ∷ []
 
 -- the words, the scores and the numbers are within the layout, with room for one more literal
 pub record Able (t : Trail) (a : Analysis) (w : List ℕ) (s : List Float) : Type 0 where
-  pub ready : Ready t w
+  pub ready : TrailReady t w
   pub scores : t .variables ≤ length s
   pub fixed : Fixed (a .activity)
-  pub room : a .learned < 65536
+  pub room : a .learned < SMALL
   pub few : a .open_at_level < 1152921504606846976
 
 -- of a function that makes the analysis another one, with at most `more` more open
@@ -56,7 +57,7 @@ pub record Sees (more : ℕ) (t : Trail) (a : Analysis) (w : List ℕ) (s : List
   pub is : analysisOf t r w′ s′ ≡ b
   pub frame : Unchanged analysisRegions w w′
   pub others : Others (t .variables) s s′
-  pub words : 8388608 ≤ length w′
+  pub words : LENT ≤ length w′
   pub fixed : Fixed (r .activity)
   pub opened : r .open_at_level ≤ a .open_at_level + more
 
@@ -64,12 +65,12 @@ pub record Sees (more : ℕ) (t : Trail) (a : Analysis) (w : List ℕ) (s : List
 
 -- the literals of a clause, by its number; none past the count. They lie in the pool between its start and the next one's.
 unfoldable pub literalsAt : ℕ → List ℕ → ℕ → List ℕ
-literalsAt count w id = cond (ltb id count) (slice (getD (region 2097152 w) id 0) (getD (region 2097152 w) (id + 1) 0) (region 4718592 w)) []
+literalsAt count w id = cond (ltb id count) (slice (getD (region CLAUSE-STARTS w) id 0) (getD (region CLAUSE-STARTS w) (id + 1) 0) (region LITERALS w)) []
 
 -- the clauses from number i on, k of them; which places are watched is of no effect on an analysis
 unfoldable pub clausesFrom : ℕ → ℕ → List ℕ → List Sat.Clause
 clausesFrom zero i w = []
-clausesFrom (suc k) i w = record { literals = slice (getD (region 2097152 w) i 0) (getD (region 2097152 w) (i + 1) 0) (region 4718592 w); watched = (0, 0) } ∷ clausesFrom k (suc i) w
+clausesFrom (suc k) i w = record { literals = slice (getD (region CLAUSE-STARTS w) i 0) (getD (region CLAUSE-STARTS w) (i + 1) 0) (region LITERALS w); watched = (0, 0) } ∷ clausesFrom k (suc i) w
 
 -- the solver as an analysis sees it: the clauses' literals, the assignment and the scores
 unfoldable pub viewOf : ℕ → Trail → Activity → List ℕ → List Float → Sat.Solver
@@ -85,8 +86,8 @@ viewOf count t a w s =
 
 -- of `bounds`
 pub record Spans (count : ℕ) (w : List ℕ) (id : ℕ) (r : Bounds) : Type 0 where
-  pub is : slice (r .start) (r .end) (region 4718592 w) ≡ literalsAt count w id
-  pub inside : r .end ≤ 786432
+  pub is : slice (r .start) (r .end) (region LITERALS w) ≡ literalsAt count w id
+  pub inside : r .end ≤ POOL
 
 -- ---- rounds
 
@@ -97,27 +98,27 @@ pub record Begins (t : Trail) (activity : Activity) (w : List ℕ) (r : Analysis
   pub learned : r .learned ≡ 0
   pub opened : r .open_at_level ≡ 0
   pub frame : Unchanged analysisRegions w w′
-  pub words : 8388608 ≤ length w′
+  pub words : LENT ≤ length w′
 
 -- of `close_pivot`
 pub record Closes (t : Trail) (a : Analysis) (w : List ℕ) (p : ℕ) (r : Analysis) (w′ : List ℕ) : Type 0 where
   pub is : (s : List Float) → analysisOf t r w′ s ≡ Sat.closePivot (analysisOf t a w s) p
   pub same : r .activity ≡ a .activity
   pub frame : Unchanged analysisRegions w w′
-  pub words : 8388608 ≤ length w′
+  pub words : LENT ≤ length w′
   pub opened : r .open_at_level ≤ a .open_at_level
   pub learned : r .learned ≡ a .learned
 
 -- the analysis ended, and what it learned fits its region
 abbrev pub Bounded : Sat.Resolution → Type 0
 Bounded (Sat.resolving a i id v) = ⊥
-Bounded (Sat.resolved a p) = length (a .learned) < 65536
+Bounded (Sat.resolved a p) = length (a .learned) < SMALL
 
 -- of `analyze`
 pub record Analyzes (count : ℕ) (t : Trail) (activity : Activity) (id : ℕ) (w : List ℕ) (s : List Float) (r : Analyzed) (w′ : List ℕ) (s′ : List Float) : Type 0 where
   pub is : Sat.resolved (analysisOf t (r .analysis) w′ s′) (r .pivot) ≡ Sat.analyze (viewOf count t activity w s) id
   pub frame : Unchanged analysisRegions w w′
   pub others : Others (t .variables) s s′
-  pub words : 8388608 ≤ length w′
+  pub words : LENT ≤ length w′
   pub fixed : Fixed (r .analysis .activity)
-  pub room : r .analysis .learned < 65536
+  pub room : r .analysis .learned < SMALL

@@ -11,10 +11,11 @@ use lib.ListN.{length, getD, replicate}
 use lib.Seq.{slice}
 use lib.Ieee.{Float}
 use Rattle.facts.specs.Numbers.{below}
+use Rattle.words.specs.Layout.{LENT, SMALL, POOL, CLAUSE-STARTS, LITERALS}
 use Rattle.words.specs.Region.{region}
 use Rattle.model.specs.Literal as Literals
 use Rattle.model.specs.Sat as Sat
-use Rattle.assignment.specs.State.{assignmentOf, Unchanged, Ready}
+use Rattle.assignment.specs.State.{assignmentOf, Unchanged, TrailReady}
 use Rattle.assignment.specs.StateLaws.{unchanged-none, unchanged-both, assignment-kept, variables-are, trail-length}
 use Rattle.assignment.specs.Scores.{scoresOf, Fixed, Others}
 use Rattle.assignment.specs.ScoreLaws.{others-none, others-both}
@@ -27,7 +28,7 @@ use Rattle.analysis.specs.SeeLaws.{literals-grow, seen-of, learned-lengt
 -- ---- the solver as an analysis sees it
 
 clause-in : (k i j : ℕ) (w : List ℕ) → j < k
-    → getD (clausesFrom k i w) j Sat.emptyClause .literals ≡ slice (getD (region 2097152 w) (i + j) 0) (getD (region 2097152 w) (i + j + 1) 0) (region 4718592 w)
+    → getD (clausesFrom k i w) j Sat.emptyClause .literals ≡ slice (getD (region CLAUSE-STARTS w) (i + j) 0) (getD (region CLAUSE-STARTS w) (i + j + 1) 0) (region LITERALS w)
 unfolding clausesFrom
 clause-in zero i j w h = absurd (omega arith)
 clause-in (suc k) i zero w h = let e : i + 0 ≡ i = omega arith in rw e
@@ -49,12 +50,12 @@ view-literals count t a w s id =
 
 literals-kept : (count : ℕ) {w w′ : List ℕ} (id : ℕ) → Unchanged analysisRegions w w′ → literalsAt count w′ id ≡ literalsAt count w id
 unfolding literalsAt
-literals-kept count id f = rw (f .same 2097152 refl, f .same 4718592 refl)
+literals-kept count id f = rw (f .same CLAUSE-STARTS refl, f .same LITERALS refl)
 
 clauses-kept : (k i : ℕ) {w w′ : List ℕ} → Unchanged analysisRegions w w′ → clausesFrom k i w′ ≡ clausesFrom k i w
 unfolding clausesFrom
 clauses-kept zero i f = refl
-clauses-kept (suc k) i f = rw (f .same 2097152 refl, f .same 4718592 refl, clauses-kept k (suc i) f)
+clauses-kept (suc k) i f = rw (f .same CLAUSE-STARTS refl, f .same LITERALS refl, clauses-kept k (suc i) f)
 
 -- the analysis' own regions are no part of it
 view-kept : (count : ℕ) (t : Trail) (a : Activity) {w w′ : List ℕ} (s : List Float) → Unchanged analysisRegions w w′ → viewOf count t a w′ s ≡ viewOf count t a w s
@@ -128,7 +129,7 @@ rounds-grow (suc k) S (Sat.resolving a i id v) =
     )
 rounds-grow (suc k) S (Sat.resolved a p) = omega arith
 
-bounded-learned : (r : Sat.Resolution) → Bounded r → length (learnedOf r) < 65536
+bounded-learned : (r : Sat.Resolution) → Bounded r → length (learnedOf r) < SMALL
 unfolding learnedOf
 bounded-learned (Sat.resolving a i id v) b = absurd b
 bounded-learned (Sat.resolved a p) b = b
@@ -159,7 +160,7 @@ module _ (count : ℕ) (t : Trail) (conflict : ℕ) (activity : Activity) (w₀ 
     pub long : length w ≡ length w₀
     pub frame : Unchanged analysisRegions w₀ w
     pub others : Others (t .variables) s₀ s
-    pub opened : a .open_at_level + rounds * 786432 ≤ 51539607552
+    pub opened : a .open_at_level + rounds * POOL ≤ SMALL * POOL
     pub bounded : Bounded (Sat.analyze S conflict)
     pub left : Sat.resolveRounds rounds S (Sat.resolving (analysisOf t a w s) i id v) ≡ Sat.analyze S conflict
 
@@ -196,7 +197,7 @@ module _ (count : ℕ) (t : Trail) (conflict : ℕ) (activity : Activity) (w₀ 
     seen-then : Sat.seeLiterals (S .assignment) v (analysisOf t a w s) (getD (S .clauses) id Sat.emptyClause .literals) ≡ seen-now
     seen-then = rw (view-literals count t activity w₀ s₀ id, view-assignment, ← assignment-is (g .frame), ← literals-kept count id (g .frame))
 
-    pub round-room : length (seen-now .learned) < 65536
+    pub round-room : length (seen-now .learned) < SMALL
     round-room =
         omega (
           arith,
@@ -208,7 +209,7 @@ module _ (count : ℕ) (t : Trail) (conflict : ℕ) (activity : Activity) (w₀ 
         )
 
     -- a round: the literals seen, the pivot found at j, and closed
-    module _ {a₁ a₂ : Analysis} {w₁ w₂ : List ℕ} {s₁ : List Float} (j p : ℕ) (q : Sees 786432 t a w s seen-now a₁ w₁ s₁)
+    module _ {a₁ a₂ : Analysis} {w₁ w₂ : List ℕ} {s₁ : List Float} (j p : ℕ) (q : Sees POOL t a w s seen-now a₁ w₁ s₁)
         (m : j ≡ Sat.pivotIndex (assignmentOf t w₁) (seenOf t w₁) i) (e : p ≡ getD (assignmentOf t w₁ .trail) j 0) (c : Closes t a₁ w₁ p a₂ w₂) where
       frame₁ : Unchanged analysisRegions w₀ w₁
       frame₁ = unchanged-both analysisRegions (g .frame) (q .frame)
@@ -228,7 +229,7 @@ module _ (count : ℕ) (t : Trail) (conflict : ℕ) (activity : Activity) (w₀ 
       unfolding Sat.resolveNext
       round-done z = sym (rounds-resolved (rounds - 1) (analysisOf t a₂ w₂ s₁) p) ∙ ap (λ (r : Sat.Resolution). Sat.resolveRounds (rounds - 1) S r) (sym (round-is ∙ rw (eq-eqb (a₂ .open_at_level) 0 z))) ∙ next-left
 
-      pub round-more : (k u : ℕ) → (a₂ .open_at_level ≡ 0 → ⊥) → u ≡ p / 2 → k ≡ Sat.reasonOf (assignmentOf t w₂) u → length w₁ ≡ length w → length w₂ ≡ length w₁ → 8388608 ≤ length w₂
+      pub round-more : (k u : ℕ) → (a₂ .open_at_level ≡ 0 → ⊥) → u ≡ p / 2 → k ≡ Sat.reasonOf (assignmentOf t w₂) u → length w₁ ≡ length w → length w₂ ≡ length w₁ → LENT ≤ length w₂
           → Resolving a₂ w₂ s₁ j k u (rounds - 1)
       unfolding Sat.resolveNext Literals.node
       round-more k u n d r l₁ l₂ x =
@@ -252,12 +253,12 @@ module _ (count : ℕ) (t : Trail) (conflict : ℕ) (activity : Activity) (w₀ 
 
   -- ---- the first round and the end
 
-  resolving-first : (a : Analysis) → Ready t w₀ → a .activity ≡ activity → seenOf t w₀ ≡ replicate (t .variables) false → a .learned ≡ 0 → a .open_at_level ≡ 0
+  resolving-first : (a : Analysis) → TrailReady t w₀ → a .activity ≡ activity → seenOf t w₀ ≡ replicate (t .variables) false → a .learned ≡ 0 → a .open_at_level ≡ 0
       → analysisOf t a w₀ s₀ ≡ Sat.noAnalysis S
   unfolding analysisOf Sat.noAnalysis viewOf
   resolving-first a r e f g h = rw (e, f, g, h, variables-are t w₀ r)
 
-  pub resolving-start : (a : Analysis) → Ready t w₀ → t .variables ≤ length s₀ → Fixed activity → a .activity ≡ activity → seenOf t w₀ ≡ replicate (t .variables) false → a .learned ≡ 0
+  pub resolving-start : (a : Analysis) → TrailReady t w₀ → t .variables ≤ length s₀ → Fixed activity → a .activity ≡ activity → seenOf t w₀ ≡ replicate (t .variables) false → a .learned ≡ 0
       → a .open_at_level ≡ 0 → Bounded (Sat.analyze S conflict) → Resolving a w₀ s₀ (t .length) conflict 0 (t .length)
   unfolding Sat.analyze
   resolving-start a r k x e f g h b =
@@ -278,14 +279,14 @@ module _ (count : ℕ) (t : Trail) (conflict : ℕ) (activity : Activity) (w w�
   same-goal : Sat.analyze (viewOf count t (r .activity) w₀ s₀) conflict ≡ Sat.analyze (viewOf count t activity w s₀) conflict
   same-goal = rw (b .scores, view-kept count t activity s₀ (b .frame))
 
-  pub resolving-begins : Ready t w → t .variables ≤ length s₀ → Fixed activity → Bounded (Sat.analyze (viewOf count t activity w s₀) conflict)
+  pub resolving-begins : TrailReady t w → t .variables ≤ length s₀ → Fixed activity → Bounded (Sat.analyze (viewOf count t activity w s₀) conflict)
       → Resolving count t conflict (r .activity) w₀ s₀ r w₀ s₀ (t .length) conflict 0 (t .length)
   resolving-begins y k f x =
       resolving-start count t conflict (r .activity) w₀ s₀ r (record { words = b .words; variables = y .variables; literals = y .literals; levels = y .levels }) k (rw (b .scores) f) refl (b .seen) (b .learned)
       (b .opened) (rw same-goal x)
 
   module _ {a a₁ a₂ : Analysis} {w₁ w₂ w₃ : List ℕ} {s s₁ : List Float} {i id v rounds : ℕ} (g : Resolving count t conflict (r .activity) w₀ s₀ a w₁ s i id v rounds) (j p : ℕ)
-      (q : Sees 786432 t a w₁ s (Sat.seeLiterals (assignmentOf t w₁) v (analysisOf t a w₁ s) (literalsAt count w₁ id)) a₁ w₂ s₁)
+      (q : Sees POOL t a w₁ s (Sat.seeLiterals (assignmentOf t w₁) v (analysisOf t a w₁ s) (literalsAt count w₁ id)) a₁ w₂ s₁)
       (m : j ≡ Sat.pivotIndex (assignmentOf t w₂) (seenOf t w₂) i) (e : p ≡ getD (assignmentOf t w₂ .trail) j 0) (c : Closes t a₁ w₂ p a₂ w₃) where
     pub analyzes : a₂ .open_at_level ≡ 0 → Analyzes count t activity conflict w s₀ (record { analysis = a₂; pivot = p }) w₃ s₁
     analyzes z =

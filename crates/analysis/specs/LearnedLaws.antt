@@ -6,6 +6,7 @@ use native.Mathlib.Omega.{arith}
 use native.Mathlib.Numerals.{add-one}
 use lib.ListN.{length, drop, getD, drop-of-length-le}
 use lib.Seq.{drop-cons, length-take-le, getD-take}
+use Rattle.words.specs.Layout.{LENT, SMALL, LEVELS, LEARNED}
 use Rattle.words.specs.Region.{region, length-region}
 use Rattle.model.specs.Literal as Literals
 use Rattle.model.specs.Sat as Sat
@@ -16,7 +17,7 @@ use Rattle.analysis.specs.SeeLaws.{levels-are}
 -- what is left of `highest_level` at place i
 pub record Rising (t : Trail) (w : List ℕ) (count highest i : ℕ) : Type 0 where
   pub inside : i ≤ count
-  pub left : max highest (Sat.highestLevel (assignmentOf t w) (drop i (column count 1114112 w))) ≡ Sat.highestLevel (assignmentOf t w) (column count 1114112 w)
+  pub left : max highest (Sat.highestLevel (assignmentOf t w) (drop i (column count LEARNED w))) ≡ Sat.highestLevel (assignmentOf t w) (column count LEARNED w)
 
 pub rising-start : (t : Trail) (w : List ℕ) (count : ℕ) → Rising t w count 0 0
 rising-start t w count = record { inside = omega arith; left = omega arith }
@@ -26,20 +27,20 @@ highest-next : (t : Sat.Assignment) (ls : List ℕ) (i : ℕ) → i < length ls
 unfolding Sat.highestLevel Literals.node
 highest-next t ls i h = rw (drop-cons ls i 0 h, add-one)
 
-pub rising-step : (t : Trail) (w : List ℕ) (count highest i l d r : ℕ) → 8388608 ≤ length w → count ≤ 65536 → Rising t w count highest i → i < count → l ≡ getD (region 1114112 w) i 0
-    → d ≡ getD (column (t .variables) 720896 w) (l / 2) 0 → r ≡ max highest d → Rising t w count r (i + 1)
+pub rising-step : (t : Trail) (w : List ℕ) (count highest i l d r : ℕ) → LENT ≤ length w → count ≤ SMALL → Rising t w count highest i → i < count → l ≡ getD (region LEARNED w) i 0
+    → d ≡ getD (column (t .variables) LEVELS w) (l / 2) 0 → r ≡ max highest d → Rising t w count r (i + 1)
 rising-step t w count highest i l d r x k g h e f m =
-    let ls = column count 1114112 w in
-    let n : i < length ls = omega (arith, length-take-le count (region 1114112 w) (omega (arith, length-region 1114112 w (omega arith)))) in
+    let ls = column count LEARNED w in
+    let n : i < length ls = omega (arith, length-take-le count (region LEARNED w) (omega (arith, length-region LEARNED w (omega arith)))) in
     let q : d ≡ getD (assignmentOf t w .levels) (getD ls i 0 / 2) 0
-    = f ∙ ap (λ (u : List ℕ). getD u (l / 2) 0) (sym (levels-are t w)) ∙ ap (λ (u : ℕ). getD (assignmentOf t w .levels) (u / 2) 0) (e ∙ sym (getD-take count (region 1114112 w) i 0 h)) in
+    = f ∙ ap (λ (u : List ℕ). getD u (l / 2) 0) (sym (levels-are t w)) ∙ ap (λ (u : ℕ). getD (assignmentOf t w .levels) (u / 2) 0) (e ∙ sym (getD-take count (region LEARNED w) i 0 h)) in
     record { inside = omega arith; left = omega (arith, g .left, highest-next (assignmentOf t w) ls i n, q, m) }
 
-pub risen : (t : Trail) (w : List ℕ) (count highest i : ℕ) → 8388608 ≤ length w → count ≤ 65536 → Rising t w count highest i → count ≤ i
-    → highest ≡ Sat.highestLevel (assignmentOf t w) (column count 1114112 w)
+pub risen : (t : Trail) (w : List ℕ) (count highest i : ℕ) → LENT ≤ length w → count ≤ SMALL → Rising t w count highest i → count ≤ i
+    → highest ≡ Sat.highestLevel (assignmentOf t w) (column count LEARNED w)
 unfolding Sat.highestLevel
 risen t w count highest i x k g h =
-    let ls = column count 1114112 w in
-    let n : length ls ≤ i = omega (arith, length-take-le count (region 1114112 w) (omega (arith, length-region 1114112 w (omega arith)))) in
+    let ls = column count LEARNED w in
+    let n : length ls ≤ i = omega (arith, length-take-le count (region LEARNED w) (omega (arith, length-region LEARNED w (omega arith)))) in
     let e : Sat.highestLevel (assignmentOf t w) (drop i ls) ≡ 0 = rw (drop-of-length-le ls n) in
     omega (arith, g .left, e)

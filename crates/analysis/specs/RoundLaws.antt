@@ -11,10 +11,11 @@ use lib.ListN.{length, getD, List·getD-map}
 use lib.Seq.{slice, take-all}
 use lib.Ieee.{Float}
 use Rattle.facts.specs.Numbers.{below}
+use Rattle.words.specs.Layout.{LENT, POOL, REASONS, SEEN, TRAIL, CLAUSE-STARTS, LITERALS}
 use Rattle.words.specs.Region.{region, stored, stores, length-region}
 use Rattle.model.specs.Literal as Literals
 use Rattle.model.specs.Sat as Sat
-use Rattle.assignment.specs.State.{wordBit, wordReason, column, assignmentOf, Ready, Cleared}
+use Rattle.assignment.specs.State.{wordBit, wordReason, column, assignmentOf, TrailReady, Cleared}
 use Rattle.assignment.specs.StateLaws.{bit-true, unchanged-none, unchanged-stored, unchanged-within}
 use Rattle.assignment.specs.DecideLaws.{map-replicate}
 use Rattle.assignment.specs.declared.state.Trail.{Trail}
@@ -36,17 +37,17 @@ slice-min start end xs n e =
     (λ (h : n ≤ end). let k : min end n ≡ n = omega arith in let l : length xs ≤ end = omega arith in let m : length xs ≤ n = omega arith in rw (k, take-all n xs m, take-all end xs l))
     (below end n)
 
-pub spans : (count : ℕ) (w : List ℕ) (id s e f : ℕ) → 8388608 ≤ length w → id < count → s ≡ getD (region 2097152 w) id 0 → e ≡ getD (region 2097152 w) (id + 1) 0 → f ≡ min e 786432
+pub spans : (count : ℕ) (w : List ℕ) (id s e f : ℕ) → LENT ≤ length w → id < count → s ≡ getD (region CLAUSE-STARTS w) id 0 → e ≡ getD (region CLAUSE-STARTS w) (id + 1) 0 → f ≡ min e POOL
     → Spans count w id (record { start = s; end = f })
 unfolding literalsAt
 spans count w id s e f h k a b c =
-    let n : length (region 4718592 w) ≡ 786432 = length-region 4718592 w (omega arith) in
-    record { is = rw (lt-ltb id count k, ← a, ← b, c) (slice-min s e (region 4718592 w) 786432 n); inside = omega arith }
+    let n : length (region LITERALS w) ≡ POOL = length-region LITERALS w (omega arith) in
+    record { is = rw (lt-ltb id count k, ← a, ← b, c) (slice-min s e (region LITERALS w) POOL n); inside = omega arith }
 
 -- a clause that was found is seen
 pub sees-clause : (count : ℕ) (t : Trail) (v id : ℕ) (b : Bounds) (a r : Analysis) (w w′ : List ℕ) (s s′ : List Float) → Spans count w id b
-    → Sees 786432 t a w s (Sat.seeLiterals (assignmentOf t w) v (analysisOf t a w s) (slice (b .start) (b .end) (region 4718592 w))) r w′ s′
-    → Sees 786432 t a w s (Sat.seeLiterals (assignmentOf t w) v (analysisOf t a w s) (literalsAt count w id)) r w′ s′
+    → Sees POOL t a w s (Sat.seeLiterals (assignmentOf t w) v (analysisOf t a w s) (slice (b .start) (b .end) (region LITERALS w))) r w′ s′
+    → Sees POOL t a w s (Sat.seeLiterals (assignmentOf t w) v (analysisOf t a w s) (literalsAt count w id)) r w′ s′
 sees-clause count t v id b a r w w′ s s′ e q = rw (e .is) at q
 
 -- ---- the reason of a variable
@@ -57,23 +58,23 @@ unfolding Sat.reasonOf wordReason
 reason-word a v zero e = rw (e, Sat.reasonOf)
 reason-word a v (suc k) e = rw (e, Sat.reasonOf) (omega arith)
 
-reasons-are : (t : Trail) (w : List ℕ) (v : ℕ) → getD (assignmentOf t w .reasons) v none ≡ wordReason (getD (column (t .variables) 786432 w) v 0)
+reasons-are : (t : Trail) (w : List ℕ) (v : ℕ) → getD (assignmentOf t w .reasons) v none ≡ wordReason (getD (column (t .variables) REASONS w) v 0)
 unfolding assignmentOf wordReason
-reasons-are t w v = List·getD-map wordReason (column (t .variables) 786432 w) v 0
+reasons-are t w v = List·getD-map wordReason (column (t .variables) REASONS w) v 0
 
-pub reason-is : (t : Trail) (w : List ℕ) (v k : ℕ) → k ≡ getD (column (t .variables) 786432 w) v 0 → k - 1 ≡ Sat.reasonOf (assignmentOf t w) v
+pub reason-is : (t : Trail) (w : List ℕ) (v k : ℕ) → k ≡ getD (column (t .variables) REASONS w) v 0 → k - 1 ≡ Sat.reasonOf (assignmentOf t w) v
 reason-is t w v k e = reason-word (assignmentOf t w) v k (rw e (reasons-are t w v))
 
 -- ---- the pivot closed
 
-pub closes : (t : Trail) (a : Analysis) (w w′ : List ℕ) (p v n : ℕ) → Ready t w → v ≡ p / 2 → n ≡ a .open_at_level - 1 → w′ ≡ stored 917504 w v 0 → 8388608 ≤ length w′
+pub closes : (t : Trail) (a : Analysis) (w w′ : List ℕ) (p v n : ℕ) → TrailReady t w → v ≡ p / 2 → n ≡ a .open_at_level - 1 → w′ ≡ stored SEEN w v 0 → LENT ≤ length w′
     → Closes t a w p (record { activity = a .activity; learned = a .learned; open_at_level = n }) w′
 unfolding analysisOf Sat.closePivot Literals.node wordBit
 closes t a w w′ p v n r e f g k =
     record {
       is = λ s. rw (g, mark-is t w v 0, e, f) (simp stores);
       same = refl;
-      frame = unchanged-stored analysisRegions 917504 _ _ refl (unchanged-none analysisRegions w) g;
+      frame = unchanged-stored analysisRegions SEEN _ _ refl (unchanged-none analysisRegions w) g;
       words = k;
       opened = omega arith;
       learned = refl;
@@ -81,7 +82,7 @@ closes t a w w′ p v n r e f g k =
 
 -- ---- the start
 
-pub begins : (t : Trail) (activity : Activity) (w w′ : List ℕ) → Cleared 917504 (t .variables) w w′ → Begins t activity w (record { activity = activity; learned = 0; open_at_level = 0 }) w′
+pub begins : (t : Trail) (activity : Activity) (w w′ : List ℕ) → Cleared SEEN (t .variables) w w′ → Begins t activity w (record { activity = activity; learned = 0; open_at_level = 0 }) w′
 unfolding seenOf wordBit
 begins t activity w w′ c =
     record {
@@ -89,7 +90,7 @@ begins t activity w w′ c =
       seen = rw (c .zeros) (map-replicate wordBit (t .variables) 0);
       learned = refl;
       opened = refl;
-      frame = unchanged-within (917504 ∷ []) analysisRegions refl (c .frame);
+      frame = unchanged-within (SEEN ∷ []) analysisRegions refl (c .frame);
       words = c .words;
     }
 
@@ -99,7 +100,7 @@ begins t activity w w′ c =
 abbrev pub pivotFrom : Trail → List ℕ → ℕ → ℕ
 pivotFrom t w i = Sat.pivotIndex (assignmentOf t w) (seenOf t w) i
 
-trail-is : (t : Trail) (w : List ℕ) → assignmentOf t w .trail ≡ column (t .length) 983040 w
+trail-is : (t : Trail) (w : List ℕ) → assignmentOf t w .trail ≡ column (t .length) TRAIL w
 unfolding assignmentOf
 trail-is t w = refl
 
@@ -109,12 +110,12 @@ module _ (t : Trail) (w : List ℕ) where
   pivot-none i e = rw e
 
   -- whether the literal at a place is seen
-  seen-at : (i k v m : ℕ) → k ≡ getD (column (t .length) 983040 w) i 0 → v ≡ k / 2 → m ≡ getD (column (t .variables) 917504 w) v 0
+  seen-at : (i k v m : ℕ) → k ≡ getD (column (t .length) TRAIL w) i 0 → v ≡ k / 2 → m ≡ getD (column (t .variables) SEEN w) v 0
       → getD (seenOf t w) (Literals.node (getD (assignmentOf t w .trail) i 0)) false ≡ wordBit m
   unfolding Literals.node
   seen-at i k v m e d f = rw (trail-is t w, ← e, ← d, f) (seen-is t w v)
 
-  pub pivot-back : (i k v m : ℕ) → (i ≡ 0 → ⊥) → k ≡ getD (column (t .length) 983040 w) (i - 1) 0 → v ≡ k / 2 → m ≡ getD (column (t .variables) 917504 w) v 0 → m ≡ 0
+  pub pivot-back : (i k v m : ℕ) → (i ≡ 0 → ⊥) → k ≡ getD (column (t .length) TRAIL w) (i - 1) 0 → v ≡ k / 2 → m ≡ getD (column (t .variables) SEEN w) v 0 → m ≡ 0
       → pivotFrom t w (i - 1) ≡ pivotFrom t w i
   unfolding Sat.pivotIndex wordBit
   pivot-back zero k v m n e d f z = absurd (n refl)
@@ -123,7 +124,7 @@ module _ (t : Trail) (w : List ℕ) where
       let y : getD (seenOf t w) (Literals.node (getD (assignmentOf t w .trail) i 0)) false ≡ false = seen-at i k v m (rw x at e) d f ∙ ap wordBit z in
       rw (x, y, Sat.pivotIndex)
 
-  pub pivot-here : (i k v m : ℕ) → (i ≡ 0 → ⊥) → k ≡ getD (column (t .length) 983040 w) (i - 1) 0 → v ≡ k / 2 → m ≡ getD (column (t .variables) 917504 w) v 0 → (m ≡ 0 → ⊥)
+  pub pivot-here : (i k v m : ℕ) → (i ≡ 0 → ⊥) → k ≡ getD (column (t .length) TRAIL w) (i - 1) 0 → v ≡ k / 2 → m ≡ getD (column (t .variables) SEEN w) v 0 → (m ≡ 0 → ⊥)
       → i - 1 ≡ pivotFrom t w i
   unfolding Sat.pivotIndex
   pivot-here zero k v m n e d f z = absurd (n refl)
@@ -134,9 +135,9 @@ module _ (t : Trail) (w : List ℕ) where
 
   -- the search for the pivot began at place o and stands at i
   module _ (o i : ℕ) (inv : pivotFrom t w i ≡ pivotFrom t w o) where
-    pub met-none : (j p q : ℕ) → i ≡ 0 → j ≡ i → q ≡ getD (column (t .length) 983040 w) 0 0 → p ≡ q → (j ≡ pivotFrom t w o) × (p ≡ getD (assignmentOf t w .trail) j 0)
+    pub met-none : (j p q : ℕ) → i ≡ 0 → j ≡ i → q ≡ getD (column (t .length) TRAIL w) 0 0 → p ≡ q → (j ≡ pivotFrom t w o) × (p ≡ getD (assignmentOf t w .trail) j 0)
     met-none j p q z e f g = (e ∙ z ∙ pivot-none i z ∙ inv, g ∙ f ∙ rw (trail-is t w, e, z))
 
-    pub met-here : (j p k v m : ℕ) → (i ≡ 0 → ⊥) → k ≡ getD (column (t .length) 983040 w) (i - 1) 0 → v ≡ k / 2 → m ≡ getD (column (t .variables) 917504 w) v 0 → (m ≡ 0 → ⊥) → j ≡ i - 1 → p ≡ k
+    pub met-here : (j p k v m : ℕ) → (i ≡ 0 → ⊥) → k ≡ getD (column (t .length) TRAIL w) (i - 1) 0 → v ≡ k / 2 → m ≡ getD (column (t .variables) SEEN w) v 0 → (m ≡ 0 → ⊥) → j ≡ i - 1 → p ≡ k
         → (j ≡ pivotFrom t w o) × (p ≡ getD (assignmentOf t w .trail) j 0)
     met-here j p k v m n e d f z x y = (x ∙ pivot-here i k v m n e d f z ∙ inv, y ∙ e ∙ rw (trail-is t w, x))

@@ -10,6 +10,7 @@ use borrow.Author.Tests.{eq-eqb, ne-eqb}
 use lib.ListN.{length, take, set, getD, List·getD-map, length-append, length-take, drop-of-length-le}
 use lib.Seq.{slice, slice-cons}
 use lib.Ieee.{Float}
+use Rattle.words.specs.Layout.{LENT, SMALL, POOL, LEVELS, SEEN, LEARNED, LITERALS}
 use Rattle.words.specs.Region.{region, stored, stores, stored-out, length-region}
 use Rattle.model.specs.Literal as Literals
 use Rattle.model.specs.Lists as Lists
@@ -26,12 +27,12 @@ use Rattle.analysis.specs.Analysis.{seenOf, analysisOf, analysisRegions,
 -- ---- whether a literal is skipped
 
 -- the mark of a variable, from its word
-pub seen-is : (t : Trail) (w : List ℕ) (v : ℕ) → getD (seenOf t w) v false ≡ wordBit (getD (column (t .variables) 917504 w) v 0)
+pub seen-is : (t : Trail) (w : List ℕ) (v : ℕ) → getD (seenOf t w) v false ≡ wordBit (getD (column (t .variables) SEEN w) v 0)
 unfolding seenOf wordBit
-seen-is t w v = List·getD-map wordBit (column (t .variables) 917504 w) v 0
+seen-is t w v = List·getD-map wordBit (column (t .variables) SEEN w) v 0
 
 -- the level of a variable is its word
-pub levels-are : (t : Trail) (w : List ℕ) → assignmentOf t w .levels ≡ column (t .variables) 720896 w
+pub levels-are : (t : Trail) (w : List ℕ) → assignmentOf t w .levels ≡ column (t .variables) LEVELS w
 unfolding assignmentOf
 levels-are t w = refl
 
@@ -40,55 +41,55 @@ module _ (t : Trail) (w : List ℕ) (resolved l v : ℕ) (k : v ≡ l / 2) (a : 
   unfolding Sat.skipped Literals.node
   skips-resolved h = rw (← k, eq-eqb v resolved h)
 
-  module _ (n : v ≡ resolved → ⊥) (m : ℕ) (f : m ≡ getD (column (t .variables) 917504 w) v 0) where
+  module _ (n : v ≡ resolved → ⊥) (m : ℕ) (f : m ≡ getD (column (t .variables) SEEN w) v 0) where
     pub skips-seen : (m ≡ 0 → ⊥) → true ≡ Sat.skipped (assignmentOf t w) resolved a l
     unfolding Sat.skipped Literals.node
     skips-seen h = rw (← k, ne-eqb v resolved n, e, seen-is t w v, ← f, bit-true m h)
 
-    pub skips-level : m ≡ 0 → (d : ℕ) → d ≡ getD (column (t .variables) 720896 w) v 0 → eqb d 0 ≡ Sat.skipped (assignmentOf t w) resolved a l
+    pub skips-level : m ≡ 0 → (d : ℕ) → d ≡ getD (column (t .variables) LEVELS w) v 0 → eqb d 0 ≡ Sat.skipped (assignmentOf t w) resolved a l
     unfolding Sat.skipped Literals.node wordBit
     skips-level z d g = rw (← k, ne-eqb v resolved n, e, seen-is t w v, ← f, z, levels-are t w, ← g)
 
 -- ---- a variable seen
 
 -- the marks after a store
-pub mark-is : (t : Trail) (w : List ℕ) (v x : ℕ) → seenOf t (stored 917504 w v x) ≡ set (seenOf t w) v (wordBit x)
+pub mark-is : (t : Trail) (w : List ℕ) (v x : ℕ) → seenOf t (stored SEEN w v x) ≡ set (seenOf t w) v (wordBit x)
 unfolding seenOf
 mark-is t w v x = simp (stores, take-set, map-set)
 
-seen-kept : (t : Trail) (w : List ℕ) (i x : ℕ) → seenOf t (stored 1114112 w i x) ≡ seenOf t w
+seen-kept : (t : Trail) (w : List ℕ) (i x : ℕ) → seenOf t (stored LEARNED w i x) ≡ seenOf t w
 unfolding seenOf
 seen-kept t w i x = simp stores
 
 module _ (t : Trail) (a : Analysis) (l v : ℕ) {w w₁ : List ℕ} {s s₁ : List Float} {r : Activity} (able : Able t a w s) (k : v ≡ l / 2)
-    (b : Bumps (t .variables) (a .activity) v s r s₁) (e₁ : w₁ ≡ stored 917504 w v 1) (d : ℕ) (f : d ≡ getD (column (t .variables) 720896 w₁) v 0) where
+    (b : Bumps (t .variables) (a .activity) v s r s₁) (e₁ : w₁ ≡ stored SEEN w v 1) (d : ℕ) (f : d ≡ getD (column (t .variables) LEVELS w₁) v 0) where
   -- the level that was read is the variable's
   level-here : getD (assignmentOf t w .levels) (l / 2) 0 ≡ d
-  level-here = sym (f ∙ ap (λ (x : List ℕ). getD (take (t .variables) x) v 0) (ap (λ (u : List ℕ). region 720896 u) e₁ ∙ stored-out 720896 w 917504 v 1 refl) ∙ ap (λ (x : List ℕ). getD x v 0) (sym (levels-are t w)) ∙ ap (λ (u : ℕ). getD (assignmentOf t w .levels) u 0) k)
+  level-here = sym (f ∙ ap (λ (x : List ℕ). getD (take (t .variables) x) v 0) (ap (λ (u : List ℕ). region LEVELS u) e₁ ∙ stored-out LEVELS w SEEN v 1 refl) ∙ ap (λ (x : List ℕ). getD x v 0) (sym (levels-are t w)) ∙ ap (λ (u : ℕ). getD (assignmentOf t w .levels) u 0) k)
 
-  pub sees-open : d ≡ t .level → 8388608 ≤ length w₁
+  pub sees-open : d ≡ t .level → LENT ≤ length w₁
       → Sees 1 t a w s (Sat.seeUnless (assignmentOf t w) (analysisOf t a w s) l false) (record { activity = r; learned = a .learned; open_at_level = a .open_at_level + 1 }) w₁ s₁
   unfolding analysisOf Sat.seeUnless Sat.seeVariable Literals.node wordBit
   sees-open h x =
       let lv : Sat.decisionLevel (assignmentOf t w) ≡ t .level = level-is t w (able .ready) in
       record {
         is = rw (lv, level-here, eq-eqb d (t .level) h, e₁, mark-is t w v 1, b .is, k, add-one) (simp stores);
-        frame = unchanged-stored analysisRegions 917504 _ _ refl (unchanged-none analysisRegions w) e₁;
+        frame = unchanged-stored analysisRegions SEEN _ _ refl (unchanged-none analysisRegions w) e₁;
         others = b .others;
         words = x;
         fixed = b .fixed;
         opened = omega arith;
       }
 
-  pub sees-learned : (w₂ : List ℕ) → (d ≡ t .level → ⊥) → w₂ ≡ stored 1114112 w₁ (a .learned) l → 8388608 ≤ length w₁ → 8388608 ≤ length w₂
+  pub sees-learned : (w₂ : List ℕ) → (d ≡ t .level → ⊥) → w₂ ≡ stored LEARNED w₁ (a .learned) l → LENT ≤ length w₁ → LENT ≤ length w₂
       → Sees 1 t a w s (Sat.seeUnless (assignmentOf t w) (analysisOf t a w s) l false) (record { activity = r; learned = a .learned + 1; open_at_level = a .open_at_level }) w₂ s₁
   unfolding analysisOf Sat.seeUnless Sat.seeVariable Literals.node wordBit Lists.snoc
   sees-learned w₂ h e₂ y x =
-      let q : 1114112 + 65536 ≤ length w = omega (arith, able .ready .words) in
+      let q : LEARNED + SMALL ≤ length w = omega (arith, able .ready .words) in
       let lv : Sat.decisionLevel (assignmentOf t w) ≡ t .level = level-is t w (able .ready) in
       record {
-        is = rw (lv, level-here, ne-eqb d (t .level) h, e₂, seen-kept t w₁ (a .learned) l, e₁, mark-is t w v 1, b .is, k) (simp (stores, take-set, set-end 1114112 w (a .learned) l (able .room) q));
-        frame = unchanged-stored analysisRegions 1114112 _ _ refl (unchanged-stored analysisRegions 917504 _ _ refl (unchanged-none analysisRegions w) e₁) e₂;
+        is = rw (lv, level-here, ne-eqb d (t .level) h, e₂, seen-kept t w₁ (a .learned) l, e₁, mark-is t w v 1, b .is, k) (simp (stores, take-set, set-end LEARNED w (a .learned) l (able .room) q));
+        frame = unchanged-stored analysisRegions LEARNED _ _ refl (unchanged-stored analysisRegions SEEN _ _ refl (unchanged-none analysisRegions w) e₁) e₂;
         others = b .others;
         words = x;
         fixed = b .fixed;
@@ -141,9 +142,9 @@ literals-grow t v a [] = omega arith
 literals-grow t v a (l ∷ ls) = omega (arith, unless-grows t a l (Sat.skipped t v a l), literals-grow t v (Sat.seeUnless t a l (Sat.skipped t v a l)) ls)
 
 -- how many are learned, of those that the region holds
-pub learned-length : (t : Trail) (a : Analysis) (w : List ℕ) (s : List Float) → 8388608 ≤ length w → length (analysisOf t a w s .learned) ≡ min (a .learned) 65536
+pub learned-length : (t : Trail) (a : Analysis) (w : List ℕ) (s : List Float) → LENT ≤ length w → length (analysisOf t a w s .learned) ≡ min (a .learned) SMALL
 unfolding analysisOf
-learned-length t a w s h = length-take (a .learned) (region 1114112 w) ∙ ap (λ (n : ℕ). min (a .learned) n) (length-region 1114112 w (omega arith))
+learned-length t a w s h = length-take (a .learned) (region LEARNED w) ∙ ap (λ (n : ℕ). min (a .learned) n) (length-region LEARNED w (omega arith))
 
 pub slice-none : (i end : ℕ) (xs : List ℕ) → end ≤ i → slice i end xs ≡ []
 slice-none i end xs h = let k : length (take end xs) ≤ i = simp length-take (omega arith) in drop-of-length-le (take end xs) k
@@ -162,8 +163,8 @@ pub record Seeing (t : Trail) (v start end : ℕ) (a₀ : Analysis) (w₀ : List
   pub frame : Unchanged analysisRegions w₀ w
   pub others : Others (t .variables) s₀ s
   pub opened : a .open_at_level + start ≤ a₀ .open_at_level + i
-  pub left : Sat.seeLiterals (assignmentOf t w₀) v (analysisOf t a w s) (slice i end (region 4718592 w₀))
-      ≡ Sat.seeLiterals (assignmentOf t w₀) v (analysisOf t a₀ w₀ s₀) (slice start end (region 4718592 w₀))
+  pub left : Sat.seeLiterals (assignmentOf t w₀) v (analysisOf t a w s) (slice i end (region LITERALS w₀))
+      ≡ Sat.seeLiterals (assignmentOf t w₀) v (analysisOf t a₀ w₀ s₀) (slice start end (region LITERALS w₀))
 
 pub seeing-start : (t : Trail) (v start end : ℕ) (a : Analysis) (w : List ℕ) (s : List Float) → Able t a w s → Seeing t v start end a w s start a w s
 seeing-start t v start end a w s able =
@@ -179,20 +180,20 @@ seeing-start t v start end a w s able =
     }
 
 module _ (t : Trail) (v start end : ℕ) (a₀ : Analysis) (w₀ : List ℕ) (s₀ : List Float)
-    (few : a₀ .open_at_level + 786432 < 1152921504606846976) (h : end ≤ 786432)
-    (room : length (Sat.seeLiterals (assignmentOf t w₀) v (analysisOf t a₀ w₀ s₀) (slice start end (region 4718592 w₀)) .learned) < 65536) where
+    (few : a₀ .open_at_level + POOL < 1152921504606846976) (h : end ≤ POOL)
+    (room : length (Sat.seeLiterals (assignmentOf t w₀) v (analysisOf t a₀ w₀ s₀) (slice start end (region LITERALS w₀)) .learned) < SMALL) where
   -- the number of learned literals is below that at the end
   room-now : (i : ℕ) (b : Sat.Analysis)
-      → Sat.seeLiterals (assignmentOf t w₀) v b (slice i end (region 4718592 w₀)) ≡ Sat.seeLiterals (assignmentOf t w₀) v (analysisOf t a₀ w₀ s₀) (slice start end (region 4718592 w₀)) → length (b .learned) < 65536
+      → Sat.seeLiterals (assignmentOf t w₀) v b (slice i end (region LITERALS w₀)) ≡ Sat.seeLiterals (assignmentOf t w₀) v (analysisOf t a₀ w₀ s₀) (slice start end (region LITERALS w₀)) → length (b .learned) < SMALL
   room-now i b l =
-      omega (arith, literals-grow (assignmentOf t w₀) v b (slice i end (region 4718592 w₀)), ap (λ (x : Sat.Analysis). length (x .learned)) l)
+      omega (arith, literals-grow (assignmentOf t w₀) v b (slice i end (region LITERALS w₀)), ap (λ (x : Sat.Analysis). length (x .learned)) l)
 
-  pub seeing-step : (i l : ℕ) (a r : Analysis) (w w′ : List ℕ) (s s′ : List Float) → Seeing t v start end a₀ w₀ s₀ i a w s → i < end → l ≡ getD (region 4718592 w) i 0
+  pub seeing-step : (i l : ℕ) (a r : Analysis) (w w′ : List ℕ) (s s′ : List Float) → Seeing t v start end a₀ w₀ s₀ i a w s → i < end → l ≡ getD (region LITERALS w) i 0
       → Sees 1 t a w s (saw (assignmentOf t w) v (analysisOf t a w s) l) r w′ s′ → length w′ ≡ length w → Seeing t v start end a₀ w₀ s₀ (i + 1) r w′ s′
   seeing-step i l a r w w′ s s′ g k e q m =
-      let pool = region 4718592 w₀ in
-      let n : end ≤ length pool = omega (arith, length-region 4718592 w₀ (omega (arith, g .long, g .able .ready .words))) in
-      let f : l ≡ getD pool i 0 = e ∙ ap (λ (x : List ℕ). getD x i 0) (g .frame .same 4718592 refl) in
+      let pool = region LITERALS w₀ in
+      let n : end ≤ length pool = omega (arith, length-region LITERALS w₀ (omega (arith, g .long, g .able .ready .words))) in
+      let f : l ≡ getD pool i 0 = e ∙ ap (λ (x : List ℕ). getD x i 0) (g .frame .same LITERALS refl) in
       let c : assignmentOf t w ≡ assignmentOf t w₀ = assignment-kept analysisRegions t refl (g .frame) in
       let next : Sat.seeLiterals (assignmentOf t w₀) v (analysisOf t r w′ s′) (slice (i + 1) end pool) ≡ Sat.seeLiterals (assignmentOf t w₀) v (analysisOf t a₀ w₀ s₀) (slice start end pool)
       = rw (q .is, c, f) (sym (see-next (assignmentOf t w₀) v (analysisOf t a w s) pool i end k n) ∙ g .left) in
@@ -216,11 +217,11 @@ module _ (t : Trail) (v start end : ℕ) (a₀ : Analysis) (w₀ : List ℕ) (s�
       }
 
   pub seeing-end : (i : ℕ) (a : Analysis) (w : List ℕ) (s : List Float) → Seeing t v start end a₀ w₀ s₀ i a w s → end ≤ i
-      → Sees 786432 t a₀ w₀ s₀ (Sat.seeLiterals (assignmentOf t w₀) v (analysisOf t a₀ w₀ s₀) (slice start end (region 4718592 w₀))) a w s
+      → Sees POOL t a₀ w₀ s₀ (Sat.seeLiterals (assignmentOf t w₀) v (analysisOf t a₀ w₀ s₀) (slice start end (region LITERALS w₀))) a w s
   unfolding Sat.seeLiterals
   seeing-end i a w s g k =
       record {
-        is = rw (slice-none i end (region 4718592 w₀) k) at (g .left);
+        is = rw (slice-none i end (region LITERALS w₀) k) at (g .left);
         frame = g .frame;
         others = g .others;
         words = g .able .ready .words;

@@ -2,8 +2,9 @@
 ghost use mathlib.Core.Path.{_≡_};
 ghost use Prim.Native.Nat.{_/_, _<_, _≤_, max};
 ghost use lib.ListN.{getD};
+ghost use Rattle.words.specs.Layout.{SMALL, LEVELS, LEARNED};
 ghost use Rattle.model.specs.Sat as Sat;
-ghost use Rattle.assignment.specs.State.{assignmentOf, column, Ready};
+ghost use Rattle.assignment.specs.State.{assignmentOf, column, TrailReady};
 use assignment::state::Trail;
 use assignment::trail::fetch_below;
 use words::LEARNED;
@@ -21,8 +22,8 @@ fn higher(a: usize, b: usize) -> usize
 
 // The level of a literal's variable.
 fn level_of(words: &[u32], t: Trail, literal: u32) -> usize
-    requires { ⌜ Ready t (now words) ⌝ }
-    ensures { λ r. ⌜ r ≡ getD (column (t .variables) 720896 (now (words .entry))) (literal / 2) 0 ⌝ }
+    requires { ⌜ TrailReady t (now words) ⌝ }
+    ensures { λ r. ⌜ r ≡ getD (column (t .variables) LEVELS (now (words .entry))) (literal / 2) 0 ⌝ }
 {
     let n = t.variables;
     wide(fetch_below(words, LEVELS, SMALL, n, wide(literal / 2)))
@@ -30,8 +31,8 @@ fn level_of(words: &[u32], t: Trail, literal: u32) -> usize
 
 // The highest level among the learned literals, 0 where there is none.
 pub fn highest_level(words: &[u32], t: Trail, count: usize) -> usize
-    requires { ⌜ Ready t (now words) × (count ≤ 65536) ⌝ }
-    ensures { λ r. ⌜ r ≡ Sat.highestLevel (assignmentOf t (now (words .entry))) (column count 1114112 (now (words .entry))) ⌝ }
+    requires { ⌜ TrailReady t (now words) × (count ≤ SMALL) ⌝ }
+    ensures { λ r. ⌜ r ≡ Sat.highestLevel (assignmentOf t (now (words .entry))) (column count LEARNED (now (words .entry))) ⌝ }
 {
     let mut highest: usize = 0;
     let mut i: usize = 0;

@@ -4,9 +4,10 @@ ghost use mathlib.Core.Bool.{false};
 ghost use Prim.Native.Nat.{_+_, _-_, _<_, _≤_};
 ghost use lib.ListN.{length};
 ghost use lib.Seq.{slice};
+ghost use Rattle.words.specs.Layout.{LENT, SMALL, POOL, LITERALS};
 ghost use Rattle.words.specs.Region.{region};
 ghost use Rattle.model.specs.Sat as Sat;
-ghost use Rattle.assignment.specs.State.{assignmentOf, Ready};
+ghost use Rattle.assignment.specs.State.{assignmentOf, TrailReady};
 ghost use Rattle.assignment.specs.Scores.{Fixed};
 ghost use Rattle.analysis.specs.Analysis.{seenOf, analysisOf, Able, Sees, saw, literalsAt, Spans, Begins, Closes, Bounded, Analyzes, viewOf};
 use crate::state::Analysis;
@@ -34,7 +35,7 @@ use words::wide;
 
 // Whether a literal is skipped: the resolved variable, a seen one, or one of level 0.
 fn skipped(words: &[u32], t: Trail, resolved: usize, literal: u32) -> bool
-    requires { ⌜ Ready t (now words) ⌝ }
+    requires { ⌜ TrailReady t (now words) ⌝ }
     ensures { λ r. ⌜ ((a : Sat.Analysis) → a .seen ≡ seenOf t (now (words .entry)) → r ≡ Sat.skipped (assignmentOf t (now (words .entry))) resolved a literal) ⌝ }
 {
     let v = wide(literal / 2);
@@ -111,10 +112,10 @@ fn see_literals(
     start: usize,
     end: usize,
 ) -> Analysis
-    requires { ⌜ Able t earlier (now words) (now scores) × (end ≤ 786432) × (earlier .open_at_level + 786432 < 1152921504606846976)
-        × (length (Sat.seeLiterals (assignmentOf t (now words)) resolved (analysisOf t earlier (now words) (now scores)) (slice start end (region 4718592 (now words))) .learned) < 65536) ⌝ }
-    ensures { λ r. ⌜ Sees 786432 t earlier (now (words .entry)) (now (scores .entry))
-        (Sat.seeLiterals (assignmentOf t (now (words .entry))) resolved (analysisOf t earlier (now (words .entry)) (now (scores .entry))) (slice start end (region 4718592 (now (words .entry)))))
+    requires { ⌜ Able t earlier (now words) (now scores) × (end ≤ POOL) × (earlier .open_at_level + POOL < 1152921504606846976)
+        × (length (Sat.seeLiterals (assignmentOf t (now words)) resolved (analysisOf t earlier (now words) (now scores)) (slice start end (region LITERALS (now words))) .learned) < SMALL) ⌝ }
+    ensures { λ r. ⌜ Sees POOL t earlier (now (words .entry)) (now (scores .entry))
+        (Sat.seeLiterals (assignmentOf t (now (words .entry))) resolved (analysisOf t earlier (now (words .entry)) (now (scores .entry))) (slice start end (region LITERALS (now (words .entry)))))
         r (now (words .exit)) (now (scores .exit)) ⌝ }
 {
     let mut a = earlier;
@@ -129,7 +130,7 @@ fn see_literals(
 
 // Where the literals of a clause lie, one of `clauses`; nowhere past them.
 fn bounds(words: &[u32], clauses: usize, id: usize) -> Bounds
-    requires { ⌜ 8388608 ≤ length (now words) ⌝ }
+    requires { ⌜ LENT ≤ length (now words) ⌝ }
     ensures { λ r. ⌜ Spans clauses (now (words .entry)) id r ⌝ }
 {
     if clauses <= id {
@@ -151,9 +152,9 @@ fn see_clause(
     clauses: usize,
     id: usize,
 ) -> Analysis
-    requires { ⌜ Able t a (now words) (now scores) × (a .open_at_level + 786432 < 1152921504606846976)
-        × (length (Sat.seeLiterals (assignmentOf t (now words)) resolved (analysisOf t a (now words) (now scores)) (literalsAt clauses (now words) id) .learned) < 65536) ⌝ }
-    ensures { λ r. ⌜ Sees 786432 t a (now (words .entry)) (now (scores .entry))
+    requires { ⌜ Able t a (now words) (now scores) × (a .open_at_level + POOL < 1152921504606846976)
+        × (length (Sat.seeLiterals (assignmentOf t (now words)) resolved (analysisOf t a (now words) (now scores)) (literalsAt clauses (now words) id) .learned) < SMALL) ⌝ }
+    ensures { λ r. ⌜ Sees POOL t a (now (words .entry)) (now (scores .entry))
         (Sat.seeLiterals (assignmentOf t (now (words .entry))) resolved (analysisOf t a (now (words .entry)) (now (scores .entry))) (literalsAt clauses (now (words .entry)) id))
         r (now (words .exit)) (now (scores .exit)) ⌝ }
 {
@@ -170,7 +171,7 @@ fn one_less(x: usize) -> usize
 
 // The reason clause of a variable; 0 where it has none.
 fn reason_of(words: &[u32], t: Trail, variable: usize) -> usize
-    requires { ⌜ Ready t (now words) ⌝ }
+    requires { ⌜ TrailReady t (now words) ⌝ }
     ensures { λ r. ⌜ r ≡ Sat.reasonOf (assignmentOf t (now (words .entry))) variable ⌝ }
 {
     let n = t.variables;
@@ -179,7 +180,7 @@ fn reason_of(words: &[u32], t: Trail, variable: usize) -> usize
 
 // The pivot no longer seen, and one less open.
 fn close_pivot(words: &mut [u32], t: Trail, a: Analysis, pivot: u32) -> Analysis
-    requires { ⌜ Ready t (now words) ⌝ }
+    requires { ⌜ TrailReady t (now words) ⌝ }
     ensures { λ r. ⌜ Closes t a (now (words .entry)) pivot r (now (words .exit)) ⌝ }
 {
     let activity = a.activity;
@@ -194,7 +195,7 @@ fn close_pivot(words: &mut [u32], t: Trail, a: Analysis, pivot: u32) -> Analysis
 
 // The analysis before its first round: nothing is seen.
 fn start(words: &mut [u32], t: Trail, activity: Activity) -> Analysis
-    requires { ⌜ Ready t (now words) ⌝ }
+    requires { ⌜ TrailReady t (now words) ⌝ }
     ensures { λ r. ⌜ Begins t activity (now (words .entry)) r (now (words .exit)) ⌝ }
 {
     let n = t.variables;
@@ -216,7 +217,7 @@ pub fn analyze(
     clauses: usize,
     conflict: usize,
 ) -> Analyzed
-    requires { ⌜ Ready t (now words) × (t .variables ≤ length (now scores)) × Fixed activity
+    requires { ⌜ TrailReady t (now words) × (t .variables ≤ length (now scores)) × Fixed activity
         × Bounded (Sat.analyze (viewOf clauses t activity (now words) (now scores)) conflict) ⌝ }
     ensures { λ r. ⌜ Analyzes clauses t activity conflict (now (words .entry)) (now (scores .entry)) r (now (words .exit)) (now (scores .exit)) ⌝ }
 {

@@ -9,30 +9,31 @@ use borrow.Author.Tests.{le-leb, lt-leb}
 use lib.ListN.{length, take, drop, getD, drop-of-length-le, length-take}
 use lib.Seq.{drop-cons, take-take, take-all, getD-take}
 use Rattle.facts.specs.Numbers.{below}
+use Rattle.words.specs.Layout.{LENT, VALUES, LEVELS, REASONS, TRAIL, LIMITS}
 use Rattle.words.specs.Region.{region, stored, stores}
 use Rattle.model.specs.Literal as Literals
 use Rattle.model.specs.Sat as Sat
-use Rattle.assignment.specs.State.{wordValue, wordReason, assignmentOf, column, Unchanged, Ready, assignmentRegions, Becomes}
+use Rattle.assignment.specs.State.{wordValue, wordReason, assignmentOf, column, Unchanged, TrailReady, assignmentRegions, Becomes}
 use Rattle.assignment.specs.StateLaws.{take-set, map-set, unchanged-none, unchanged-both, unchanged-stored, trail-length, level-is}
 use Rattle.assignment.specs.declared.state.Trail.{Trail}
 
 -- ---- one literal
 
 unassign-is : (t : Trail) (w : List ℕ) (l : ℕ)
-    → assignmentOf t (stored 786432 (stored 720896 (stored 655360 w (l / 2) 0) (l / 2) 0) (l / 2) 0) ≡ Sat.unassign (assignmentOf t w) l
+    → assignmentOf t (stored REASONS (stored LEVELS (stored VALUES w (l / 2) 0) (l / 2) 0) (l / 2) 0) ≡ Sat.unassign (assignmentOf t w) l
 unfolding assignmentOf Sat.unassign Literals.node wordValue wordReason
 unassign-is t w l = simp (stores, take-set, map-set)
 
 -- the three stores of `unassign`
 module _ (t : Trail) (l v : ℕ) {w w₁ w₂ w₃ : List ℕ} where
-  pub unassigns : Ready t w → v ≡ l / 2 → w₁ ≡ stored 655360 w v 0 → w₂ ≡ stored 720896 w₁ v 0 → w₃ ≡ stored 786432 w₂ v 0 → 8388608 ≤ length w₃
+  pub unassigns : TrailReady t w → v ≡ l / 2 → w₁ ≡ stored VALUES w v 0 → w₂ ≡ stored LEVELS w₁ v 0 → w₃ ≡ stored REASONS w₂ v 0 → LENT ≤ length w₃
       → Becomes t w (Sat.unassign (assignmentOf t w) l) t w₃
   unassigns r e e₁ e₂ e₃ k =
       let listed = assignmentRegions in
-      let s : w₃ ≡ stored 786432 (stored 720896 (stored 655360 w (l / 2) 0) (l / 2) 0) (l / 2) 0 = cc in
+      let s : w₃ ≡ stored REASONS (stored LEVELS (stored VALUES w (l / 2) 0) (l / 2) 0) (l / 2) 0 = cc in
       record {
         is = rw s (unassign-is t w l);
-        frame = unchanged-stored listed 786432 _ _ refl (unchanged-stored listed 720896 _ _ refl (unchanged-stored listed 655360 _ _ refl (unchanged-none listed w) e₁) e₂) e₃;
+        frame = unchanged-stored listed REASONS _ _ refl (unchanged-stored listed LEVELS _ _ refl (unchanged-stored listed VALUES _ _ refl (unchanged-none listed w) e₁) e₂) e₃;
         ready = record { words = k; variables = r .variables; literals = r .literals; levels = r .levels };
         variables = refl;
       }
@@ -46,9 +47,9 @@ pub record Undoing (t : Trail) (w₀ : List ℕ) (from i : ℕ) (w : List ℕ) :
   pub trail : assignmentOf t w .trail ≡ assignmentOf t w₀ .trail
   pub left : Sat.unassignAll (assignmentOf t w) (drop i (assignmentOf t w₀ .trail)) ≡ Sat.unassignAll (assignmentOf t w₀) (drop from (assignmentOf t w₀ .trail))
   pub frame : Unchanged assignmentRegions w₀ w
-  pub ready : Ready t w
+  pub ready : TrailReady t w
 
-pub undoing-start : (t : Trail) (w : List ℕ) (from : ℕ) → from ≤ t .length → Ready t w → Undoing t w from from w
+pub undoing-start : (t : Trail) (w : List ℕ) (from : ℕ) → from ≤ t .length → TrailReady t w → Undoing t w from from w
 undoing-start t w from h r = record { inside = h; long = refl; trail = refl; left = refl; frame = unchanged-none assignmentRegions w; ready = r }
 
 unassign-trail : (a : Sat.Assignment) (l : ℕ) → (Sat.unassign a l) .trail ≡ a .trail
@@ -56,15 +57,15 @@ unfolding Sat.unassign
 unassign-trail a l = refl
 
 -- the trail's word at a place
-trail-at : (t : Trail) (w : List ℕ) (i : ℕ) → i < t .length → getD (region 983040 w) i 0 ≡ getD (assignmentOf t w .trail) i 0
+trail-at : (t : Trail) (w : List ℕ) (i : ℕ) → i < t .length → getD (region TRAIL w) i 0 ≡ getD (assignmentOf t w .trail) i 0
 unfolding assignmentOf
-trail-at t w i h = sym (getD-take (t .length) (region 983040 w) i 0 h)
+trail-at t w i h = sym (getD-take (t .length) (region TRAIL w) i 0 h)
 
 unassign-next : (a : Sat.Assignment) (ls : List ℕ) (i : ℕ) → i < length ls → Sat.unassignAll a (drop i ls) ≡ Sat.unassignAll (Sat.unassign a (getD ls i 0)) (drop (i + 1) ls)
 unfolding Sat.unassignAll
 unassign-next a ls i h = rw (drop-cons ls i 0, add-one)
 
-pub undoing-step : (t : Trail) (w₀ w w′ : List ℕ) (from i l : ℕ) → Ready t w₀ → Undoing t w₀ from i w → i < t .length → l ≡ getD (region 983040 w) i 0
+pub undoing-step : (t : Trail) (w₀ w w′ : List ℕ) (from i l : ℕ) → TrailReady t w₀ → Undoing t w₀ from i w → i < t .length → l ≡ getD (region TRAIL w) i 0
     → Becomes t w (Sat.unassign (assignmentOf t w) l) t w′ → length w′ ≡ length w → Undoing t w₀ from (i + 1) w′
 undoing-step t w₀ w w′ from i l r u h e b k =
     let ls = assignmentOf t w₀ .trail in
@@ -79,7 +80,7 @@ undoing-step t w₀ w w′ from i l r u h e b k =
       ready = b .ready;
     }
 
-pub undoing-end : (t : Trail) (w₀ w : List ℕ) (from i : ℕ) → Ready t w₀ → Undoing t w₀ from i w → t .length ≤ i
+pub undoing-end : (t : Trail) (w₀ w : List ℕ) (from i : ℕ) → TrailReady t w₀ → Undoing t w₀ from i w → t .length ≤ i
     → Becomes t w₀ (Sat.unassignAll (assignmentOf t w₀) (drop from (assignmentOf t w₀ .trail))) t w
 unfolding Sat.unassignAll
 undoing-end t w₀ w from i r u h =
@@ -108,9 +109,9 @@ take-min n m ls =
 cut-is : (t : Trail) (w : List ℕ) (n level : ℕ) → level ≤ t .level
     → assignmentOf (record { variables = t .variables; length = min n (t .length); head = n; level = level }) w ≡ Sat.cutTrail (assignmentOf t w) n level
 unfolding assignmentOf Sat.cutTrail
-cut-is t w n level h = rw (take-min, take-take level (t .level) (region 1048576 w) h)
+cut-is t w n level h = rw (take-min, take-take level (t .level) (region LIMITS w) h)
 
-pub backtracks-not : (t : Trail) (w : List ℕ) (level : ℕ) → Ready t w → t .level ≤ level → Becomes t w (Sat.backtrack (assignmentOf t w) level) t w
+pub backtracks-not : (t : Trail) (w : List ℕ) (level : ℕ) → TrailReady t w → t .level ≤ level → Becomes t w (Sat.backtrack (assignmentOf t w) level) t w
 unfolding Sat.backtrack Sat.backtrackUnless
 backtracks-not t w level r h =
     record {
@@ -120,11 +121,11 @@ backtracks-not t w level r h =
       variables = refl;
     }
 
-limit-is : (t : Trail) (w : List ℕ) (level : ℕ) → getD (column (t .level) 1048576 w) level 0 ≡ getD (assignmentOf t w .trailLimits) level 0
+limit-is : (t : Trail) (w : List ℕ) (level : ℕ) → getD (column (t .level) LIMITS w) level 0 ≡ getD (assignmentOf t w .trailLimits) level 0
 unfolding assignmentOf
 limit-is t w level = refl
 
-pub backtracks : (t : Trail) (w w′ : List ℕ) (level n m : ℕ) → Ready t w → level < t .level → n ≡ getD (column (t .level) 1048576 w) level 0 → m ≡ min n (t .length)
+pub backtracks : (t : Trail) (w w′ : List ℕ) (level n m : ℕ) → TrailReady t w → level < t .level → n ≡ getD (column (t .level) LIMITS w) level 0 → m ≡ min n (t .length)
     → Becomes t w (Sat.unassignAll (assignmentOf t w) (drop m (assignmentOf t w .trail))) t w′
     → Becomes t w (Sat.backtrack (assignmentOf t w) level) (record { variables = t .variables; length = m; head = n; level = level }) w′
 unfolding Sat.backtrack Sat.backtrackUnless

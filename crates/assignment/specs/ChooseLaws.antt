@@ -9,9 +9,10 @@ use lib.Dec.{eqb}
 use lib.ListN.{length, take, drop, getD, List·getD-map, drop-of-length-le}
 use lib.Seq.{drop-cons, length-take-le, slice, slice-cons, slice-empty}
 use lib.Ieee.{Float, nan, lt}
+use Rattle.words.specs.Layout.{VALUES}
 use Rattle.model.specs.Literal as Literals
 use Rattle.model.specs.Sat as Sat
-use Rattle.assignment.specs.State.{assignmentOf, column, wordValue, Ready}
+use Rattle.assignment.specs.State.{assignmentOf, column, wordValue, TrailReady}
 use Rattle.assignment.specs.StateLaws.{variables-are}
 use Rattle.assignment.specs.Scores.{bestOf, Betters, choiceOf, Chooses, Raised, AddsOnes, Others}
 use Rattle.assignment.specs.ScoreLaws.{score-is, others-none, others-both}
@@ -21,9 +22,9 @@ use Rattle.assignment.specs.declared.state.Choice.the-variants as Choice
 -- ---- one more variable
 
 -- the value of a variable, from its word
-variable-is : (t : Trail) (w : List ℕ) (v : ℕ) → getD (assignmentOf t w .assignments) v Sat.Unassigned ≡ wordValue (getD (column (t .variables) 655360 w) v 0)
+variable-is : (t : Trail) (w : List ℕ) (v : ℕ) → getD (assignmentOf t w .assignments) v Sat.Unassigned ≡ wordValue (getD (column (t .variables) VALUES w) v 0)
 unfolding assignmentOf wordValue
-variable-is t w v = List·getD-map wordValue (column (t .variables) 655360 w) v 0
+variable-is t w v = List·getD-map wordValue (column (t .variables) VALUES w) v 0
 
 -- an assigned variable is passed over
 assigned : (v k : ℕ) (x : Float) (b : Sat.Choice) → (k ≡ 0 → ⊥) → Sat.chooseValued v x (wordValue k) b ≡ b
@@ -40,7 +41,7 @@ unfolding bestOf
 best-some s zero h = absurd (omega arith)
 best-some s (suc v) h = refl
 
-module _ (t : Trail) (w : List ℕ) (s : List Float) (best v k : ℕ) (e : k ≡ getD (column (t .variables) 655360 w) v 0) (p : 0 < v) where
+module _ (t : Trail) (w : List ℕ) (s : List Float) (best v k : ℕ) (e : k ≡ getD (column (t .variables) VALUES w) v 0) (p : 0 < v) where
   xs : List Float
   xs = take (t .variables) s
 
@@ -82,7 +83,7 @@ choose-next : (v : ℕ) (ys : List Sat.Value) (xs : List Float) (b : Sat.Choice)
 unfolding Sat.chooseFrom
 choose-next v ys xs b h k = rw (drop-cons ys v Sat.Unassigned h, drop-cons xs v Sat.scoreZero k, add-one)
 
-pub choosing-step : (t : Trail) (w : List ℕ) (s : List Float) (best v r : ℕ) → Ready t w → t .variables ≤ length s → Choosing t w s best v → v < t .variables → Betters t w s best v r
+pub choosing-step : (t : Trail) (w : List ℕ) (s : List Float) (best v r : ℕ) → TrailReady t w → t .variables ≤ length s → Choosing t w s best v → v < t .variables → Betters t w s best v r
     → Choosing t w s r (v + 1)
 choosing-step t w s best v r y h c k b =
     let ys = assignmentOf t w .assignments in
@@ -96,18 +97,18 @@ choosing-step t w s best v r y h c k b =
     }
 
 -- at the end the best is the choice
-chosen-is : (t : Trail) (w : List ℕ) (s : List Float) (best v : ℕ) → Ready t w → Choosing t w s best v → t .variables ≤ v
+chosen-is : (t : Trail) (w : List ℕ) (s : List Float) (best v : ℕ) → TrailReady t w → Choosing t w s best v → t .variables ≤ v
     → bestOf (take (t .variables) s) best ≡ Sat.chooseFrom 1 (drop 1 (assignmentOf t w .assignments)) (drop 1 (take (t .variables) s)) Sat.noChoice
 unfolding Sat.chooseFrom
 chosen-is t w s best v y c h =
     let m : length (assignmentOf t w .assignments) ≤ v = omega (arith, variables-are t w y) in
     rw (drop-of-length-le (assignmentOf t w .assignments) m) at (c .left)
 
-pub chooses-none : (t : Trail) (w : List ℕ) (s : List Float) (best v : ℕ) → Ready t w → Choosing t w s best v → t .variables ≤ v → best ≡ 0 → Chooses t w s Choices.Nothing
+pub chooses-none : (t : Trail) (w : List ℕ) (s : List Float) (best v : ℕ) → TrailReady t w → Choosing t w s best v → t .variables ≤ v → best ≡ 0 → Chooses t w s Choices.Nothing
 unfolding choiceOf bestOf
 chooses-none t w s best v y c h z = record { is = rw z at (chosen-is t w s best v y c h); below = tt }
 
-pub chooses-one : (t : Trail) (w : List ℕ) (s : List Float) (best v : ℕ) → Ready t w → Choosing t w s best v → t .variables ≤ v → (best ≡ 0 → ⊥) → Chooses t w s (Choices.Variable best)
+pub chooses-one : (t : Trail) (w : List ℕ) (s : List Float) (best v : ℕ) → TrailReady t w → Choosing t w s best v → t .variables ≤ v → (best ≡ 0 → ⊥) → Chooses t w s (Choices.Variable best)
 unfolding choiceOf
 chooses-one t w s best v y c h n =
     record { is = sym (best-some (take (t .variables) s) best (omega arith)) ∙ chosen-is t w s best v y c h; below = omega (arith, c .low, c .high) }

@@ -6,43 +6,44 @@ use Prim.Native.Nat.{ℕ, zero, suc, _+_, _*_, _<_, _≤_}
 use native.Mathlib.Omega.{arith}
 use borrow.Author.Tests.{eq-eqb}
 use lib.ListN.{length, getD, replicate, List·getD-map}
+use Rattle.words.specs.Layout.{LENT, SMALL, MOST-NODES, VALUES, LEVELS, REASONS, PHASES, TRAIL, LIMITS}
 use Rattle.words.specs.Fill.{take-filled}
 use Rattle.words.specs.Region.{region, sizeOf, stored, stores, cleared, cleared-in, length-region}
 use Rattle.model.specs.Lists as Lists
 use Rattle.model.specs.Sat as Sat
-use Rattle.assignment.specs.State.{wordValue, wordReason, wordBit, assignmentOf, column, lists, Ready, assignmentRegions, Becomes, Assigns, decided, Cleared, News}
+use Rattle.assignment.specs.State.{wordValue, wordReason, wordBit, assignmentOf, column, lists, TrailReady, assignmentRegions, Becomes, Assigns, decided, Cleared, News}
 use Rattle.assignment.specs.StateLaws.{bit-true, set-end, take-set, unchanged-none, unchanged-both, unchanged-stored, unchanged-cleared, unchanged-within, trail-length}
 use Rattle.assignment.specs.declared.state.Trail.{Trail}
 
 -- ---- a decision
 
 -- the phase of a variable, from its word
-phase-is : (t : Trail) (w : List ℕ) (v : ℕ) → getD (assignmentOf t w .phases) v false ≡ wordBit (getD (column (t .variables) 851968 w) v 0)
+phase-is : (t : Trail) (w : List ℕ) (v : ℕ) → getD (assignmentOf t w .phases) v false ≡ wordBit (getD (column (t .variables) PHASES w) v 0)
 unfolding assignmentOf wordBit
-phase-is t w v = List·getD-map wordBit (column (t .variables) 851968 w) v 0
+phase-is t w v = List·getD-map wordBit (column (t .variables) PHASES w) v 0
 
-pub decision-false : (t : Trail) (w : List ℕ) (v p : ℕ) → p ≡ getD (column (t .variables) 851968 w) v 0 → p ≡ 0 → v * 2 + 1 ≡ Sat.decision (assignmentOf t w) v
+pub decision-false : (t : Trail) (w : List ℕ) (v p : ℕ) → p ≡ getD (column (t .variables) PHASES w) v 0 → p ≡ 0 → v * 2 + 1 ≡ Sat.decision (assignmentOf t w) v
 unfolding Sat.decision wordBit
 decision-false t w v p e z = rw (phase-is t w v, ← e, z)
 
-pub decision-true : (t : Trail) (w : List ℕ) (v p : ℕ) → p ≡ getD (column (t .variables) 851968 w) v 0 → (p ≡ 0 → ⊥) → v * 2 ≡ Sat.decision (assignmentOf t w) v
+pub decision-true : (t : Trail) (w : List ℕ) (v p : ℕ) → p ≡ getD (column (t .variables) PHASES w) v 0 → (p ≡ 0 → ⊥) → v * 2 ≡ Sat.decision (assignmentOf t w) v
 unfolding Sat.decision
 decision-true t w v p e n = rw (phase-is t w v, ← e, bit-true p n)
 
-push-limit-is : (t : Trail) (w : List ℕ) → Ready t w → t .level < 65536
-    → assignmentOf (record { variables = t .variables; length = t .length; head = t .head; level = t .level + 1 }) (stored 1048576 w (t .level) (t .length)) ≡ Sat.pushLimit (assignmentOf t w)
+push-limit-is : (t : Trail) (w : List ℕ) → TrailReady t w → t .level < SMALL
+    → assignmentOf (record { variables = t .variables; length = t .length; head = t .head; level = t .level + 1 }) (stored LIMITS w (t .level) (t .length)) ≡ Sat.pushLimit (assignmentOf t w)
 unfolding Sat.pushLimit assignmentOf Lists.snoc
 push-limit-is t w r h =
-    let k : 1048576 + 65536 ≤ length w = omega arith in
-    let e : length (column (t .length) 983040 w) ≡ t .length = trail-length t w r in
-    simp (stores, take-set, set-end 1048576 w (t .level) (t .length) h k, e)
+    let k : LIMITS + SMALL ≤ length w = omega arith in
+    let e : length (column (t .length) TRAIL w) ≡ t .length = trail-length t w r in
+    simp (stores, take-set, set-end LIMITS w (t .level) (t .length) h k, e)
 
-pub pushes-limit : (t : Trail) (w w′ : List ℕ) → Ready t w → t .level < 65536 → w′ ≡ stored 1048576 w (t .level) (t .length) → 8388608 ≤ length w′
+pub pushes-limit : (t : Trail) (w w′ : List ℕ) → TrailReady t w → t .level < SMALL → w′ ≡ stored LIMITS w (t .level) (t .length) → LENT ≤ length w′
     → Becomes t w (Sat.pushLimit (assignmentOf t w)) (record { variables = t .variables; length = t .length; head = t .head; level = t .level + 1 }) w′
 pushes-limit t w w′ r h e k =
     record {
       is = rw e (push-limit-is t w r h);
-      frame = unchanged-stored assignmentRegions 1048576 _ _ refl (unchanged-none assignmentRegions w) e;
+      frame = unchanged-stored assignmentRegions LIMITS _ _ refl (unchanged-none assignmentRegions w) e;
       ready = record { words = k; variables = r .variables; literals = r .literals; levels = omega arith };
       variables = refl;
     }
@@ -64,7 +65,7 @@ listed-alone : (b : ℕ) → lists b (b ∷ []) ≡ true
 listed-alone b = rw (eq-eqb b b refl)
 
 -- the first n words of a region cleared
-pub clears : (base n : ℕ) (w w′ : List ℕ) → n ≤ sizeOf base → base + sizeOf base ≤ length w → w′ ≡ cleared base w n → 8388608 ≤ length w′ → Cleared base n w w′
+pub clears : (base n : ℕ) (w w′ : List ℕ) → n ≤ sizeOf base → base + sizeOf base ≤ length w → w′ ≡ cleared base w n → LENT ≤ length w′ → Cleared base n w w′
 clears base n w w′ h k e l =
     record {
       zeros = rw (e, cleared-in base w n) (take-filled 0 n (region base w) (omega (arith, length-region base w k)));
@@ -77,27 +78,27 @@ map-replicate f zero a = refl
 map-replicate f (suc n) a = ap (λ xs. f a ∷ xs) (map-replicate f n a)
 
 -- the four regions of `new`, one after another
-pub news : (n : ℕ) (w w₁ w₂ w₃ w₄ : List ℕ) → n ≤ 65536 → Cleared 655360 n w w₁ → Cleared 720896 n w₁ w₂ → Cleared 786432 n w₂ w₃ → Cleared 851968 n w₃ w₄
+pub news : (n : ℕ) (w w₁ w₂ w₃ w₄ : List ℕ) → n ≤ MOST-NODES → Cleared VALUES n w w₁ → Cleared LEVELS n w₁ w₂ → Cleared REASONS n w₂ w₃ → Cleared PHASES n w₃ w₄
     → News n w (record { variables = n; length = 0; head = 0; level = 0 }) w₄
 unfolding assignmentOf Sat.new wordValue wordReason wordBit
 news n w w₁ w₂ w₃ w₄ h c₁ c₂ c₃ c₄ =
     record {
       is = rw (
         c₄ .zeros,
-        c₄ .frame .same 655360 refl,
-        c₄ .frame .same 720896 refl,
-        c₄ .frame .same 786432 refl,
-        c₃ .frame .same 655360 refl,
-        c₃ .frame .same 720896 refl,
+        c₄ .frame .same VALUES refl,
+        c₄ .frame .same LEVELS refl,
+        c₄ .frame .same REASONS refl,
+        c₃ .frame .same VALUES refl,
+        c₃ .frame .same LEVELS refl,
         c₃ .zeros,
-        c₂ .frame .same 655360 refl,
+        c₂ .frame .same VALUES refl,
         c₂ .zeros,
         c₁ .zeros,
       )
           (simp map-replicate);
-      frame = unchanged-both assignmentRegions (unchanged-within (655360 ∷ []) assignmentRegions refl (c₁ .frame))
-          (unchanged-both assignmentRegions (unchanged-within (720896 ∷ []) assignmentRegions refl (c₂ .frame))
-          (unchanged-both assignmentRegions (unchanged-within (786432 ∷ []) assignmentRegions refl (c₃ .frame)) (unchanged-within (851968 ∷ []) assignmentRegions refl (c₄ .frame))));
+      frame = unchanged-both assignmentRegions (unchanged-within (VALUES ∷ []) assignmentRegions refl (c₁ .frame))
+          (unchanged-both assignmentRegions (unchanged-within (LEVELS ∷ []) assignmentRegions refl (c₂ .frame))
+          (unchanged-both assignmentRegions (unchanged-within (REASONS ∷ []) assignmentRegions refl (c₃ .frame)) (unchanged-within (PHASES ∷ []) assignmentRegions refl (c₄ .frame))));
       ready = record { words = c₄ .words; variables = h; literals = omega arith; levels = omega arith };
       variables = refl;
     }

@@ -7,6 +7,7 @@ use Prim.Native.Nat.{ℕ, zero, suc, _%_, _≤_}
 use lib.Dec.{eqb}
 use lib.ListN as Lists
 use lib.ListN.{take, replicate}
+use Rattle.words.specs.Layout.{LENT, SMALL, MOST-NODES, VALUES, LEVELS, REASONS, PHASES, TRAIL, LIMITS}
 use Rattle.words.specs.Region.{region, apart}
 use Rattle.model.specs.Sat as Sat
 use Rattle.model.specs.Sat.{Assignment}
@@ -41,14 +42,18 @@ column n base w = take n (region base w)
 unfoldable pub assignmentOf : Trail → List ℕ → Assignment
 assignmentOf t w =
     record {
-      assignments = map wordValue (column (t .variables) 655360 w);
-      levels = column (t .variables) 720896 w;
-      reasons = map wordReason (column (t .variables) 786432 w);
-      phases = map wordBit (column (t .variables) 851968 w);
-      trail = column (t .length) 983040 w;
-      trailLimits = column (t .level) 1048576 w;
+      assignments = map wordValue (column (t .variables) VALUES w);
+      levels = column (t .variables) LEVELS w;
+      reasons = map wordReason (column (t .variables) REASONS w);
+      phases = map wordBit (column (t .variables) PHASES w);
+      trail = column (t .length) TRAIL w;
+      trailLimits = column (t .level) LIMITS w;
       propagationHead = t .head;
     }
+
+-- the model that the values of n variables are
+abbrev pub modelOf : ℕ → List ℕ → List Bool
+modelOf n w = map Sat.isTrue (map wordValue (column n VALUES w))
 
 -- the definition's value of an answer
 abbrev pub valueOf : Value → Sat.Value
@@ -84,20 +89,20 @@ pub record Unchanged (listed : List ℕ) (before after : List ℕ) : Type 0 wher
 
 -- the regions of the assignment
 abbrev pub assignmentRegions : List ℕ
-assignmentRegions = 655360 ∷ 720896 ∷ 786432 ∷ 851968 ∷ 983040 ∷ 1048576 ∷ []
+assignmentRegions = VALUES ∷ LEVELS ∷ REASONS ∷ PHASES ∷ TRAIL ∷ LIMITS ∷ []
 
 -- the words and the numbers are within the layout
-pub record Ready (t : Trail) (w : List ℕ) : Type 0 where
-  pub words : 8388608 ≤ Lists.length w
-  pub variables : t .variables ≤ 65536
-  pub literals : t .length ≤ 65536
-  pub levels : t .level ≤ 65536
+pub record TrailReady (t : Trail) (w : List ℕ) : Type 0 where
+  pub words : LENT ≤ Lists.length w
+  pub variables : t .variables ≤ MOST-NODES
+  pub literals : t .length ≤ SMALL
+  pub levels : t .level ≤ SMALL
 
 -- of `assign`
 pub record Assigns (t : Trail) (w : List ℕ) (l reason : ℕ) (r : Trail) (w′ : List ℕ) : Type 0 where
   pub is : assignmentOf r w′ ≡ Sat.assign (assignmentOf t w) l (wordReason reason)
   pub frame : Unchanged assignmentRegions w w′
-  pub ready : Ready r w′
+  pub ready : TrailReady r w′
   pub variables : r .variables ≡ t .variables
   pub level : r .level ≡ t .level
 
@@ -110,7 +115,7 @@ enqueued false a = none
 pub record Becomes (t : Trail) (w : List ℕ) (a : Assignment) (r : Trail) (w′ : List ℕ) : Type 0 where
   pub is : assignmentOf r w′ ≡ a
   pub frame : Unchanged assignmentRegions w w′
-  pub ready : Ready r w′
+  pub ready : TrailReady r w′
   pub variables : r .variables ≡ t .variables
 
 -- the assignment once a variable is decided
@@ -121,11 +126,11 @@ decided a v = Sat.assign (Sat.pushLimit a) (Sat.decision a v) none
 pub record Cleared (base n : ℕ) (w w′ : List ℕ) : Type 0 where
   pub zeros : column n base w′ ≡ replicate n 0
   pub frame : Unchanged (base ∷ []) w w′
-  pub words : 8388608 ≤ Lists.length w′
+  pub words : LENT ≤ Lists.length w′
 
 -- of `new`
 pub record News (n : ℕ) (w : List ℕ) (r : Trail) (w′ : List ℕ) : Type 0 where
   pub is : assignmentOf r w′ ≡ (Sat.new n) .assignment
   pub frame : Unchanged assignmentRegions w w′
-  pub ready : Ready r w′
+  pub ready : TrailReady r w′
   pub variables : r .variables ≡ n

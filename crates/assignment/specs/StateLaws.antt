@@ -11,11 +11,12 @@ use lib.ListN.{length, take, set, getD, length-take, length-map, List·getD-map,
 use lib.Seq.{take-set-lt, take-set-le, set-out, length-take-le}
 use Rattle.facts.specs.Bools.{and-left, and-right, both-and}
 use Rattle.facts.specs.Numbers.{below}
+use Rattle.words.specs.Layout.{LENT, SMALL, VALUES, LEVELS, REASONS, PHASES, TRAIL, LIMITS}
 use Rattle.words.specs.Region.{region, sizeOf, apart, stored, stores, stored-out, cleared, cleared-out, push, length-region}
 use Rattle.model.specs.Literal as Literals
 use Rattle.model.specs.Lists as Lists
 use Rattle.model.specs.Sat as Sat
-use Rattle.assignment.specs.State.{wordValue, wordReason, wordBit, assignmentOf, column, apartFrom, lists, within, spares, Unchanged, Ready, assignmentRegions, Assigns}
+use Rattle.assignment.specs.State.{wordValue, wordReason, wordBit, assignmentOf, column, apartFrom, lists, within, spares, Unchanged, TrailReady, assignmentRegions, Assigns}
 use Rattle.assignment.specs.declared.state.Trail.{Trail}
 
 -- ---- lists
@@ -85,9 +86,9 @@ bit-true zero n = absurd (n refl)
 bit-true (suc p) n = refl
 
 -- the value of a literal, from the word of its variable
-pub value-is : (t : Trail) (w : List ℕ) (l : ℕ) → Sat.value (assignmentOf t w) l ≡ Sat.literalValue (Literals.inverted l) (wordValue (getD (column (t .variables) 655360 w) (l / 2) 0))
+pub value-is : (t : Trail) (w : List ℕ) (l : ℕ) → Sat.value (assignmentOf t w) l ≡ Sat.literalValue (Literals.inverted l) (wordValue (getD (column (t .variables) VALUES w) (l / 2) 0))
 unfolding Sat.value assignmentOf Literals.node wordValue
-value-is t w l = ap (λ (v : Sat.Value). Sat.literalValue (Literals.inverted l) v) (List·getD-map wordValue (column (t .variables) 655360 w) (l / 2) 0)
+value-is t w l = ap (λ (v : Sat.Value). Sat.literalValue (Literals.inverted l) v) (List·getD-map wordValue (column (t .variables) VALUES w) (l / 2) 0)
 
 -- ---- the frame
 
@@ -131,18 +132,18 @@ pub assignment-kept : (listed : List ℕ) (t : Trail) {w w′ : List ℕ} → sp
 unfolding assignmentOf
 assignment-kept listed t {w} {w′} m f =
     let p = apartFrom listed in
-    let m₁ = and-right (p 655360) _ m in
-    let m₂ = and-right (p 720896) _ m₁ in
-    let m₃ = and-right (p 786432) _ m₂ in
-    let m₄ = and-right (p 851968) _ m₃ in
-    let m₅ = and-right (p 983040) _ m₄ in
+    let m₁ = and-right (p VALUES) _ m in
+    let m₂ = and-right (p LEVELS) _ m₁ in
+    let m₃ = and-right (p REASONS) _ m₂ in
+    let m₄ = and-right (p PHASES) _ m₃ in
+    let m₅ = and-right (p TRAIL) _ m₄ in
     rw (
-      f .same 655360 (and-left _ _ m),
-      f .same 720896 (and-left _ _ m₁),
-      f .same 786432 (and-left _ _ m₂),
-      f .same 851968 (and-left _ _ m₃),
-      f .same 983040 (and-left _ _ m₄),
-      f .same 1048576 (and-left _ _ m₅),
+      f .same VALUES (and-left _ _ m),
+      f .same LEVELS (and-left _ _ m₁),
+      f .same REASONS (and-left _ _ m₂),
+      f .same PHASES (and-left _ _ m₃),
+      f .same TRAIL (and-left _ _ m₄),
+      f .same LIMITS (and-left _ _ m₅),
     )
 
 -- ---- the numbers of an assignment
@@ -150,50 +151,50 @@ assignment-kept listed t {w} {w′} m f =
 length-column : (b n : ℕ) (w : List ℕ) → b + sizeOf b ≤ length w → n ≤ sizeOf b → length (column n b w) ≡ n
 length-column b n w h k = length-take-le n (region b w) (omega (arith, length-region b w h))
 
-pub trail-length : (t : Trail) (w : List ℕ) → Ready t w → length (assignmentOf t w .trail) ≡ t .length
+pub trail-length : (t : Trail) (w : List ℕ) → TrailReady t w → length (assignmentOf t w .trail) ≡ t .length
 unfolding assignmentOf
-trail-length t w r = length-column 983040 (t .length) w (omega arith) (r .literals)
+trail-length t w r = length-column TRAIL (t .length) w (omega arith) (r .literals)
 
-pub level-is : (t : Trail) (w : List ℕ) → Ready t w → Sat.decisionLevel (assignmentOf t w) ≡ t .level
+pub level-is : (t : Trail) (w : List ℕ) → TrailReady t w → Sat.decisionLevel (assignmentOf t w) ≡ t .level
 unfolding assignmentOf Sat.decisionLevel
-level-is t w r = length-column 1048576 (t .level) w (omega arith) (r .levels)
+level-is t w r = length-column LIMITS (t .level) w (omega arith) (r .levels)
 
-pub variables-are : (t : Trail) (w : List ℕ) → Ready t w → length (assignmentOf t w .assignments) ≡ t .variables
+pub variables-are : (t : Trail) (w : List ℕ) → TrailReady t w → length (assignmentOf t w .assignments) ≡ t .variables
 unfolding assignmentOf
-variables-are t w r = length-map (column (t .variables) 655360 w) wordValue ∙ length-column 655360 (t .variables) w (omega arith) (r .variables)
+variables-are t w r = length-map (column (t .variables) VALUES w) wordValue ∙ length-column VALUES (t .variables) w (omega arith) (r .variables)
 
 -- ---- assign
 
 -- the words of `assign`
 abbrev pub assignWords : List ℕ → ℕ → ℕ → ℕ → ℕ → List ℕ
 assignWords w n level l reason =
-    stored 983040 (stored 851968 (stored 786432 (stored 720896 (stored 655360 w (l / 2) (l % 2 + 1)) (l / 2) level) (l / 2) reason) (l / 2) (1 - l % 2)) n l
+    stored TRAIL (stored PHASES (stored REASONS (stored LEVELS (stored VALUES w (l / 2) (l % 2 + 1)) (l / 2) level) (l / 2) reason) (l / 2) (1 - l % 2)) n l
 
 -- a store at the end of the first n words
 pub set-end : (b : ℕ) (w : List ℕ) (n v : ℕ) → n < sizeOf b → b + sizeOf b ≤ length w → set (column (n + 1) b w) n v ≡ column n b w ++ (v ∷ [])
 set-end b w n v h k = sym (take-set (n + 1) (region b w) n v) ∙ push b w n v h k
 
-pub assign-is : (t : Trail) (w : List ℕ) (l reason : ℕ) → Ready t w → t .length < 65536
+pub assign-is : (t : Trail) (w : List ℕ) (l reason : ℕ) → TrailReady t w → t .length < SMALL
     → assignmentOf (record { variables = t .variables; length = t .length + 1; head = t .head; level = t .level }) (assignWords w (t .length) (t .level) l reason)
     ≡ Sat.assign (assignmentOf t w) l (wordReason reason)
 unfolding assignmentOf Sat.assign Sat.decisionLevel Literals.node Lists.snoc
 assign-is t w l reason r h =
-    let k : 983040 + 65536 ≤ length w = omega arith in
-    let lv : length (column (t .level) 1048576 w) ≡ t .level = length-column 1048576 (t .level) w (omega arith) (r .levels) in
-    simp (stores, take-set, map-set, making-true, phase-of, set-end 983040 w (t .length) l h k, lv)
+    let k : TRAIL + SMALL ≤ length w = omega arith in
+    let lv : length (column (t .level) LIMITS w) ≡ t .level = length-column LIMITS (t .level) w (omega arith) (r .levels) in
+    simp (stores, take-set, map-set, making-true, phase-of, set-end TRAIL w (t .length) l h k, lv)
 
 -- the five stores of `assign`
 module _ (t : Trail) (l reason v : ℕ) {w w₁ w₂ w₃ w₄ w₅ : List ℕ} where
-  pub assigns : Ready t w → t .length < 65536 → v ≡ l / 2 → w₁ ≡ stored 655360 w v (l % 2 + 1) → w₂ ≡ stored 720896 w₁ v (t .level) → w₃ ≡ stored 786432 w₂ v reason
-      → w₄ ≡ stored 851968 w₃ v (1 - l % 2) → w₅ ≡ stored 983040 w₄ (t .length) l → 8388608 ≤ length w₅
+  pub assigns : TrailReady t w → t .length < SMALL → v ≡ l / 2 → w₁ ≡ stored VALUES w v (l % 2 + 1) → w₂ ≡ stored LEVELS w₁ v (t .level) → w₃ ≡ stored REASONS w₂ v reason
+      → w₄ ≡ stored PHASES w₃ v (1 - l % 2) → w₅ ≡ stored TRAIL w₄ (t .length) l → LENT ≤ length w₅
       → Assigns t w l reason (record { variables = t .variables; length = t .length + 1; head = t .head; level = t .level }) w₅
   assigns r h e e₁ e₂ e₃ e₄ e₅ k =
       let listed = assignmentRegions in
       let s : w₅ ≡ assignWords w (t .length) (t .level) l reason = cc in
       record {
         is = rw s (assign-is t w l reason r h);
-        frame = unchanged-stored listed 983040 _ _ refl (unchanged-stored listed 851968 _ _ refl (unchanged-stored listed 786432 _ _ refl
-            (unchanged-stored listed 720896 _ _ refl (unchanged-stored listed 655360 _ _ refl (unchanged-none listed w) e₁) e₂) e₃) e₄) e₅;
+        frame = unchanged-stored listed TRAIL _ _ refl (unchanged-stored listed PHASES _ _ refl (unchanged-stored listed REASONS _ _ refl
+            (unchanged-stored listed LEVELS _ _ refl (unchanged-stored listed VALUES _ _ refl (unchanged-none listed w) e₁) e₂) e₃) e₄) e₅;
         ready = record { words = k; variables = r .variables; literals = omega arith; levels = r .levels };
         variables = refl;
         level = refl;

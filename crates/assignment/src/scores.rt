@@ -4,8 +4,9 @@ ghost use Prim.Native.Nat.{_+_, _<_, _≤_};
 ghost use lib.ListN.{length};
 ghost use Rattle.model.specs.Sat as Sat;
 ghost use lib.Seq.{slice};
+ghost use Rattle.words.specs.Layout.{LENT, POOL, LITERALS};
 ghost use Rattle.words.specs.Region.{region};
-ghost use Rattle.assignment.specs.State.{Ready};
+ghost use Rattle.assignment.specs.State.{TrailReady};
 ghost use Rattle.assignment.specs.Scores.{Fixed, Starts, Decays, Rescaled, Raised, Bumps, ZeroScores, AddsOnes, Betters, Chooses};
 use crate::state::Activity;
 use crate::state::Choice;
@@ -107,8 +108,8 @@ pub fn clear_scores(scores: &mut [f64], n: usize)
 
 // 1.0 added to the score of each literal's variable, the literals being those of the pool from `start` up to `end`.
 pub fn add_ones(words: &[u32], scores: &mut [f64], n: usize, start: usize, end: usize)
-    requires { ⌜ (8388608 ≤ length (now words)) × (n ≤ length (now scores)) × (start ≤ end) × (end ≤ 786432) ⌝ }
-    ensures { λ _. ⌜ AddsOnes n (slice start end (region 4718592 (now (words .entry)))) (now (scores .entry)) (now (scores .exit)) ⌝ }
+    requires { ⌜ (LENT ≤ length (now words)) × (n ≤ length (now scores)) × (start ≤ end) × (end ≤ POOL) ⌝ }
+    ensures { λ _. ⌜ AddsOnes n (slice start end (region LITERALS (now (words .entry)))) (now (scores .entry)) (now (scores .exit)) ⌝ }
 {
     let mut i = start;
     while i < end {
@@ -120,7 +121,7 @@ pub fn add_ones(words: &[u32], scores: &mut [f64], n: usize, start: usize, end: 
 
 // A variable after the best so far, 0 for none: an unassigned one with a higher score is better.
 fn better(words: &[u32], scores: &[f64], t: Trail, best: usize, variable: usize) -> usize
-    requires { ⌜ (8388608 ≤ length (now words)) × (t .variables ≤ length (now scores)) × (0 < variable) × (variable < t .variables) × (best ≤ variable) ⌝ }
+    requires { ⌜ (LENT ≤ length (now words)) × (t .variables ≤ length (now scores)) × (0 < variable) × (variable < t .variables) × (best ≤ variable) ⌝ }
     ensures { λ r. ⌜ Betters t (now (words .entry)) (now (scores .entry)) best variable r ⌝ }
 {
     let n = t.variables;
@@ -139,7 +140,7 @@ fn better(words: &[u32], scores: &[f64], t: Trail, best: usize, variable: usize)
 
 // The unassigned variable of the highest score, the lowest of equals.
 pub fn choose_variable(words: &[u32], scores: &[f64], t: Trail) -> Choice
-    requires { ⌜ Ready t (now words) × (t .variables ≤ length (now scores)) ⌝ }
+    requires { ⌜ TrailReady t (now words) × (t .variables ≤ length (now scores)) ⌝ }
     ensures { λ r. ⌜ Chooses t (now (words .entry)) (now (scores .entry)) r ⌝ }
 {
     let n = t.variables;

@@ -2,9 +2,10 @@
 ghost use mathlib.Core.Path.{_≡_};
 ghost use Prim.Native.Nat.{_+_, _<_, _≤_, min};
 ghost use lib.ListN.{length, getD, take, drop};
+ghost use Rattle.words.specs.Layout.{LENT, SMALL, MOST-NODES};
 ghost use Rattle.words.specs.Region.{region, sizeOf};
 ghost use Rattle.model.specs.Sat as Sat;
-ghost use Rattle.assignment.specs.State.{assignmentOf, valueOf, Ready, Assigns, Becomes, decided, News};
+ghost use Rattle.assignment.specs.State.{assignmentOf, valueOf, TrailReady, Assigns, Becomes, decided, News};
 use crate::state::Trail;
 use crate::state::Value;
 use words::LEVELS;
@@ -21,7 +22,7 @@ use words::wide;
 
 // A word of the first `count` of a region; 0 past them.
 pub fn fetch_below(words: &[u32], base: usize, size: usize, count: usize, i: usize) -> u32
-    requires { ⌜ (8388608 ≤ length (now words)) × (base + size ≤ 8388608) × (size ≡ sizeOf base) ⌝ }
+    requires { ⌜ (LENT ≤ length (now words)) × (base + size ≤ LENT) × (size ≡ sizeOf base) ⌝ }
     ensures { λ r. ⌜ r ≡ getD (take count (region base (now (words .entry)))) i 0 ⌝ }
 {
     if i < count {
@@ -33,7 +34,7 @@ pub fn fetch_below(words: &[u32], base: usize, size: usize, count: usize, i: usi
 
 // The value of a literal.
 pub fn value(words: &[u32], t: Trail, literal: u32) -> Value
-    requires { ⌜ 8388608 ≤ length (now words) ⌝ }
+    requires { ⌜ LENT ≤ length (now words) ⌝ }
     ensures { λ r. ⌜ valueOf r ≡ Sat.value (assignmentOf t (now (words .entry))) literal ⌝ }
 {
     let n = t.variables;
@@ -50,7 +51,7 @@ pub fn value(words: &[u32], t: Trail, literal: u32) -> Value
 
 // An unassigned literal made true; a reason is 0 for none, and one more than the number of its clause.
 pub fn assign(words: &mut [u32], t: Trail, literal: u32, reason: u32) -> Trail
-    requires { ⌜ Ready t (now words) × (t .length < 65536) ⌝ }
+    requires { ⌜ TrailReady t (now words) × (t .length < SMALL) ⌝ }
     ensures { λ r. ⌜ Assigns t (now (words .entry)) literal reason r (now (words .exit)) ⌝ }
 {
     let v = wide(literal / 2);
@@ -71,7 +72,7 @@ pub fn assign(words: &mut [u32], t: Trail, literal: u32, reason: u32) -> Trail
 
 // A literal's variable unassigned; its phase stays.
 fn unassign(words: &mut [u32], t: Trail, literal: u32)
-    requires { ⌜ Ready t (now words) ⌝ }
+    requires { ⌜ TrailReady t (now words) ⌝ }
     ensures { λ _. ⌜ Becomes t (now (words .entry)) (Sat.unassign (assignmentOf t (now (words .entry))) literal) t (now (words .exit)) ⌝ }
 {
     let v = wide(literal / 2);
@@ -82,7 +83,7 @@ fn unassign(words: &mut [u32], t: Trail, literal: u32)
 
 // The literals of the trail from a place on unassigned.
 fn unassign_from(words: &mut [u32], t: Trail, from: usize)
-    requires { ⌜ Ready t (now words) × (from ≤ t .length) ⌝ }
+    requires { ⌜ TrailReady t (now words) × (from ≤ t .length) ⌝ }
     ensures { λ _. ⌜ Becomes t (now (words .entry)) (Sat.unassignAll (assignmentOf t (now (words .entry))) (drop from (assignmentOf t (now (words .entry)) .trail))) t (now (words .exit)) ⌝ }
 {
     let n = t.length;
@@ -103,7 +104,7 @@ pub fn lower(a: usize, b: usize) -> usize
 
 // Back to a level: what was assigned above it is unassigned.
 pub fn backtrack(words: &mut [u32], t: Trail, level: usize) -> Trail
-    requires { ⌜ Ready t (now words) ⌝ }
+    requires { ⌜ TrailReady t (now words) ⌝ }
     ensures { λ r. ⌜ Becomes t (now (words .entry)) (Sat.backtrack (assignmentOf t (now (words .entry))) level) r (now (words .exit)) ⌝ }
 {
     if t.level <= level {
@@ -124,7 +125,7 @@ pub fn backtrack(words: &mut [u32], t: Trail, level: usize) -> Trail
 
 // The literal of a decision: the variable with its phase.
 fn decision(words: &[u32], t: Trail, variable: u32) -> u32
-    requires { ⌜ Ready t (now words) × (variable < 65536) ⌝ }
+    requires { ⌜ TrailReady t (now words) × (variable < MOST-NODES) ⌝ }
     ensures { λ r. ⌜ r ≡ Sat.decision (assignmentOf t (now (words .entry))) variable ⌝ }
 {
     let n = t.variables;
@@ -136,7 +137,7 @@ fn decision(words: &[u32], t: Trail, variable: u32) -> u32
 
 // One more decision level, which begins at the trail's end.
 fn push_limit(words: &mut [u32], t: Trail) -> Trail
-    requires { ⌜ Ready t (now words) × (t .level < 65536) ⌝ }
+    requires { ⌜ TrailReady t (now words) × (t .level < SMALL) ⌝ }
     ensures { λ r. ⌜ Becomes t (now (words .entry)) (Sat.pushLimit (assignmentOf t (now (words .entry)))) r (now (words .exit)) × (r .length ≡ t .length) ⌝ }
 {
     let level = t.level;
@@ -152,7 +153,7 @@ fn push_limit(words: &mut [u32], t: Trail) -> Trail
 
 // A variable decided, by its phase, at a new level.
 pub fn decide(words: &mut [u32], t: Trail, variable: u32) -> Trail
-    requires { ⌜ Ready t (now words) × (t .length < 65536) × (t .level < 65536) × (variable < 65536) ⌝ }
+    requires { ⌜ TrailReady t (now words) × (t .length < SMALL) × (t .level < SMALL) × (variable < MOST-NODES) ⌝ }
     ensures { λ r. ⌜ Becomes t (now (words .entry)) (decided (assignmentOf t (now (words .entry))) variable) r (now (words .exit)) ⌝ }
 {
     let literal = decision(words, t, variable);
@@ -162,7 +163,7 @@ pub fn decide(words: &mut [u32], t: Trail, variable: u32) -> Trail
 
 // The assignment of a new search of so many variables, counted with variable 0.
 pub fn new(words: &mut [u32], variables: usize) -> Trail
-    requires { ⌜ (8388608 ≤ length (now words)) × (variables ≤ 65536) ⌝ }
+    requires { ⌜ (LENT ≤ length (now words)) × (variables ≤ MOST-NODES) ⌝ }
     ensures { λ r. ⌜ News variables (now (words .entry)) r (now (words .exit)) ⌝ }
 {
     clear(words, VALUES, SMALL, variables);

@@ -1,9 +1,10 @@
-// Runs the cases of document 01 that are run, and writes what each check answers.
+// Runs the specification's cases that are run, and writes what each check answers.
+use calls::answers::CheckAnswer;
 use designs::conjunction;
 use designs::counter;
 use designs::holding;
 use designs::record::Record;
-use designs::wide;
+use designs::wide_side;
 use lender::text::first;
 use libc::STDOUT_FILENO;
 
@@ -14,7 +15,7 @@ fn tell_number(name: &[u8], value: u32) {
 }
 
 // All seven numbers of an answer.
-fn tell(what: &[u8], answer: struo_formal::CheckAnswer) {
+fn tell(what: &[u8], answer: CheckAnswer) {
     io::write_all(STDOUT_FILENO, what);
     tell_number(b": number ", answer.number);
     tell_number(b", side ", answer.side);
@@ -64,8 +65,24 @@ fn conjunction_case(trace: &mut [u8], words: &mut [u32], scores: &mut [f64]) {
 
 // The bound of refusal 23: 65,535 is accepted, 66,186 is not.
 fn bound_cases(trace: &mut [u8], words: &mut [u32], scores: &mut [f64]) {
-    run(b"65,535 at 64", wide(8), wide(7), 64, trace, words, scores);
-    run(b"66,186 at 64", wide(8), wide(8), 64, trace, words, scores);
+    run(
+        b"65,535 at 64",
+        wide_side(8),
+        wide_side(7),
+        64,
+        trace,
+        words,
+        scores,
+    );
+    run(
+        b"66,186 at 64",
+        wide_side(8),
+        wide_side(8),
+        64,
+        trace,
+        words,
+        scores,
+    );
 }
 
 // Nine-bit counters alike but for y, at 8 and at 64.

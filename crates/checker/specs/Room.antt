@@ -8,6 +8,7 @@ use native.Mathlib.Nat.{zero-add, mul-le-mul-left}
 use borrow.Author.Tests.{ne-eqb}
 use lib.Dec.{eqb}
 use lib.ListN.{getD}
+use Rattle.words.specs.Layout.{SMALL, MOST-NODES}
 use Rattle.words.specs.Region.{region}
 use Rattle.model.specs.Lists.{snoc}
 use Rattle.model.specs.Aig.{Node, Constant, Variable, And, Aig}
@@ -59,7 +60,7 @@ no-first n ls rs o h = go (getD rs 0 0) refl
 pub side-ands : (y : System) (w : List ℕ) (s : TransitionSystem) → Formed y w → Stands y w s → conjunctionsOf y w ≡ ands (s .aig)
 unfolding graphAt
 side-ands y w s f t =
-    conjunctions-ands (y .count) (region (y .base) w) (region (y .base + 65536) w) (no-first (y .count) _ _ (f .ordered))
+    conjunctions-ands (y .count) (region (y .base) w) (region (y .base + SMALL) w) (no-first (y .count) _ _ (f .ordered))
     ∙ ap ands (t .aig)
 
 -- the side of a design: at most three for a node and six for a register
@@ -70,5 +71,5 @@ side-small y w d f t = omega (arith, side-ands y w (fromNetlist d) f t, system-a
 -- ---- the bound
 
 -- (D + 1) × F + R is enough for (D + 1) cycles of a cost within F, after the states' variables and node 0
-pub cycles-fit : (depth cost frame registers : ℕ) → cost ≤ frame → suc depth * frame + registers ≤ 65535 → 1 + registers + suc depth * cost ≤ 65536
+pub cycles-fit : (depth cost frame registers : ℕ) → cost ≤ frame → suc depth * frame + registers ≤ 65535 → 1 + registers + suc depth * cost ≤ MOST-NODES
 cycles-fit depth cost frame registers h k = omega (arith, mul-le-mul-left {m = cost} {n = frame} (suc depth) h)

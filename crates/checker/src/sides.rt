@@ -1,13 +1,13 @@
 // Both sides of a pair lowered into the lent words, and the problem that they make.
 ghost use Prim.Native.Nat.{_≤_};
 ghost use lib.ListN.{length};
-ghost use Rattle.name_order.specs.Places.{Formed};
+ghost use Rattle.words.specs.Layout.{LENT, GOLD-LHS, GATE-LHS};
+ghost use Rattle.struo_ir.specs.Designs.{Sized, Sided};
+ghost use Rattle.struo_ir.specs.Orders.{Formed};
 ghost use Rattle.transition.specs.Named.{SystemMade};
-ghost use Rattle.refusals.specs.Designs.{Sided};
 ghost use Rattle.checker.specs.Sides.{SidesMade};
-use pair::orders::Orders;
 use queries::problem::Problem;
-use struo_ir::netlist::Netlist;
+use struo_ir::design::Design;
 use transition::matches::matches;
 use transition::named::system;
 use transition::starts::start_literals;
@@ -15,39 +15,34 @@ use transition::system::System;
 use words::GATE_LHS;
 use words::GOLD_LHS;
 
-// One side lowered at its base. Every head may be in use before.
-fn side(words: &mut [u32], netlist: Netlist, orders: Orders, base: usize) -> System
-    requires { ⌜ (8388608 ≤ length (now words)) × (196608 ≤ base) × (base ≤ 327680) × (netlist .«node_count» ≤ 1024) × (netlist .«register_count» ≤ 128)
-        × (Formed (orders .inputs)) × (Formed (orders .outputs)) × (Formed (orders .registers)) ⌝ }
-    ensures { λ r. ⌜ SystemMade netlist (orders .inputs) (orders .outputs) (orders .registers) base (now (words .entry)) r (now (words .exit)) ⌝ }
+// One side lowered at its base.
+fn side(words: &mut [u32], design: Design, base: usize) -> System
+    requires { ⌜ (LENT ≤ length (now words)) × (GOLD-LHS ≤ base) × (base ≤ GATE-LHS) × Sized (design .netlist)
+        × (Formed (design .inputs)) × (Formed (design .outputs)) × (Formed (design .registers)) ⌝ }
+    ensures { λ r. ⌜ SystemMade design base (now (words .entry)) r (now (words .exit)) ⌝ }
 {
-    let inputs = orders.inputs;
-    let outputs = orders.outputs;
-    let registers = orders.registers;
-    system(words, netlist, inputs, outputs, registers, base, 65536)
+    system(words, design, base)
 }
 
-// The problem of two accepted designs: gold's side, then gate's; the literals that the states start with; the states named alike.
+// The problem of two accepted designs begun at rows of stored bits: gold's side, then gate's; the literals that the states start with; the states named alike.
 pub fn sides(
     words: &mut [u32],
     gold: &[u8],
-    x: Netlist,
-    a: Orders,
+    gold_design: Design,
     gate: &[u8],
-    y: Netlist,
-    b: Orders,
+    gate_design: Design,
+    gold_row: [bool; 128],
+    gate_row: [bool; 128],
 ) -> Problem
-    requires { ⌜ (8388608 ≤ length (now words)) × (Sided (now gold) x a) × (Sided (now gate) y b) ⌝ }
-    ensures { λ r. ⌜ SidesMade (now (gold .entry)) x a (now (gate .entry)) y b r (now (words .exit)) ⌝ }
+    requires { ⌜ (LENT ≤ length (now words)) × (Sided (now gold) «gold_design») × (Sided (now gate) «gate_design») ⌝ }
+    ensures { λ r. ⌜ SidesMade (now (gold .entry)) «gold_design» «gold_row» (now (gate .entry)) «gate_design» «gate_row» r (now (words .exit)) ⌝ }
 {
-    let left = side(words, x, a, GOLD_LHS);
-    let right = side(words, y, b, GATE_LHS);
-    let p = a.registers;
-    let q = b.registers;
-    let gold_start = start_literals(x, p);
-    let gate_start = start_literals(y, q);
-    let gold_matches = matches(gold, p, gate, q);
-    let gate_matches = matches(gate, q, gold, p);
+    let left = side(words, gold_design, GOLD_LHS);
+    let right = side(words, gate_design, GATE_LHS);
+    let gold_start = start_literals(gold_design, gold_row);
+    let gate_start = start_literals(gate_design, gate_row);
+    let gold_matches = matches(gold, gold_design, gate, gate_design);
+    let gate_matches = matches(gate, gate_design, gold, gold_design);
     Problem {
         gold: left,
         gate: right,

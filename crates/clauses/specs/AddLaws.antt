@@ -11,6 +11,7 @@ use borrow.Author.Tests.{not-true}
 use lib.ListN.{set, getD, length, length-set}
 use lib.Seq.{slice, slice-cons, slice-empty, getD-set-same, getD-set-other}
 use Rattle.facts.specs.Numbers.{below}
+use Rattle.words.specs.Layout.{LENT, STARTS, CELLS, POOL, WATCH-COUNTS, CLAUSE-STARTS, WATCHED, LITERALS}
 use Rattle.words.specs.Region.{region, stores, length-stored, length-region}
 use Rattle.model.specs.Lists.{snoc, member}
 use Rattle.model.specs.Sat as Sat
@@ -24,7 +25,7 @@ use Rattle.clauses.specs.Tabulate.{tabulate-same, tabulate-suc}
 use Rattle.clauses.specs.Queue.{queuesOf, pushedWords}
 use Rattle.clauses.specs.Sound.{fresh-sound, drop-sound}
 use Rattle.clauses.specs.Clauses.{clauseAt, clausesOf, watchesOf, same-watches, length-clauses, count-fits}
-use Rattle.clauses.specs.State.{solverOf, Formed, Sound, watchRegions, sealedWords, poolLiterals, Attachable, attachedTo, Attached, scored, clean, Added}
+use Rattle.clauses.specs.State.{solverOf, Formed, SoundStore, watchRegions, sealedWords, poolLiterals, Attachable, attachedTo, Attached, scored, clean, Added}
 use Rattle.clauses.specs.StepLaws.{same-assignment, pushed-unchanged, push-step, push-solver}
 
 -- ---- a clause sealed
@@ -33,22 +34,22 @@ module _ (w : List ℕ) (id end place : ℕ) where
   pub sealed-unchanged : Unchanged watchRegions w (sealedWords w id end place)
   unfolding sealedWords member
   sealed-unchanged =
-      unchanged-stored watchRegions 2621440 (id * 2 + 1) place refl
-      (unchanged-stored watchRegions 2621440 (id * 2) 0 refl (unchanged-stored watchRegions 2097152 (id + 1) end refl (unchanged-none watchRegions w) refl) refl) refl
+      unchanged-stored watchRegions WATCHED (id * 2 + 1) place refl
+      (unchanged-stored watchRegions WATCHED (id * 2) 0 refl (unchanged-stored watchRegions CLAUSE-STARTS (id + 1) end refl (unchanged-none watchRegions w) refl) refl) refl
 
   sealed-queues : queuesOf (sealedWords w id end place) ≡ queuesOf w
   unfolding sealedWords queuesOf
   sealed-queues = simp stores
 
-  sealed-starts : region 2097152 (sealedWords w id end place) ≡ set (region 2097152 w) (id + 1) end
+  sealed-starts : region CLAUSE-STARTS (sealedWords w id end place) ≡ set (region CLAUSE-STARTS w) (id + 1) end
   unfolding sealedWords
   sealed-starts = simp stores
 
-  sealed-watched : region 2621440 (sealedWords w id end place) ≡ set (set (region 2621440 w) (id * 2) 0) (id * 2 + 1) place
+  sealed-watched : region WATCHED (sealedWords w id end place) ≡ set (set (region WATCHED w) (id * 2) 0) (id * 2 + 1) place
   unfolding sealedWords
   sealed-watched = simp stores
 
-  sealed-pool : region 4718592 (sealedWords w id end place) ≡ region 4718592 w
+  sealed-pool : region LITERALS (sealedWords w id end place) ≡ region LITERALS w
   unfolding sealedWords
   sealed-pool = simp stores
 
@@ -64,35 +65,35 @@ module _ (w : List ℕ) (id end place : ℕ) where
         sealed-starts,
         sealed-watched,
         sealed-pool,
-        getD-set-other (region 2097152 w) (id + 1) i end 0 (λ z. omega arith),
-        getD-set-other (region 2097152 w) (id + 1) (i + 1) end 0 (λ z. omega arith),
-        getD-set-other (set (region 2621440 w) (id * 2) 0) (id * 2 + 1) (i * 2) place 0 (λ z. omega arith),
-        getD-set-other (region 2621440 w) (id * 2) (i * 2) 0 0 (λ z. omega arith),
-        getD-set-other (set (region 2621440 w) (id * 2) 0) (id * 2 + 1) (i * 2 + 1) place 0 (λ z. omega arith),
-        getD-set-other (region 2621440 w) (id * 2) (i * 2 + 1) 0 0 (λ z. omega arith),
+        getD-set-other (region CLAUSE-STARTS w) (id + 1) i end 0 (λ z. omega arith),
+        getD-set-other (region CLAUSE-STARTS w) (id + 1) (i + 1) end 0 (λ z. omega arith),
+        getD-set-other (set (region WATCHED w) (id * 2) 0) (id * 2 + 1) (i * 2) place 0 (λ z. omega arith),
+        getD-set-other (region WATCHED w) (id * 2) (i * 2) 0 0 (λ z. omega arith),
+        getD-set-other (set (region WATCHED w) (id * 2) 0) (id * 2 + 1) (i * 2 + 1) place 0 (λ z. omega arith),
+        getD-set-other (region WATCHED w) (id * 2) (i * 2 + 1) 0 0 (λ z. omega arith),
       )
 
   -- and the clause itself
-  sealed-here : 8388608 ≤ length w → id + 1 < 524288 → clauseAt (sealedWords w id end place) id ≡ record { literals = slice (getD (region 2097152 w) id 0) end (region 4718592 w); watched = (0, place) }
+  sealed-here : LENT ≤ length w → id + 1 < STARTS → clauseAt (sealedWords w id end place) id ≡ record { literals = slice (getD (region CLAUSE-STARTS w) id 0) end (region LITERALS w); watched = (0, place) }
   unfolding clauseAt
   sealed-here n h =
-      let a : id + 1 < length (region 2097152 w) = omega (arith, length-region 2097152 w (omega arith)) in
-      let b : id * 2 < length (region 2621440 w) = omega (arith, length-region 2621440 w (omega arith)) in
-      let c : id * 2 + 1 < length (set (region 2621440 w) (id * 2) 0) = rw (length-set (region 2621440 w) (id * 2) 0) (omega (arith, length-region 2621440 w (omega arith))) in
+      let a : id + 1 < length (region CLAUSE-STARTS w) = omega (arith, length-region CLAUSE-STARTS w (omega arith)) in
+      let b : id * 2 < length (region WATCHED w) = omega (arith, length-region WATCHED w (omega arith)) in
+      let c : id * 2 + 1 < length (set (region WATCHED w) (id * 2) 0) = rw (length-set (region WATCHED w) (id * 2) 0) (omega (arith, length-region WATCHED w (omega arith))) in
       rw (
         sealed-starts,
         sealed-watched,
         sealed-pool,
-        getD-set-same (region 2097152 w) (id + 1) end 0 a,
-        getD-set-other (region 2097152 w) (id + 1) id end 0 (λ z. omega arith),
-        getD-set-same (set (region 2621440 w) (id * 2) 0) (id * 2 + 1) place 0 c,
-        getD-set-other (set (region 2621440 w) (id * 2) 0) (id * 2 + 1) (id * 2) place 0 (λ z. omega arith),
-        getD-set-same (region 2621440 w) (id * 2) 0 0 b,
+        getD-set-same (region CLAUSE-STARTS w) (id + 1) end 0 a,
+        getD-set-other (region CLAUSE-STARTS w) (id + 1) id end 0 (λ z. omega arith),
+        getD-set-same (set (region WATCHED w) (id * 2) 0) (id * 2 + 1) place 0 c,
+        getD-set-other (set (region WATCHED w) (id * 2) 0) (id * 2 + 1) (id * 2) place 0 (λ z. omega arith),
+        getD-set-same (region WATCHED w) (id * 2) 0 0 b,
       )
 
   -- one clause more
-  pub sealed-clauses : 8388608 ≤ length w → id + 1 < 524288
-      → clausesOf (id + 1) (sealedWords w id end place) ≡ snoc (clausesOf id w) (record { literals = slice (getD (region 2097152 w) id 0) end (region 4718592 w); watched = (0, place) })
+  pub sealed-clauses : LENT ≤ length w → id + 1 < STARTS
+      → clausesOf (id + 1) (sealedWords w id end place) ≡ snoc (clausesOf id w) (record { literals = slice (getD (region CLAUSE-STARTS w) id 0) end (region LITERALS w); watched = (0, place) })
   unfolding clausesOf snoc
   sealed-clauses n h =
       rw (
@@ -107,7 +108,7 @@ abbrev pub grown : Store → ℕ → Store
 grown m count = record { clauses = m .clauses + 1; literals = m .literals + count }
 
 module _ (m : Store) (t : Trail) (w : List ℕ) (count place : ℕ) (a : Attachable m t w count) where
-  fits : 8388608 ≤ length w
+  fits : LENT ≤ length w
   fits = a .sound .formed .ready .words
 
   sealed-formed : Formed (grown m count) t (sealedWords w (m .clauses) (m .literals + count) place)
@@ -117,24 +118,24 @@ module _ (m : Store) (t : Trail) (w : List ℕ) (count place : ℕ) (a : Attacha
     clauses = a .clauses;
     literals = a .literals;
     last = rw (sealed-starts w (m .clauses) (m .literals + count) place)
-        (getD-set-same (region 2097152 w) (m .clauses + 1) (m .literals + count) 0 (omega (arith, length-region 2097152 w (omega (arith, fits)), a .clauses)));
+        (getD-set-same (region CLAUSE-STARTS w) (m .clauses + 1) (m .literals + count) 0 (omega (arith, length-region CLAUSE-STARTS w (omega (arith, fits)), a .clauses)));
     within = λ i h. rw (sealed-starts w (m .clauses) (m .literals + count) place) (starts i h);
     range = λ i h. rw (sealed-pool w (m .clauses) (m .literals + count) place) (pool i h);
     room = rw (same-assignment t w _ (sealed-unchanged w (m .clauses) (m .literals + count) place)) (a .sound .formed .room);
   }
     where
-      starts : (i : ℕ) → i ≤ m .clauses + 1 → getD (set (region 2097152 w) (m .clauses + 1) (m .literals + count)) i 0 ≤ m .literals + count
+      starts : (i : ℕ) → i ≤ m .clauses + 1 → getD (set (region CLAUSE-STARTS w) (m .clauses + 1) (m .literals + count)) i 0 ≤ m .literals + count
       starts i h = ⊎-elim
-          (λ (k : i < m .clauses + 1). rw (getD-set-other (region 2097152 w) (m .clauses + 1) i (m .literals + count) 0 (λ z. omega arith)) (omega (arith, a .sound .formed .within i (omega arith))))
+          (λ (k : i < m .clauses + 1). rw (getD-set-other (region CLAUSE-STARTS w) (m .clauses + 1) i (m .literals + count) 0 (λ z. omega arith)) (omega (arith, a .sound .formed .within i (omega arith))))
           (λ (k : m .clauses + 1 ≤ i). let e : i ≡ m .clauses + 1 = omega arith in
-          rw (e, getD-set-same (region 2097152 w) (m .clauses + 1) (m .literals + count) 0 (omega (arith, length-region 2097152 w (omega (arith, fits)), a .clauses))) (omega arith))
+          rw (e, getD-set-same (region CLAUSE-STARTS w) (m .clauses + 1) (m .literals + count) 0 (omega (arith, length-region CLAUSE-STARTS w (omega (arith, fits)), a .clauses))) (omega arith))
           (below i (m .clauses + 1))
 
-      pool : (i : ℕ) → i < m .literals + count → getD (region 4718592 w) i 0 < t .variables * 2
+      pool : (i : ℕ) → i < m .literals + count → getD (region LITERALS w) i 0 < t .variables * 2
       pool i h = ⊎-elim (λ (k : i < m .literals). a .sound .formed .range i k) (λ (k : m .literals ≤ i). a .range i k h) (below i (m .literals))
 
   -- all is sound, with the two cells of the new clause pending
-  pub sealed-sound : Sound (grown m count) t (sealedWords w (m .clauses) (m .literals + count) place) (m .clauses * 2 ∷ (m .clauses * 2 + 1) ∷ [])
+  pub sealed-sound : SoundStore (grown m count) t (sealedWords w (m .clauses) (m .literals + count) place) (m .clauses * 2 ∷ (m .clauses * 2 + 1) ∷ [])
   sealed-sound = record {
     formed = sealed-formed;
     queues = let e : (m .clauses + 1) * 2 ≡ m .clauses * 2 + 2 = omega arith in
@@ -160,14 +161,14 @@ module _ (m : Store) (t : Trail) (w : List ℕ) (count place : ℕ) (a : Attacha
       )
 
   -- a queue has room for one cell more
-  pub sealed-room : (l : ℕ) → getD (region 1966080 (sealedWords w (m .clauses) (m .literals + count) place)) l 0 < 1048577
+  pub sealed-room : (l : ℕ) → getD (region WATCH-COUNTS (sealedWords w (m .clauses) (m .literals + count) place)) l 0 < CELLS + 1
   sealed-room l = count-fits _ (sealed-formed .ready .words) ((m .clauses + 1) * 2) (omega (arith, a .clauses)) _ (sealed-sound .queues) l
 
   -- the first literal watched
-  pub watched-first : (x : ℕ) → Sound (grown m count) t (pushedWords (sealedWords w (m .clauses) (m .literals + count) place) x (m .clauses * 2)) ((m .clauses * 2 + 1) ∷ [])
+  pub watched-first : (x : ℕ) → SoundStore (grown m count) t (pushedWords (sealedWords w (m .clauses) (m .literals + count) place) x (m .clauses * 2)) ((m .clauses * 2 + 1) ∷ [])
   watched-first x = push-step (grown m count) t _ x (m .clauses * 2) _ sealed-sound .sound
 
-  pub first-room : (x l : ℕ) → getD (region 1966080 (pushedWords (sealedWords w (m .clauses) (m .literals + count) place) x (m .clauses * 2))) l 0 < 1048577
+  pub first-room : (x l : ℕ) → getD (region WATCH-COUNTS (pushedWords (sealedWords w (m .clauses) (m .literals + count) place) x (m .clauses * 2))) l 0 < CELLS + 1
   first-room x l = count-fits _ (watched-first x .formed .ready .words) ((m .clauses + 1) * 2) (omega (arith, a .clauses)) _ (watched-first x .queues) l
 
   first-solver : (x : ℕ) (s : Solver) → solverOf s (grown m count) t (pushedWords (sealedWords w (m .clauses) (m .literals + count) place) x (m .clauses * 2))
@@ -182,21 +183,21 @@ module _ (m : Store) (t : Trail) (w : List ℕ) (count place : ℕ) (a : Attacha
 
 -- ---- a clause attached
 
-pool-length : (w : List ℕ) → 8388608 ≤ length w → length (region 4718592 w) ≡ 786432
-pool-length w h = length-region 4718592 w (omega arith)
+pool-length : (w : List ℕ) → LENT ≤ length w → length (region LITERALS w) ≡ POOL
+pool-length w h = length-region LITERALS w (omega arith)
 
 -- one literal
-unit-literals : (m : Store) (w : List ℕ) → 8388608 ≤ length w → m .literals + 1 ≤ 786432 → poolLiterals m 1 w ≡ getD (region 4718592 w) (m .literals) 0 ∷ []
+unit-literals : (m : Store) (w : List ℕ) → LENT ≤ length w → m .literals + 1 ≤ POOL → poolLiterals m 1 w ≡ getD (region LITERALS w) (m .literals) 0 ∷ []
 unit-literals m w h k =
-    slice-cons (m .literals) (m .literals + 1) (region 4718592 w) 0 (omega arith) (omega (arith, pool-length w h))
-    ∙ ap (λ (r : List ℕ). getD (region 4718592 w) (m .literals) 0 ∷ r) (rw (← add-one) (slice-empty (m .literals + 1) (region 4718592 w)))
+    slice-cons (m .literals) (m .literals + 1) (region LITERALS w) 0 (omega arith) (omega (arith, pool-length w h))
+    ∙ ap (λ (r : List ℕ). getD (region LITERALS w) (m .literals) 0 ∷ r) (rw (← add-one) (slice-empty (m .literals + 1) (region LITERALS w)))
 
 -- two and more
-longer-literals : (m : Store) (w : List ℕ) (count : ℕ) → 8388608 ≤ length w → m .literals + count ≤ 786432 → 1 < count
-    → poolLiterals m count w ≡ getD (region 4718592 w) (m .literals) 0 ∷ getD (region 4718592 w) (m .literals + 1) 0 ∷ slice (suc (m .literals + 1)) (m .literals + count) (region 4718592 w)
+longer-literals : (m : Store) (w : List ℕ) (count : ℕ) → LENT ≤ length w → m .literals + count ≤ POOL → 1 < count
+    → poolLiterals m count w ≡ getD (region LITERALS w) (m .literals) 0 ∷ getD (region LITERALS w) (m .literals + 1) 0 ∷ slice (suc (m .literals + 1)) (m .literals + count) (region LITERALS w)
 longer-literals m w count h k b =
-    slice-cons (m .literals) (m .literals + count) (region 4718592 w) 0 (omega arith) (omega (arith, pool-length w h))
-    ∙ ap (λ (r : List ℕ). getD (region 4718592 w) (m .literals) 0 ∷ r) (rw (← add-one) (slice-cons (m .literals + 1) (m .literals + count) (region 4718592 w) 0 (omega arith) (omega (arith, pool-length w h))))
+    slice-cons (m .literals) (m .literals + count) (region LITERALS w) 0 (omega arith) (omega (arith, pool-length w h))
+    ∙ ap (λ (r : List ℕ). getD (region LITERALS w) (m .literals) 0 ∷ r) (rw (← add-one) (slice-cons (m .literals + 1) (m .literals + count) (region LITERALS w) 0 (omega arith) (omega (arith, pool-length w h))))
 
 -- a clause of one literal at the end, and its watch
 one-watched : (s : Solver) (c x : ℕ) (ls : List ℕ) → ls ≡ x ∷ [] → length (s .clauses) ≡ c
@@ -217,7 +218,7 @@ module _ (m : Store) (t : Trail) (w : List ℕ) where
   unfolding solverOf
   count-is s = length-clauses (m .clauses) w
 
-  pub attach-unit : (a : Attachable m t w 1) → (x : ℕ) → x ≡ getD (region 4718592 w) (m .literals) 0 → (u : List ℕ)
+  pub attach-unit : (a : Attachable m t w 1) → (x : ℕ) → x ≡ getD (region LITERALS w) (m .literals) 0 → (u : List ℕ)
       → u ≡ pushedWords (sealedWords w (m .clauses) (m .literals + 1) 0) x (m .clauses * 2) → Attached m t w 1 (grown m 1) u
   unfolding solverOf
   attach-unit a x ex u e = record {
@@ -229,7 +230,7 @@ module _ (m : Store) (t : Trail) (w : List ℕ) where
         ∙ one-watched (solverOf s m t w) (m .clauses) x (poolLiterals m 1 w) (rw ex (unit-literals m w (a .sound .formed .ready .words) (a .literals))) (count-is s));
   }
 
-  pub attach-longer : (count : ℕ) (a : Attachable m t w count) → 1 < count → (x y : ℕ) → x ≡ getD (region 4718592 w) (m .literals) 0 → y ≡ getD (region 4718592 w) (m .literals + 1) 0 → (u : List ℕ)
+  pub attach-longer : (count : ℕ) (a : Attachable m t w count) → 1 < count → (x y : ℕ) → x ≡ getD (region LITERALS w) (m .literals) 0 → y ≡ getD (region LITERALS w) (m .literals + 1) 0 → (u : List ℕ)
       → u ≡ pushedWords (pushedWords (sealedWords w (m .clauses) (m .literals + count) 1) x (m .clauses * 2)) y (m .clauses * 2 + 1) → Attached m t w count (grown m count) u
   unfolding solverOf
   attach-longer count a b x y ex ey u e = record {
@@ -238,7 +239,7 @@ module _ (m : Store) (t : Trail) (w : List ℕ) where
     clauses = refl;
     literals = refl;
     is = λ s. rw e (second-solver m t w count 1 a x y s ∙ ap (λ (q : Solver). Sat.keepWatch y (m .clauses) (Sat.keepWatch x (m .clauses) q)) (sealed-solver m t w count 1 a s)
-        ∙ two-watched (solverOf s m t w) (m .clauses) x y (poolLiterals m count w) (slice (suc (m .literals + 1)) (m .literals + count) (region 4718592 w)) (rw (ex, ey) (longer-literals m w count (a .sound .formed .ready .words) (a .literals) b)) (count-is s));
+        ∙ two-watched (solverOf s m t w) (m .clauses) x y (poolLiterals m count w) (slice (suc (m .literals + 1)) (m .literals + count) (region LITERALS w)) (rw (ex, ey) (longer-literals m w count (a .sound .formed .ready .words) (a .literals) b)) (count-is s));
   }
 
 -- ---- with the scores

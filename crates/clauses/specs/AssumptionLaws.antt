@@ -10,13 +10,13 @@ use lib.ListN.{getD, length, take}
 use lib.Seq.{slice, slice-cons, slice-empty}
 use Rattle.model.specs.Sat as Sat
 use Rattle.model.specs.Sat.{Solver}
+use Rattle.assignment.specs.ScoreLaws.{others-both}
 use Rattle.assignment.specs.StateLaws.{unchanged-none, unchanged-both}
 use Rattle.assignment.specs.declared.state.Trail.{Trail}
 use Rattle.clauses.specs.declared.state.Store.{Store}
 use Rattle.clauses.specs.declared.state.Encoding.{Encoding}
 use Rattle.clauses.specs.State.{solverOf, scored, flagged, encodedOf, AddedList, Roomy, Grows, watchRegions}
 use Rattle.clauses.specs.EncodeLaws.{one-clause}
-use Rattle.clauses.specs.GateLaws.{others-both}
 
 -- nothing grows
 none-added : (m : Store) (t : Trail) (w : List ℕ) (x : List Float) (c l : ℕ) → Roomy m t w x c l → Grows m t w x c l m w x
@@ -75,7 +75,7 @@ module _ (t : Trail) (ls : List ℕ) (count : ℕ) (e₀ : Encoding) (w₀ : Lis
         sound = g .sound;
         clauses = omega (arith, a .grown .clauses, g .clauses);
         literals = omega (arith, a .grown .literals, g .literals);
-        others = others-both (a .grown .others) (g .others);
+        others = others-both _ (a .grown .others) (g .others);
       };
       left = λ s. rw (k s, add-one) (rw (slice-cons i count ls 0 h b) at (a .left s));
     }

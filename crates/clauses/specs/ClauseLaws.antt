@@ -10,6 +10,7 @@ use lib.Dec.{eqb}
 use borrow.Author.Tests.{eq-eqb, ne-eqb, eqb-true, eqb-false}
 use lib.ListN.{getD, length, take, drop, length-take, drop-of-length-le, List·getD-eq-default}
 use lib.Seq.{slice, length-slice, getD-take, getD-drop, drop-cons}
+use Rattle.words.specs.Layout.{LENT, POOL, CLAUSE-STARTS, WATCHED, LITERALS}
 use Rattle.words.specs.Region.{region, length-region}
 use Rattle.model.specs.Literal as Literals
 use Rattle.model.specs.Sat as Sat
@@ -29,17 +30,17 @@ pub slice-out : (s e p : ℕ) (xs : List ℕ) → e ≤ s + p → getD (slice s 
 slice-out s e p xs h = getD-drop s (take e xs) p 0 ∙ List·getD-eq-default (take e xs) 0 (simp length-take (omega arith))
 
 module _ (c : Clause) (w : List ℕ) (p : ℕ) where
-  pub literal-in : c .start + p < c .end → getD (clauseOf c w .literals) p 0 ≡ getD (region 4718592 w) (c .start + p) 0
+  pub literal-in : c .start + p < c .end → getD (clauseOf c w .literals) p 0 ≡ getD (region LITERALS w) (c .start + p) 0
   unfolding clauseOf
-  literal-in h = slice-in (c .start) (c .end) p (region 4718592 w) h
+  literal-in h = slice-in (c .start) (c .end) p (region LITERALS w) h
 
   pub literal-out : c .end ≤ c .start + p → getD (clauseOf c w .literals) p 0 ≡ 0
   unfolding clauseOf
-  literal-out h = slice-out (c .start) (c .end) p (region 4718592 w) h
+  literal-out h = slice-out (c .start) (c .end) p (region LITERALS w) h
 
 -- a clause that was read is the one that the words hold
-pub read-clause : (w : List ℕ) (i s e f g : ℕ) → s ≡ getD (region 2097152 w) i 0 → e ≡ getD (region 2097152 w) (i + 1) 0
-    → f ≡ getD (region 2621440 w) (i * 2) 0 → g ≡ getD (region 2621440 w) (i * 2 + 1) 0
+pub read-clause : (w : List ℕ) (i s e f g : ℕ) → s ≡ getD (region CLAUSE-STARTS w) i 0 → e ≡ getD (region CLAUSE-STARTS w) (i + 1) 0
+    → f ≡ getD (region WATCHED w) (i * 2) 0 → g ≡ getD (region WATCHED w) (i * 2 + 1) 0
     → clauseOf (record { start = s; end = e; first = f; second = g }) w ≡ clauseAt w i
 unfolding clauseOf clauseAt
 read-clause w i s e f g a b c d = rw (a, b, c, d)
@@ -86,9 +87,9 @@ unfolding Sat.replacement
 replacement-is t c = refl
 
 -- how many literals a clause has
-pub length-literals : (c : Clause) (w : List ℕ) → 8388608 ≤ length w → c .end ≤ 786432 → length (clauseOf c w .literals) ≡ c .end - c .start
+pub length-literals : (c : Clause) (w : List ℕ) → LENT ≤ length w → c .end ≤ POOL → length (clauseOf c w .literals) ≡ c .end - c .start
 unfolding clauseOf
-length-literals c w h k = length-slice (c .start) (c .end) (region 4718592 w) (omega (arith, length-region 4718592 w (omega arith)))
+length-literals c w h k = length-slice (c .start) (c .end) (region LITERALS w) (omega (arith, length-region LITERALS w (omega arith)))
 
 -- ---- the literal with the other sign
 

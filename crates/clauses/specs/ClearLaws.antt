@@ -7,6 +7,7 @@ use native.Mathlib.Omega.{arith}
 use lib.ListN.{getD, length, replicate, length-replicate, getD-replicate, List·getD-eq-default}
 use lib.Seq.{ext-getD, getD-set-same}
 use Rattle.facts.specs.Numbers.{below}
+use Rattle.words.specs.Layout.{LENT, DOUBLE, WATCH-COUNTS, CLAUSE-STARTS}
 use Rattle.words.specs.Fill.{filled, length-filled, getD-filled}
 use Rattle.words.specs.Region.{region, stored-in, stored-out, length-stored, cleared, cleared-in, length-cleared, length-region}
 use Rattle.model.specs.Lists.{member}
@@ -38,13 +39,13 @@ empty-sound q e = record {
     once zero = tt
     once (suc l) = rw (e l) tt
 
-module _ (w : List ℕ) (h : 8388608 ≤ length w) where
-  all-zero : (l : ℕ) → getD (region 1966080 (clearedWords w)) l 0 ≡ 0
+module _ (w : List ℕ) (h : LENT ≤ length w) where
+  all-zero : (l : ℕ) → getD (region WATCH-COUNTS (clearedWords w)) l 0 ≡ 0
   unfolding clearedWords
-  all-zero l = rw (stored-out 1966080 (cleared 1966080 w 131072) 2097152 0 0 refl, cleared-in 1966080 w 131072) (⊎-elim
-      (λ (c : l < 131072). getD-filled 0 131072 (region 1966080 w) l c)
-      (λ (c : 131072 ≤ l). List·getD-eq-default (filled 0 131072 (region 1966080 w)) 0 (omega (arith, length-filled 0 131072 (region 1966080 w), length-region 1966080 w (omega arith))))
-      (below l 131072))
+  all-zero l = rw (stored-out WATCH-COUNTS (cleared WATCH-COUNTS w DOUBLE) CLAUSE-STARTS 0 0 refl, cleared-in WATCH-COUNTS w DOUBLE) (⊎-elim
+      (λ (c : l < DOUBLE). getD-filled 0 DOUBLE (region WATCH-COUNTS w) l c)
+      (λ (c : DOUBLE ≤ l). List·getD-eq-default (filled 0 DOUBLE (region WATCH-COUNTS w)) 0 (omega (arith, length-filled 0 DOUBLE (region WATCH-COUNTS w), length-region WATCH-COUNTS w (omega arith))))
+      (below l DOUBLE))
 
   no-cells : (l : ℕ) → queue (queuesOf (clearedWords w)) l ≡ []
   unfolding queue queuesOf walk
@@ -52,11 +53,11 @@ module _ (w : List ℕ) (h : 8388608 ≤ length w) where
 
   words-unchanged : Unchanged watchRegions w (clearedWords w)
   unfolding clearedWords member
-  words-unchanged = unchanged-stored watchRegions 2097152 0 0 refl (unchanged-cleared watchRegions 1966080 131072 refl (unchanged-none watchRegions w) refl) refl
+  words-unchanged = unchanged-stored watchRegions CLAUSE-STARTS 0 0 refl (unchanged-cleared watchRegions WATCH-COUNTS DOUBLE refl (unchanged-none watchRegions w) refl) refl
 
   words-length : length (clearedWords w) ≡ length w
   unfolding clearedWords
-  words-length = length-stored 2097152 (cleared 1966080 w 131072) 0 0 ∙ length-cleared 1966080 w 131072
+  words-length = length-stored CLAUSE-STARTS (cleared WATCH-COUNTS w DOUBLE) 0 0 ∙ length-cleared WATCH-COUNTS w DOUBLE
 
   no-watches : (n : ℕ) → watchesOf n (clearedWords w) ≡ replicate (n * 2) []
   unfolding watchesOf watchers
@@ -64,10 +65,10 @@ module _ (w : List ℕ) (h : 8388608 ≤ length w) where
       (λ i k. let b : i < n * 2 = omega (arith, length-tabulate (n * 2) (watchers (queuesOf (clearedWords w)))) in
       getD-tabulate (n * 2) (watchers (queuesOf (clearedWords w))) i [] b ∙ rw (no-cells i, getD-replicate {A = List ℕ} (n * 2) i [] [] b))
 
-  first-start : getD (region 2097152 (clearedWords w)) 0 0 ≡ 0
+  first-start : getD (region CLAUSE-STARTS (clearedWords w)) 0 0 ≡ 0
   unfolding clearedWords
-  first-start = rw (stored-in 2097152 (cleared 1966080 w 131072) 0 0)
-      (getD-set-same (region 2097152 (cleared 1966080 w 131072)) 0 0 0 (omega (arith, length-region 2097152 (cleared 1966080 w 131072) (omega (arith, length-cleared 1966080 w 131072)))))
+  first-start = rw (stored-in CLAUSE-STARTS (cleared WATCH-COUNTS w DOUBLE) 0 0)
+      (getD-set-same (region CLAUSE-STARTS (cleared WATCH-COUNTS w DOUBLE)) 0 0 0 (omega (arith, length-region CLAUSE-STARTS (cleared WATCH-COUNTS w DOUBLE) (omega (arith, length-cleared WATCH-COUNTS w DOUBLE)))))
 
   pub no-clause : (u : List ℕ) → u ≡ clearedWords w → Cleared w (record { clauses = 0; literals = 0 }) u
   unfolding clausesOf tabulate

@@ -10,13 +10,14 @@ use lib.Ieee.{Float}
 use native.Mathlib.Numerals.{add-one}
 use lib.ListN.{length, getD, drop, drop-of-length-le}
 use lib.Seq.{drop-cons}
+use Rattle.words.specs.Layout.{GRAPH-LHS, GRAPH-RHS}
 use Rattle.words.specs.Region.{region}
 use Rattle.model.specs.Literal as Literals
 use Rattle.model.specs.Literal.{negate}
 use Rattle.model.specs.Sat as Sat
 use Rattle.model.specs.Sat.{Solver}
 use Rattle.model.specs.Aig.{Node, Constant, And}
-use Rattle.assignment.specs.Scores.{Others}
+use Rattle.assignment.specs.ScoreLaws.{others-both}
 use Rattle.assignment.specs.StateLaws.{unchanged-none, unchanged-both}
 use Rattle.assignment.specs.declared.state.Trail.{Trail}
 use Rattle.clauses.specs.declared.state.Store.{Store}
@@ -35,9 +36,6 @@ negate-half l = go (eqb (l % 2) 1) refl
 negate-even : (l : ℕ) → l % 2 ≡ 0 → negate l ≡ l + 1
 unfolding negate Literals.inverted
 negate-even l e = rw e
-
-pub others-both : {n : ℕ} {x y z : List Float} → Others n x y → Others n y z → Others n x z
-others-both a b = record { long = b .long ∙ a .long; same = b .same ∙ a .same }
 
 module _ (m : Store) (t : Trail) (w : List ℕ) (x : List Float) (out lhs rhs : ℕ) (r : Roomy m t w x 3 7) (g : GateOf t out lhs rhs) where
   pub first-asked : Room m t w x 2 × (lhs / 2 < (out + 1) / 2) × (out + 1 < t .variables * 2)
@@ -74,7 +72,7 @@ module _ (m : Store) (t : Trail) (w : List ℕ) (x : List Float) (out lhs rhs : 
             sound = c .sound;
             clauses = omega (arith, a .clauses, b .clauses, c .clauses);
             literals = omega (arith, a .literals, b .literals, c .literals);
-            others = others-both (others-both (a .others) (b .others)) (c .others);
+            others = others-both _ (others-both _ (a .others) (b .others)) (c .others);
           },
           λ s. rw (
             negate-even out (g .even),
@@ -91,7 +89,7 @@ module _ (m : Store) (t : Trail) (w : List ℕ) (x : List Float) (out lhs rhs : 
 
 -- ---- a node
 
-module _ (m : Store) (t : Trail) (w : List ℕ) (x : List Float) (i rhs : ℕ) (e : rhs ≡ getD (region 65536 w) i 0) where
+module _ (m : Store) (t : Trail) (w : List ℕ) (x : List Float) (i rhs : ℕ) (e : rhs ≡ getD (region GRAPH-RHS w) i 0) where
   -- a variable has no clause
   pub node-none : Roomy m t w x 3 7 → rhs ≡ 0 → Grows m t w x 3 7 m w x × ((s : Solver) → solverOf (scored s (t .variables) x) m t w ≡ Sat.addNode (solverOf (scored s (t .variables) x) m t w) (i * 2) (nodeIn w i))
   unfolding nodeOf Sat.addNode
@@ -100,7 +98,7 @@ module _ (m : Store) (t : Trail) (w : List ℕ) (x : List Float) (i rhs : ℕ) (
     λ s. rw (← e, z),
   )
 
-  module _ (lhs : ℕ) (f : lhs ≡ getD (region 0 w) i 0) (z : rhs ≡ 0 → ⊥) where
+  module _ (lhs : ℕ) (f : lhs ≡ getD (region GRAPH-LHS w) i 0) (z : rhs ≡ 0 → ⊥) where
     pub node-gate : Gates (t .variables) w → 0 < i → i < t .variables → GateOf t (i * 2) lhs rhs
     node-gate g p h =
         let k = g .at i p h (rw (← e) (omega arith)) in
@@ -142,11 +140,11 @@ module _ (t : Trail) (m₀ : Store) (w₀ : List ℕ) (x₀ : List Float) (r : R
   }
 
   module _ (m : Store) (w : List ℕ) (x : List Float) (i : ℕ) (n : Nodes t m₀ w₀ x₀ m w x i) where
-    same-lhs : region 0 w ≡ region 0 w₀
-    same-lhs = n .grown .frame .same 0 refl
+    same-lhs : region GRAPH-LHS w ≡ region GRAPH-LHS w₀
+    same-lhs = n .grown .frame .same GRAPH-LHS refl
 
-    same-rhs : region 65536 w ≡ region 65536 w₀
-    same-rhs = n .grown .frame .same 65536 refl
+    same-rhs : region GRAPH-RHS w ≡ region GRAPH-RHS w₀
+    same-rhs = n .grown .frame .same GRAPH-RHS refl
 
     pub node-asked : Gates (t .variables) w₀ → i < t .variables → Roomy m t w x 3 7 × Gates (t .variables) w × (0 < i) × (i < t .variables)
     node-asked g h = (
@@ -166,7 +164,7 @@ module _ (t : Trail) (m₀ : Store) (w₀ : List ℕ) (x₀ : List Float) (r : R
         sound = a .sound;
         clauses = omega (arith, n .grown .clauses, a .clauses, n .one);
         literals = omega (arith, n .grown .literals, a .literals, n .one);
-        others = others-both (n .grown .others) (a .others);
+        others = others-both _ (n .grown .others) (a .others);
       };
       left = λ s g o. ap (λ (q : Solver). Sat.addNodes q (i + 1) (drop (i + 1) g)) (k s ∙ ap (λ (y : Node). Sat.addNode (solverOf (scored s (t .variables) x) m t w) (i * 2) y) (node-same g o))
           ∙ sym (nodes-more (solverOf (scored s (t .variables) x) m t w) i g (omega (arith, o .size))) ∙ n .left s g o;

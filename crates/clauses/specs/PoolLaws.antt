@@ -7,6 +7,7 @@ use native.Mathlib.Omega.{arith}
 use lib.Ieee.{Float}
 use lib.ListN.{getD, length, take}
 use lib.Seq.{slice-empty, length-slice, take-set-le, take-suc-set, drop-append-le, getD-set-other, length-take-le}
+use Rattle.words.specs.Layout.{LENT, STARTS, POOL, CLAUSE-STARTS, WATCHED, LITERALS}
 use Rattle.words.specs.Region.{region, stored, stores, stored-in, stored-out, length-stored, length-region}
 use Rattle.model.specs.Lists.{snoc, member}
 use Rattle.model.specs.Literal as Literals
@@ -18,71 +19,71 @@ use Rattle.clauses.specs.declared.state.Store.{Store}
 use Rattle.clauses.specs.Tabulate.{tabulate-same}
 use Rattle.clauses.specs.Queue.{queuesOf}
 use Rattle.clauses.specs.Clauses.{clauseAt, clausesOf, same-watches}
-use Rattle.clauses.specs.State.{solverOf, Sound, watchRegions, poolLiterals, Attachable, AllBelow, Pooled, scored, clean, Added, AddedList, Room}
+use Rattle.clauses.specs.State.{solverOf, SoundStore, watchRegions, poolLiterals, Attachable, AllBelow, Pooled, scored, clean, Added, AddedList, Room}
 use Rattle.clauses.specs.StepLaws.{same-assignment}
 use Rattle.clauses.specs.EncodeLaws.{clean-one, clean-two, clean-three}
 use Rattle.clauses.specs.ClauseLaws.{slice-in}
 
 -- ---- one literal
 
-module _ (m : Store) (t : Trail) (w : List ℕ) (s : Sound m t w []) (i v : ℕ) (h : m .literals ≤ i) where
-  pool-unchanged : Unchanged watchRegions w (stored 4718592 w i v)
+module _ (m : Store) (t : Trail) (w : List ℕ) (s : SoundStore m t w []) (i v : ℕ) (h : m .literals ≤ i) where
+  pool-unchanged : Unchanged watchRegions w (stored LITERALS w i v)
   unfolding member
-  pool-unchanged = unchanged-stored watchRegions 4718592 i v refl (unchanged-none watchRegions w) refl
+  pool-unchanged = unchanged-stored watchRegions LITERALS i v refl (unchanged-none watchRegions w) refl
 
-  pool-queues : queuesOf (stored 4718592 w i v) ≡ queuesOf w
+  pool-queues : queuesOf (stored LITERALS w i v) ≡ queuesOf w
   unfolding queuesOf
   pool-queues = simp stores
 
-  pool-clause : (k : ℕ) → k < m .clauses → clauseAt (stored 4718592 w i v) k ≡ clauseAt w k
+  pool-clause : (k : ℕ) → k < m .clauses → clauseAt (stored LITERALS w i v) k ≡ clauseAt w k
   unfolding clauseAt
   pool-clause k b =
       rw (
-        stored-out 2097152 w 4718592 i v refl,
-        stored-out 2621440 w 4718592 i v refl,
-        stored-in 4718592 w i v,
-        take-set-le (getD (region 2097152 w) (k + 1) 0) (region 4718592 w) i v (omega (arith, s .formed .within (k + 1) (omega arith))),
+        stored-out CLAUSE-STARTS w LITERALS i v refl,
+        stored-out WATCHED w LITERALS i v refl,
+        stored-in LITERALS w i v,
+        take-set-le (getD (region CLAUSE-STARTS w) (k + 1) 0) (region LITERALS w) i v (omega (arith, s .formed .within (k + 1) (omega arith))),
       )
 
-  pool-clauses : clausesOf (m .clauses) (stored 4718592 w i v) ≡ clausesOf (m .clauses) w
+  pool-clauses : clausesOf (m .clauses) (stored LITERALS w i v) ≡ clausesOf (m .clauses) w
   unfolding clausesOf
-  pool-clauses = tabulate-same (m .clauses) (clauseAt (stored 4718592 w i v)) (clauseAt w) pool-clause
+  pool-clauses = tabulate-same (m .clauses) (clauseAt (stored LITERALS w i v)) (clauseAt w) pool-clause
 
-  pub pool-sound : Sound m t (stored 4718592 w i v) []
+  pub pool-sound : SoundStore m t (stored LITERALS w i v) []
   pool-sound = record {
     formed = record {
-      ready = record { words = rw (length-stored 4718592 w i v) (s .formed .ready .words); variables = s .formed .ready .variables; literals = s .formed .ready .literals; levels = s .formed .ready .levels };
+      ready = record { words = rw (length-stored LITERALS w i v) (s .formed .ready .words); variables = s .formed .ready .variables; literals = s .formed .ready .literals; levels = s .formed .ready .levels };
       some = s .formed .some;
       clauses = s .formed .clauses;
       literals = s .formed .literals;
-      last = rw (stored-out 2097152 w 4718592 i v refl) (s .formed .last);
-      within = rw (stored-out 2097152 w 4718592 i v refl) (s .formed .within);
-      range = λ k b. rw (stored-in 4718592 w i v, getD-set-other (region 4718592 w) i k v 0 (λ z. omega arith)) (s .formed .range k b);
+      last = rw (stored-out CLAUSE-STARTS w LITERALS i v refl) (s .formed .last);
+      within = rw (stored-out CLAUSE-STARTS w LITERALS i v refl) (s .formed .within);
+      range = λ k b. rw (stored-in LITERALS w i v, getD-set-other (region LITERALS w) i k v 0 (λ z. omega arith)) (s .formed .range k b);
       room = rw (same-assignment t w _ pool-unchanged) (s .formed .room);
     };
     queues = rw pool-queues (s .queues);
   }
 
-  pub pool-solver : (q : Solver) → solverOf q m t (stored 4718592 w i v) ≡ solverOf q m t w
+  pub pool-solver : (q : Solver) → solverOf q m t (stored LITERALS w i v) ≡ solverOf q m t w
   unfolding solverOf
   pool-solver q = rw (pool-clauses, same-watches (t .variables) _ w pool-queues, same-assignment t w _ pool-unchanged)
 
 -- one more of the pool's literals
-pool-more : (m : Store) (w : List ℕ) (count v : ℕ) → 8388608 ≤ length w → m .literals + count < 786432
-    → poolLiterals m (count + 1) (stored 4718592 w (m .literals + count) v) ≡ snoc (poolLiterals m count w) v
+pool-more : (m : Store) (w : List ℕ) (count v : ℕ) → LENT ≤ length w → m .literals + count < POOL
+    → poolLiterals m (count + 1) (stored LITERALS w (m .literals + count) v) ≡ snoc (poolLiterals m count w) v
 unfolding snoc
 pool-more m w count v h k =
-    let n : m .literals + count < length (region 4718592 w) = omega (arith, length-region 4718592 w (omega arith)) in
+    let n : m .literals + count < length (region LITERALS w) = omega (arith, length-region LITERALS w (omega arith)) in
     let e : m .literals + (count + 1) ≡ suc (m .literals + count) = omega arith in
-    let b : m .literals ≤ length (take (m .literals + count) (region 4718592 w)) = rw (length-take-le (m .literals + count) (region 4718592 w) (omega arith)) (omega arith) in
+    let b : m .literals ≤ length (take (m .literals + count) (region LITERALS w)) = rw (length-take-le (m .literals + count) (region LITERALS w) (omega arith)) (omega arith) in
     rw (
-      stored-in 4718592 w (m .literals + count) v,
+      stored-in LITERALS w (m .literals + count) v,
       e,
-      take-suc-set (region 4718592 w) (m .literals + count) v n,
-      drop-append-le (m .literals) (take (m .literals + count) (region 4718592 w)) (v ∷ []) b,
+      take-suc-set (region LITERALS w) (m .literals + count) v n,
+      drop-append-le (m .literals) (take (m .literals + count) (region LITERALS w)) (v ∷ []) b,
     )
 
-pub pooled : (m : Store) (t : Trail) (w : List ℕ) (count v : ℕ) → Sound m t w [] → m .literals + count < 786432 → (u : List ℕ) → u ≡ stored 4718592 w (m .literals + count) v → Pooled m t w count v u
+pub pooled : (m : Store) (t : Trail) (w : List ℕ) (count v : ℕ) → SoundStore m t w [] → m .literals + count < POOL → (u : List ℕ) → u ≡ stored LITERALS w (m .literals + count) v → Pooled m t w count v u
 pooled m t w count v s k u e = record {
   frame = rw e (pool-unchanged m t w s (m .literals + count) v (omega arith));
   sound = rw e (pool-sound m t w s (m .literals + count) v (omega arith));
@@ -92,7 +93,7 @@ pooled m t w count v s k u e = record {
 
 -- no literal
 pub pool-none : (m : Store) (w : List ℕ) → poolLiterals m 0 w ≡ []
-pool-none m w = let e : m .literals + 0 ≡ m .literals = omega arith in rw e (slice-empty (m .literals) (region 4718592 w))
+pool-none m w = let e : m .literals + 0 ≡ m .literals = omega arith in rw e (slice-empty (m .literals) (region LITERALS w))
 
 -- ---- several
 
@@ -102,15 +103,15 @@ all-at b (x ∷ xs) a zero h = a .0
 all-at b (x ∷ xs) a (suc i) h = all-at b xs (a .1) i (omega arith)
 
 -- literals of the variables can become a clause
-pub attachable : (m : Store) (t : Trail) (w : List ℕ) (count : ℕ) → Sound m t w [] → m .clauses + 1 < 524288 → m .literals + count ≤ 786432 → 0 < count
+pub attachable : (m : Store) (t : Trail) (w : List ℕ) (count : ℕ) → SoundStore m t w [] → m .clauses + 1 < STARTS → m .literals + count ≤ POOL → 0 < count
     → AllBelow (t .variables * 2) (poolLiterals m count w) → Attachable m t w count
 attachable m t w count s c l p a = record { sound = s; clauses = c; literals = l; some = p; range = range }
   where
-    range : (i : ℕ) → m .literals ≤ i → i < m .literals + count → getD (region 4718592 w) i 0 < t .variables * 2
+    range : (i : ℕ) → m .literals ≤ i → i < m .literals + count → getD (region LITERALS w) i 0 < t .variables * 2
     range i h k =
         let e : m .literals + (i - m .literals) ≡ i = omega arith in
-        let n : length (poolLiterals m count w) ≡ m .literals + count - m .literals = length-slice (m .literals) (m .literals + count) (region 4718592 w) (omega (arith, length-region 4718592 w (omega (arith, s .formed .ready .words)))) in
-        rw e at (rw (slice-in (m .literals) (m .literals + count) (i - m .literals) (region 4718592 w) (omega arith)) at (all-at (t .variables * 2) (poolLiterals m count w) a (i - m .literals) (omega arith)))
+        let n : length (poolLiterals m count w) ≡ m .literals + count - m .literals = length-slice (m .literals) (m .literals + count) (region LITERALS w) (omega (arith, length-region LITERALS w (omega (arith, s .formed .ready .words)))) in
+        rw e at (rw (slice-in (m .literals) (m .literals + count) (i - m .literals) (region LITERALS w) (omega arith)) at (all-at (t .variables * 2) (poolLiterals m count w) a (i - m .literals) (omega arith)))
 
 -- a clause of literals that were put into the pool
 pub added-list : (m : Store) (t : Trail) (w u : List ℕ) (x : List Float) (ls : List ℕ) (count : ℕ) (m′ : Store) (w′ : List ℕ) (x′ : List Float)
@@ -126,7 +127,7 @@ added-list m t w u x ls count m′ w′ x′ f k l n a = record {
 }
 
 -- what `add_clause` asks, from the literals in the pool
-ready-clause : (m : Store) (t : Trail) (w u : List ℕ) (x : List Float) (ls : List ℕ) (count : ℕ) → Room m t w x count → Sound m t u [] → 0 < count → poolLiterals m count u ≡ ls
+ready-clause : (m : Store) (t : Trail) (w u : List ℕ) (x : List Float) (ls : List ℕ) (count : ℕ) → Room m t w x count → SoundStore m t u [] → 0 < count → poolLiterals m count u ≡ ls
     → AllBelow (t .variables * 2) ls → clean ls ≡ true → Attachable m t u count × (t .variables ≤ length x) × (clean (poolLiterals m count u) ≡ true)
 ready-clause m t w u x ls count r s p e a c = (attachable m t u count s (r .clauses) (r .literals) p (rw e a), r .scores, rw e c)
 

@@ -10,6 +10,7 @@ use borrow.Author.Tests.{ne-eqb, eqb-false}
 use lib.ListN.{set, getD, length, List·getD-eq-default}
 use lib.Seq.{getD-set-same, getD-set-other, set-out}
 use Rattle.facts.specs.Bools.{cond-same}
+use Rattle.words.specs.Layout.{LENT, DOUBLE, CELLS, WATCH-HEADS, WATCH-TAILS, WATCH-COUNTS, LINKS}
 use Rattle.words.specs.Region.{region, stored, stores, length-region}
 use Rattle.clauses.specs.Members.{Free, Ends, EndsIn}
 
@@ -22,7 +23,7 @@ pub record Queues : Type 0 where
 
 -- the queues in lent words
 unfoldable pub queuesOf : List ℕ → Queues
-queuesOf w = record { heads = region 1703936 w; tails = region 1835008 w; counts = region 1966080 w; links = region 3670016 w }
+queuesOf w = record { heads = region WATCH-HEADS w; tails = region WATCH-TAILS w; counts = region WATCH-COUNTS w; links = region LINKS w }
 
 -- n cells from p on, each but the first the link of the one before
 unfoldable pub walk : List ℕ → ℕ → ℕ → List ℕ
@@ -67,14 +68,14 @@ pushed q l x = let n = getD (q .counts) l 0 in record {
 }
 
 -- what a push to the queue of l needs: its tail's cell is the last of its queue and in no other
-pub record Ready (q : Queues) (l : ℕ) : Type 0 where
+pub record Pushable (q : Queues) (l : ℕ) : Type 0 where
   pub room : (l < length (q .heads)) × (l < length (q .counts))
   pub cell : 0 < getD (q .counts) l 0 → getD (q .tails) l 0 < length (q .links)
   pub own : EndsIn (getD (q .tails) l 0) (queue q l)
   pub others : 0 < getD (q .counts) l 0 → (k : ℕ) → (k ≡ l → ⊥) → Free (getD (q .tails) l 0) (queue q k)
 
 -- a push appends
-pub push-own : (q : Queues) (l x : ℕ) → Ready q l → queue (pushed q l x) l ≡ queue q l ++ (x ∷ [])
+pub push-own : (q : Queues) (l x : ℕ) → Pushable q l → queue (pushed q l x) l ≡ queue q l ++ (x ∷ [])
 unfolding queue pushed walk
 push-own q l x r = go (getD (q .counts) l 0) refl
   where
@@ -117,12 +118,12 @@ push-past q l x h t c = rw (List·getD-eq-default (q .counts) 0 c, set-out (q .h
 
 -- the words after the head or the link of a push
 unfoldable pub linked : List ℕ → ℕ → ℕ → List ℕ
-linked w l x = cond (eqb (getD (region 1966080 w) l 0) 0) (stored 1703936 w l x) (stored 3670016 w (getD (region 1835008 w) l 0) x)
+linked w l x = cond (eqb (getD (region WATCH-COUNTS w) l 0) 0) (stored WATCH-HEADS w l x) (stored LINKS w (getD (region WATCH-TAILS w) l 0) x)
 
 -- the words after a push
 unfoldable pub pushedWords : List ℕ → ℕ → ℕ → List ℕ
 unfolding linked
-pushedWords w l x = stored 1966080 (stored 1835008 (linked w l x) l x) l (getD (region 1966080 w) l 0 + 1)
+pushedWords w l x = stored WATCH-COUNTS (stored WATCH-TAILS (linked w l x) l x) l (getD (region WATCH-COUNTS w) l 0 + 1)
 
 region-cond : (b : ℕ) (t : Bool) (u v : List ℕ) → region b (cond t u v) ≡ cond t (region b u) (region b v)
 region-cond b true u v = refl
@@ -138,7 +139,7 @@ push-law w l x = simp (stores, region-cond, cond-same)
 unfoldable pub taken : Queues → ℕ → Queues
 taken q l = record { heads = q .heads; tails = q .tails; counts = set (q .counts) l 0; links = q .links }
 
-pub take-law : (w : List ℕ) (l : ℕ) → queuesOf (stored 1966080 w l 0) ≡ taken (queuesOf w) l
+pub take-law : (w : List ℕ) (l : ℕ) → queuesOf (stored WATCH-COUNTS w l 0) ≡ taken (queuesOf w) l
 unfolding queuesOf taken
 take-law w l = simp stores
 
@@ -152,10 +153,10 @@ take-other q l k h = rw (getD-set-other (q .counts) l k 0 0 h)
 
 -- ---- facts of the regions
 
-pub lengths : (w : List ℕ) → 8388608 ≤ length w
-    → (length (queuesOf w .heads) ≡ 131072) × (length (queuesOf w .tails) ≡ 131072) × (length (queuesOf w .counts) ≡ 131072) × (length (queuesOf w .links) ≡ 1048576)
+pub lengths : (w : List ℕ) → LENT ≤ length w
+    → (length (queuesOf w .heads) ≡ DOUBLE) × (length (queuesOf w .tails) ≡ DOUBLE) × (length (queuesOf w .counts) ≡ DOUBLE) × (length (queuesOf w .links) ≡ CELLS)
 unfolding queuesOf
-lengths w h = (length-region 1703936 w (omega arith), length-region 1835008 w (omega arith), length-region 1966080 w (omega arith), length-region 3670016 w (omega arith))
+lengths w h = (length-region WATCH-HEADS w (omega arith), length-region WATCH-TAILS w (omega arith), length-region WATCH-COUNTS w (omega arith), length-region LINKS w (omega arith))
 
 pub queue-some : (q : Queues) (l : ℕ) → 0 < getD (q .counts) l 0 → queue q l ≡ [] → ⊥
 queue-some q l p e = let k : length (queue q l) ≡ 0 = ap length e in omega (arith, length-queue q l)

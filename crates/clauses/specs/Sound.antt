@@ -10,7 +10,7 @@ use borrow.Author.Tests.{eqb-true, eqb-false}
 use lib.ListN.{getD, length}
 use lib.Seq.{getD-set-same, getD-set-other}
 use Rattle.clauses.specs.Members.{In, Free, Once, EndsIn, free, in-snoc, once-snoc, ends-in-snoc, end-in, few}
-use Rattle.clauses.specs.Queue.{Queues, queue, pushed, taken, walk, Ready, push-own, push-other, push-walk, take-own, take-other, length-queue, queue-some, tails-pushed}
+use Rattle.clauses.specs.Queue.{Queues, queue, pushed, taken, walk, Pushable, push-own, push-other, push-walk, take-own, take-other, length-queue, queue-some, tails-pushed}
 
 -- the pending cells, and after them the queue of each literal
 unfoldable pub lists : Queues → List ℕ → ℕ → List ℕ
@@ -42,7 +42,7 @@ module _ (q : Queues) (n : ℕ) (p : List ℕ) (s : SoundQueues q n p) where
   unfolding lists
   tail-free l a h k = free _ (lists q p a) (λ i. h (sym (s .apart (suc l) a _ (tail-in l k) i)))
 
-  pub ready : (l : ℕ) → n ≤ length (q .links) → l < length (q .heads) → l < length (q .counts) → Ready q l
+  pub ready : (l : ℕ) → n ≤ length (q .links) → l < length (q .heads) → l < length (q .counts) → Pushable q l
   unfolding lists
   ready l r h k = record {
     room = (h, k);

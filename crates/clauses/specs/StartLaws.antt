@@ -6,18 +6,19 @@ use Prim.Native.Nat.{ℕ, zero, suc, _+_, _*_, _<_, _≤_}
 use native.Mathlib.Omega.{arith}
 use lib.Ieee.{Float}
 use lib.ListN.{getD, length, take, drop, replicate}
+use Rattle.words.specs.Layout.{GRAPH-LHS, GRAPH-RHS}
 use Rattle.words.specs.Region.{region}
 use Rattle.model.specs.Sat as Sat
 use Rattle.model.specs.Aig.{Node}
 use Rattle.assignment.specs.State.{assignmentOf, News, Unchanged}
 use Rattle.assignment.specs.Scores.{ZeroScores}
+use Rattle.assignment.specs.ScoreLaws.{others-both}
 use Rattle.assignment.specs.StateLaws.{unchanged-both, trail-length}
 use Rattle.assignment.specs.declared.state.Trail.{Trail}
 use Rattle.clauses.specs.declared.state.Store.{Store}
 use Rattle.clauses.specs.declared.state.Encoding.{Encoding}
-use Rattle.clauses.specs.State.{solverOf, scored, flagged, encodedOf, unassigned, Sound, Roomy, Grows, Gates, Holds, Cleared, Encodable, Encodes, searchRegions}
+use Rattle.clauses.specs.State.{solverOf, scored, flagged, encodedOf, unassigned, SoundStore, Roomy, Grows, Gates, Holds, Cleared, Encodable, Encodes, searchRegions}
 use Rattle.clauses.specs.StepLaws.{watches-only, assignment-only}
-use Rattle.clauses.specs.GateLaws.{others-both}
 
 all-unassigned : (n : ℕ) → unassigned (replicate n Sat.Unassigned) ≡ n
 unfolding unassigned
@@ -35,17 +36,17 @@ module _ (n : ℕ) (w : List ℕ) (x : List Float) (ls : List ℕ) (count : ℕ)
   new-room = rw (b .is, no-trail, b .variables) (omega (arith, all-unassigned n))
 
   module _ (m2 : Store) (w2 : List ℕ) (c : Cleared w1 m2 w2) where
-    new-sound : Sound m2 t w2 []
+    new-sound : SoundStore m2 t w2 []
     new-sound = c .sound t (b .ready) (rw (b .variables) (a .some)) new-room
 
     start-frame : Unchanged searchRegions w w2
     start-frame = unchanged-both searchRegions (assignment-only w w1 (b .frame)) (watches-only w1 w2 (c .frame))
 
-    same-lhs : region 0 w2 ≡ region 0 w
-    same-lhs = start-frame .same 0 refl
+    same-lhs : region GRAPH-LHS w2 ≡ region GRAPH-LHS w
+    same-lhs = start-frame .same GRAPH-LHS refl
 
-    same-rhs : region 65536 w2 ≡ region 65536 w
-    same-rhs = start-frame .same 65536 refl
+    same-rhs : region GRAPH-RHS w2 ≡ region GRAPH-RHS w
+    same-rhs = start-frame .same GRAPH-RHS refl
 
     pub nodes-asked : Roomy m2 t w2 x1 (3 * t .variables) (7 * t .variables) × Gates (t .variables) w2
     nodes-asked = (
@@ -83,6 +84,6 @@ module _ (n : ℕ) (w : List ℕ) (x : List Float) (ls : List ℕ) (count : ℕ)
         variables = b .variables;
         clauses = omega (arith, f .clauses, d .clauses, c .clauses, b .variables);
         literals = omega (arith, f .literals, d .literals, c .literals, b .variables);
-        others = others-both (z .others) (rw (b .variables) at (others-both (d .others) (f .others)));
+        others = others-both _ (z .others) (rw (b .variables) at (others-both _ (d .others) (f .others)));
         is = λ g h. j (Sat.new n) ∙ ap (λ (q : Sat.Solver). Sat.addAssumptions q (take count ls)) (nodes-is g h ∙ rw (h .size));
       }

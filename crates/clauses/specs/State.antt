@@ -1,33 +1,30 @@
 -- What a search's clauses, watch queues and numbers stand for: the definition's solver; what holds of them throughout; and what the functions over them promise. Definitions only.
 use mathlib.Core.Path.{_≡_}
 use mathlib.Core.Bool.{Bool, false, not}
-use mathlib.Core.List.{List, [], _∷_, _++_, map}
+use mathlib.Core.List.{List, [], _∷_, _++_}
 use mathlib.Core.Option.{Option, none, some}
-use Prim.Native.Nat.{ℕ, zero, suc, _+_, _-_, _*_, _/_, _%_, _<_, _≤_}
-use lib.ListN.{getD, set, length, take, replicate}
+use Prim.Native.Nat.{ℕ, zero, suc, _+_, _*_, _/_, _%_, _<_, _≤_}
+use lib.ListN.{getD, length, take, replicate}
 use lib.Ieee.{Float}
 use lib.Seq.{slice}
+use Rattle.words.specs.Layout.{LENT, DOUBLE, STARTS, POOL, MOST-NODES, GRAPH-LHS, GRAPH-RHS, WATCH-HEADS, WATCH-TAILS, WATCH-COUNTS, CLAUSE-STARTS, WATCHED, LINKS, LITERALS}
 use Rattle.words.specs.Region.{region, stored, cleared}
 use Rattle.model.specs.Lists.{snoc}
 use Rattle.model.specs.Aig.{Node, Constant, Variable, And}
 use Rattle.model.specs.Sat as Sat
 use Rattle.model.specs.Sat.{Solver}
-use Rattle.assignment.specs.State.{assignmentOf, assignmentRegions, Ready, Unchanged}
+use Rattle.assignment.specs.State.{assignmentOf, assignmentRegions, TrailReady, Unchanged}
 use Rattle.assignment.specs.Scores.{Others}
 use Rattle.assignment.specs.declared.state.Trail.{Trail}
-use Rattle.assignment.specs.declared.state.Enqueued.{Enqueued}
 use Rattle.clauses.specs.declared.state.Store.{Store}
 use Rattle.clauses.specs.declared.state.Clause.{Clause}
 use Rattle.clauses.specs.declared.state.Encoding.{Encoding}
 use Rattle.clauses.specs.declared.state.Encoded.{Encoded}
-use Rattle.clauses.specs.declared.state.Pending.{Pending}
 use Rattle.clauses.specs.declared.state.Place.{Place}
 use Rattle.clauses.specs.declared.state.Place.the-variants as Places
-use Rattle.clauses.specs.declared.state.Propagation.{Propagation}
-use Rattle.clauses.specs.declared.state.Propagation.the-variants as Propagations
-use Rattle.clauses.specs.Queue.{queuesOf, walk}
+use Rattle.clauses.specs.Queue.{queuesOf}
 use Rattle.clauses.specs.Sound.{SoundQueues}
-use Rattle.clauses.specs.Clauses.{clausesOf, watchesOf, half}
+use Rattle.clauses.specs.Clauses.{clausesOf, watchesOf}
 
 -- ---- THE ABSTRACTION
 
@@ -45,28 +42,12 @@ solverOf s m t w =
 
 -- the definition's clause of one that was read
 unfoldable pub clauseOf : Clause → List ℕ → Sat.Clause
-clauseOf c w = record { literals = slice (c .start) (c .end) (region 4718592 w); watched = (c .first, c .second) }
+clauseOf c w = record { literals = slice (c .start) (c .end) (region LITERALS w); watched = (c .first, c .second) }
 
 -- the definition's answer for a place
 abbrev pub placeOf : Place → Option ℕ
 placeOf (Places.At i) = some i
 placeOf Places.Nothing = none
-
--- the trail of a propagation
-abbrev pub trailOf : Propagation → Trail
-trailOf (Propagations.Propagating t) = t
-trailOf (Propagations.Complete t) = t
-trailOf (Propagations.Conflict id t) = t
-
--- the definition's propagation
-abbrev pub propagationOf : Solver → Store → List ℕ → Propagation → Sat.Propagation
-propagationOf s m w (Propagations.Propagating t) = Sat.propagating (solverOf s m t w)
-propagationOf s m w (Propagations.Complete t) = Sat.complete (solverOf s m t w)
-propagationOf s m w (Propagations.Conflict id t) = Sat.conflict id (solverOf s m t w)
-
--- the cells of a pending part of a queue
-unfoldable pub pendingOf : Pending → List ℕ → List ℕ
-pendingOf d w = walk (region 3670016 w) (d .left) (d .cell)
 
 -- ---- what holds throughout
 
@@ -79,17 +60,17 @@ unassigned (Sat.True ∷ vs) = unassigned vs
 
 -- the numbers are within the layout, the clauses end where the next begin, their literals are of the variables, and the trail has room for the unassigned variables
 pub record Formed (m : Store) (t : Trail) (w : List ℕ) : Type 0 where
-  pub ready : Ready t w
+  pub ready : TrailReady t w
   pub some : 0 < t .variables
-  pub clauses : m .clauses < 524288
-  pub literals : m .literals ≤ 786432
-  pub last : getD (region 2097152 w) (m .clauses) 0 ≡ m .literals
-  pub within : (i : ℕ) → i ≤ m .clauses → getD (region 2097152 w) i 0 ≤ m .literals
-  pub range : (i : ℕ) → i < m .literals → getD (region 4718592 w) i 0 < t .variables * 2
+  pub clauses : m .clauses < STARTS
+  pub literals : m .literals ≤ POOL
+  pub last : getD (region CLAUSE-STARTS w) (m .clauses) 0 ≡ m .literals
+  pub within : (i : ℕ) → i ≤ m .clauses → getD (region CLAUSE-STARTS w) i 0 ≤ m .literals
+  pub range : (i : ℕ) → i < m .literals → getD (region LITERALS w) i 0 < t .variables * 2
   pub room : unassigned (assignmentOf t w .assignments) + t .length ≤ t .variables
 
 -- and the queues are sound, with the cells p pending
-pub record Sound (m : Store) (t : Trail) (w : List ℕ) (p : List ℕ) : Type 0 where
+pub record SoundStore (m : Store) (t : Trail) (w : List ℕ) (p : List ℕ) : Type 0 where
   pub formed : Formed m t w
   pub queues : SoundQueues (queuesOf w) (m .clauses * 2) p
 
@@ -97,7 +78,7 @@ pub record Sound (m : Store) (t : Trail) (w : List ℕ) (p : List ℕ) : Type 0 
 
 -- the regions of clauses and watch queues
 abbrev pub watchRegions : List ℕ
-watchRegions = 1703936 ∷ 1835008 ∷ 1966080 ∷ 2097152 ∷ 2621440 ∷ 3670016 ∷ 4718592 ∷ []
+watchRegions = WATCH-HEADS ∷ WATCH-TAILS ∷ WATCH-COUNTS ∷ CLAUSE-STARTS ∷ WATCHED ∷ LINKS ∷ LITERALS ∷ []
 
 -- and those of the assignment
 abbrev pub searchRegions : List ℕ
@@ -106,76 +87,33 @@ searchRegions = watchRegions ++ assignmentRegions
 -- a step of a propagation: all but the search's words is unchanged, and with the cells p pending the rest is sound
 pub record Step (m : Store) (t : Trail) (w : List ℕ) (r : Trail) (w′ : List ℕ) (p : List ℕ) : Type 0 where
   pub frame : Unchanged searchRegions w w′
-  pub sound : Sound m r w′ p
+  pub sound : SoundStore m r w′ p
   pub variables : r .variables ≡ t .variables
   pub level : r .level ≡ t .level
   pub head : r .head ≡ t .head
-
--- ---- visits of pending cells
-
--- the pending cells after the first, whose link is read in the words w
-unfoldable pub restOf : Pending → List ℕ → List ℕ → List ℕ
-restOf d w w′ = walk (region 3670016 w′) (d .left - 1) (getD (region 3670016 w) (d .cell) 0)
-
--- what a visit asks: all is sound, with at least one cell pending
-pub record Visiting (m : Store) (t : Trail) (w : List ℕ) (d : Pending) : Type 0 where
-  pub sound : Sound m t w (pendingOf d w)
-  pub some : 0 < d .left
-
--- what a visit leaves: the cells after the first are pending still, at the same links
-pub record Visits (m : Store) (t : Trail) (w : List ℕ) (d : Pending) (r : Trail) (w′ : List ℕ) : Type 0 where
-  pub step : Step m t w r w′ (restOf d w w)
-  pub same : restOf d w w′ ≡ restOf d w w
 
 -- the slot of a number
 unfoldable pub slotOf : ℕ → Sat.Slot
 slotOf zero = Sat.slot0
 slotOf (suc k) = Sat.slot1
 
--- ---- pending clauses
-
--- the solver with clauses at the end of the watch list of f
-unfoldable pub appended : ℕ → List ℕ → Solver → Solver
-appended f ids s = Sat.withWatches s (set (s .watches) f (getD (s .watches) f [] ++ ids))
-
--- a queue taken: its cells are pending, and nothing else is changed
-pub record Taken (m : Store) (t : Trail) (w : List ℕ) (f : ℕ) (d : Pending) (w′ : List ℕ) : Type 0 where
-  pub step : Step m t w t w′ (pendingOf d w′)
-  pub cells : map half (pendingOf d w′) ≡ getD (watchesOf (t .variables) w) f []
-  pub watches : watchesOf (t .variables) w′ ≡ set (watchesOf (t .variables) w) f []
-  pub clauses : clausesOf (m .clauses) w′ ≡ clausesOf (m .clauses) w
-  pub assignment : assignmentOf t w′ ≡ assignmentOf t w
-
--- ---- rounds
-
--- the trail with its head one further
-abbrev pub advanced : Trail → Trail
-advanced t = record { variables = t .variables; length = t .length; head = t .head + 1; level = t .level }
-
--- a propagation keeps all but the search's words, and leaves the rest sound
-pub record Propagates (m : Store) (t : Trail) (w : List ℕ) (r : Trail) (w′ : List ℕ) : Type 0 where
-  pub frame : Unchanged searchRegions w w′
-  pub sound : Sound m r w′ []
-  pub variables : r .variables ≡ t .variables
-  pub level : r .level ≡ t .level
-
 -- ---- clauses added
 
 -- the words with the clause id sealed: its literals end at `end`, and it watches its first literal and the one at `place`
 unfoldable pub sealedWords : List ℕ → ℕ → ℕ → ℕ → List ℕ
-sealedWords w id end place = stored 2621440 (stored 2621440 (stored 2097152 w (id + 1) end) (id * 2) 0) (id * 2 + 1) place
+sealedWords w id end place = stored WATCHED (stored WATCHED (stored CLAUSE-STARTS w (id + 1) end) (id * 2) 0) (id * 2 + 1) place
 
 -- the literals that lie in the pool after those of the clauses
 abbrev pub poolLiterals : Store → ℕ → List ℕ → List ℕ
-poolLiterals m count w = slice (m .literals) (m .literals + count) (region 4718592 w)
+poolLiterals m count w = slice (m .literals) (m .literals + count) (region LITERALS w)
 
 -- what is asked where `count` literals in the pool are to become a clause: there is room, and they are literals of the variables
 pub record Attachable (m : Store) (t : Trail) (w : List ℕ) (count : ℕ) : Type 0 where
-  pub sound : Sound m t w []
-  pub clauses : m .clauses + 1 < 524288
-  pub literals : m .literals + count ≤ 786432
+  pub sound : SoundStore m t w []
+  pub clauses : m .clauses + 1 < STARTS
+  pub literals : m .literals + count ≤ POOL
   pub some : 0 < count
-  pub range : (i : ℕ) → m .literals ≤ i → i < m .literals + count → getD (region 4718592 w) i 0 < t .variables * 2
+  pub range : (i : ℕ) → m .literals ≤ i → i < m .literals + count → getD (region LITERALS w) i 0 < t .variables * 2
 
 -- the solver with a clause more, scores apart
 unfoldable pub attachedTo : Solver → List ℕ → Solver
@@ -193,7 +131,7 @@ attachedTo s (x ∷ xs) =
 -- the clause of these literals is added: all else is unchanged and sound
 pub record Attached (m : Store) (t : Trail) (w : List ℕ) (count : ℕ) (m′ : Store) (w′ : List ℕ) : Type 0 where
   pub frame : Unchanged watchRegions w w′
-  pub sound : Sound m′ t w′ []
+  pub sound : SoundStore m′ t w′ []
   pub clauses : m′ .clauses ≡ m .clauses + 1
   pub literals : m′ .literals ≡ m .literals + count
   pub is : (s : Solver) → solverOf s m′ t w′ ≡ attachedTo (solverOf s m t w) (poolLiterals m count w)
@@ -220,7 +158,7 @@ clean (x ∷ xs) = not (Sat.tautological x xs)
 -- the clause of the pool's literals is added, with its scores
 pub record Added (m : Store) (t : Trail) (w : List ℕ) (x : List Float) (count : ℕ) (m′ : Store) (w′ : List ℕ) (x′ : List Float) : Type 0 where
   pub frame : Unchanged watchRegions w w′
-  pub sound : Sound m′ t w′ []
+  pub sound : SoundStore m′ t w′ []
   pub clauses : m′ .clauses ≡ m .clauses + 1
   pub literals : m′ .literals ≡ m .literals + count
   pub others : Others (t .variables) x x′
@@ -234,14 +172,14 @@ AllBelow b (x ∷ xs) = (x < b) × AllBelow b xs
 -- a literal put into the pool after `count` others: nothing else is changed
 pub record Pooled (m : Store) (t : Trail) (w : List ℕ) (count l : ℕ) (w′ : List ℕ) : Type 0 where
   pub frame : Unchanged watchRegions w w′
-  pub sound : Sound m t w′ []
+  pub sound : SoundStore m t w′ []
   pub is : (s : Solver) → solverOf s m t w′ ≡ solverOf s m t w
   pub literals : poolLiterals m (count + 1) w′ ≡ snoc (poolLiterals m count w) l
 
 -- a clause of these sorted literals is added, with its scores
 pub record AddedList (m : Store) (t : Trail) (w : List ℕ) (x : List Float) (ls : List ℕ) (m′ : Store) (w′ : List ℕ) (x′ : List Float) : Type 0 where
   pub frame : Unchanged watchRegions w w′
-  pub sound : Sound m′ t w′ []
+  pub sound : SoundStore m′ t w′ []
   pub clauses : m′ .clauses ≡ m .clauses + 1
   pub literals : m′ .literals ≡ m .literals + length ls
   pub others : Others (t .variables) x x′
@@ -249,22 +187,22 @@ pub record AddedList (m : Store) (t : Trail) (w : List ℕ) (x : List Float) (ls
 
 -- all is sound, and there is room for a clause of n literals
 pub record Room (m : Store) (t : Trail) (w : List ℕ) (x : List Float) (n : ℕ) : Type 0 where
-  pub sound : Sound m t w []
-  pub clauses : m .clauses + 1 < 524288
-  pub literals : m .literals + n ≤ 786432
+  pub sound : SoundStore m t w []
+  pub clauses : m .clauses + 1 < STARTS
+  pub literals : m .literals + n ≤ POOL
   pub scores : t .variables ≤ length x
 
 -- all is sound, and there is room for c clauses of l literals together
 pub record Roomy (m : Store) (t : Trail) (w : List ℕ) (x : List Float) (c l : ℕ) : Type 0 where
-  pub sound : Sound m t w []
-  pub clauses : m .clauses + c < 524288
-  pub literals : m .literals + l ≤ 786432
+  pub sound : SoundStore m t w []
+  pub clauses : m .clauses + c < STARTS
+  pub literals : m .literals + l ≤ POOL
   pub scores : t .variables ≤ length x
 
 -- at most c clauses of l literals together are added
 pub record Grows (m : Store) (t : Trail) (w : List ℕ) (x : List Float) (c l : ℕ) (m′ : Store) (w′ : List ℕ) (x′ : List Float) : Type 0 where
   pub frame : Unchanged watchRegions w w′
-  pub sound : Sound m′ t w′ []
+  pub sound : SoundStore m′ t w′ []
   pub clauses : m′ .clauses ≤ m .clauses + c
   pub literals : m′ .literals ≤ m .literals + l
   pub others : Others (t .variables) x x′
@@ -286,33 +224,23 @@ nodeOf i lhs (suc rhs) = And lhs (suc rhs)
 
 -- the node at a place
 abbrev pub nodeIn : List ℕ → ℕ → Node
-nodeIn w i = nodeOf i (getD (region 0 w) i 0) (getD (region 65536 w) i 0)
+nodeIn w i = nodeOf i (getD (region GRAPH-LHS w) i 0) (getD (region GRAPH-RHS w) i 0)
 
 -- the operands of each conjunction are of variables in ascending order, both before its own
 pub record Gates (n : ℕ) (w : List ℕ) : Type 0 where
-  pub at : (i : ℕ) → 0 < i → i < n → 0 < getD (region 65536 w) i 0
-      → (2 ≤ getD (region 0 w) i 0) × (getD (region 0 w) i 0 / 2 < getD (region 65536 w) i 0 / 2) × (getD (region 65536 w) i 0 / 2 < i)
+  pub at : (i : ℕ) → 0 < i → i < n → 0 < getD (region GRAPH-RHS w) i 0
+      → (2 ≤ getD (region GRAPH-LHS w) i 0) × (getD (region GRAPH-LHS w) i 0 / 2 < getD (region GRAPH-RHS w) i 0 / 2) × (getD (region GRAPH-RHS w) i 0 / 2 < i)
 
 -- a graph is the one that the words hold, node 0 apart
 pub record Holds (n : ℕ) (w : List ℕ) (g : List Node) : Type 0 where
   pub size : length g ≡ n
   pub at : (i : ℕ) → 0 < i → i < n → getD g i Constant ≡ nodeIn w i
 
--- ---- unit clauses
-
--- a unit enqueued: only the assignment is changed, and the rest is sound
-pub record UnitStep (m : Store) (t : Trail) (w : List ℕ) (r : Enqueued) (w′ : List ℕ) : Type 0 where
-  pub frame : Unchanged assignmentRegions w w′
-  pub sound : Sound m (r .trail) w′ []
-  pub variables : r .trail .variables ≡ t .variables
-  pub level : r .trail .level ≡ t .level
-  pub head : r .trail .head ≡ t .head
-
 -- ---- the start
 
 -- the words with the counts of all queues 0, and with no clause
 unfoldable pub clearedWords : List ℕ → List ℕ
-clearedWords w = stored 2097152 (cleared 1966080 w 131072) 0 0
+clearedWords w = stored CLAUSE-STARTS (cleared WATCH-COUNTS w DOUBLE) 0 0
 
 -- no clause and no watch: with an assignment whose trail has room for its unassigned variables all is sound
 pub record Cleared (w : List ℕ) (m : Store) (w′ : List ℕ) : Type 0 where
@@ -322,7 +250,7 @@ pub record Cleared (w : List ℕ) (m : Store) (w′ : List ℕ) : Type 0 where
   pub none : clausesOf (m .clauses) w′ ≡ []
   pub watches : (n : ℕ) → watchesOf n w′ ≡ replicate (n * 2) []
   pub assignment : (t : Trail) → assignmentOf t w′ ≡ assignmentOf t w
-  pub sound : (t : Trail) → Ready t w → 0 < t .variables → unassigned (assignmentOf t w .assignments) + t .length ≤ t .variables → Sound m t w′ []
+  pub sound : (t : Trail) → TrailReady t w → 0 < t .variables → unassigned (assignmentOf t w .assignments) + t .length ≤ t .variables → SoundStore m t w′ []
 
 -- ---- assumptions
 
@@ -338,19 +266,19 @@ encodedOf s e t w x = solverOf (flagged (scored s (t .variables) x) (e .inconsis
 
 -- what is asked of a graph of n nodes and its assumptions
 pub record Encodable (n : ℕ) (w : List ℕ) (x : List Float) (ls : List ℕ) (count : ℕ) : Type 0 where
-  pub words : 8388608 ≤ length w
+  pub words : LENT ≤ length w
   pub some : 0 < n
-  pub variables : n ≤ 65536
+  pub variables : n ≤ MOST-NODES
   pub scores : n ≤ length x
   pub gates : Gates n w
   pub listed : count ≤ length ls
-  pub few : count ≤ 65536
+  pub few : count ≤ MOST-NODES
   pub range : (i : ℕ) → i < count → getD ls i 0 < n * 2
 
 -- the clauses of a graph and its assumptions, whatever the words and scores held before
 pub record Encodes (n : ℕ) (w : List ℕ) (x : List Float) (ls : List ℕ) (count : ℕ) (r : Encoded) (w′ : List ℕ) (x′ : List Float) : Type 0 where
   pub frame : Unchanged searchRegions w w′
-  pub sound : Sound (r .encoding .store) (r .trail) w′ []
+  pub sound : SoundStore (r .encoding .store) (r .trail) w′ []
   pub variables : r .trail .variables ≡ n
   pub clauses : r .encoding .store .clauses ≤ 3 * n + count
   pub literals : r .encoding .store .literals ≤ 7 * n + count

@@ -11,6 +11,7 @@ use lib.ListN.{set, getD, length, length-append}
 use lib.Seq.{getD-set-same, getD-set-other}
 use Rattle.facts.specs.Bools.{and-left, and-right}
 use Rattle.facts.specs.Numbers.{below}
+use Rattle.words.specs.Layout.{LENT, SMALL, STARTS, CELLS, VALUES, LEVELS, REASONS, PHASES, TRAIL, LIMITS, WATCH-HEADS, WATCH-TAILS, WATCH-COUNTS, CLAUSE-STARTS, WATCHED, LINKS, LITERALS}
 use Rattle.words.specs.Region.{region, apart, stored, stores, stored-in, stored-out, length-stored, length-region}
 use Rattle.model.specs.Literal as Literals
 use Rattle.model.specs.Lists.{snoc, member}
@@ -26,7 +27,7 @@ use Rattle.clauses.specs.Tabulate.{tabulate-set}
 use Rattle.clauses.specs.Queue.{queuesOf, linked, pushedWords, walk}
 use Rattle.clauses.specs.Sound.{SoundQueues}
 use Rattle.clauses.specs.Clauses.{clauseAt, clausesOf, watchesOf, half, same-clauses, same-queues, same-watches, pushed-sound, pushed-pending, pushed-watches}
-use Rattle.clauses.specs.State.{solverOf, Formed, Sound, Step, watchRegions, searchRegions, unassigned, slotOf}
+use Rattle.clauses.specs.State.{solverOf, Formed, SoundStore, Step, watchRegions, searchRegions, unassigned, slotOf}
 use Rattle.clauses.specs.ClauseLaws.{slice-in, slice-out}
 
 -- ---- frames
@@ -51,51 +52,51 @@ assignment-only w w′ f = record { same = λ b e. f .same b (apart-right watchR
 pub same-assignment : (t : Trail) (w w′ : List ℕ) → Unchanged watchRegions w w′ → assignmentOf t w′ ≡ assignmentOf t w
 unfolding assignmentOf
 same-assignment t w w′ f =
-    rw (f .same 655360 refl, f .same 720896 refl, f .same 786432 refl, f .same 851968 refl, f .same 983040 refl, f .same 1048576 refl)
+    rw (f .same VALUES refl, f .same LEVELS refl, f .same REASONS refl, f .same PHASES refl, f .same TRAIL refl, f .same LIMITS refl)
 
 -- the clauses and the queues are in none of the assignment's
 pub assigned-clauses : (n : ℕ) (w w′ : List ℕ) → Unchanged assignmentRegions w w′ → clausesOf n w′ ≡ clausesOf n w
-assigned-clauses n w w′ f = same-clauses n w′ w (f .same 2097152 refl) (f .same 2621440 refl) (f .same 4718592 refl)
+assigned-clauses n w w′ f = same-clauses n w′ w (f .same CLAUSE-STARTS refl) (f .same WATCHED refl) (f .same LITERALS refl)
 
 pub assigned-queues : (w w′ : List ℕ) → Unchanged assignmentRegions w w′ → queuesOf w′ ≡ queuesOf w
-assigned-queues w w′ f = same-queues w′ w (f .same 1703936 refl) (f .same 1835008 refl) (f .same 1966080 refl) (f .same 3670016 refl)
+assigned-queues w w′ f = same-queues w′ w (f .same WATCH-HEADS refl) (f .same WATCH-TAILS refl) (f .same WATCH-COUNTS refl) (f .same LINKS refl)
 
 -- ---- a push
 
 linked-unchanged : (w : List ℕ) (l x : ℕ) → Unchanged watchRegions w (linked w l x)
 unfolding linked member
-linked-unchanged w l x = go (eqb (getD (region 1966080 w) l 0) 0)
+linked-unchanged w l x = go (eqb (getD (region WATCH-COUNTS w) l 0) 0)
   where
-    go : (b : Bool) → Unchanged watchRegions w (cond b (stored 1703936 w l x) (stored 3670016 w (getD (region 1835008 w) l 0) x))
-    go true = unchanged-stored watchRegions 1703936 l x refl (unchanged-none watchRegions w) refl
-    go false = unchanged-stored watchRegions 3670016 (getD (region 1835008 w) l 0) x refl (unchanged-none watchRegions w) refl
+    go : (b : Bool) → Unchanged watchRegions w (cond b (stored WATCH-HEADS w l x) (stored LINKS w (getD (region WATCH-TAILS w) l 0) x))
+    go true = unchanged-stored watchRegions WATCH-HEADS l x refl (unchanged-none watchRegions w) refl
+    go false = unchanged-stored watchRegions LINKS (getD (region WATCH-TAILS w) l 0) x refl (unchanged-none watchRegions w) refl
 
 pub pushed-unchanged : (w : List ℕ) (l x : ℕ) → Unchanged watchRegions w (pushedWords w l x)
 unfolding pushedWords member
 pushed-unchanged w l x =
-    unchanged-stored watchRegions 1966080 l (getD (region 1966080 w) l 0 + 1) refl
-    (unchanged-stored watchRegions 1835008 l x refl (linked-unchanged w l x) refl)
+    unchanged-stored watchRegions WATCH-COUNTS l (getD (region WATCH-COUNTS w) l 0 + 1) refl
+    (unchanged-stored watchRegions WATCH-TAILS l x refl (linked-unchanged w l x) refl)
     refl
 
 -- a push stores in none of the clauses' regions
-pub pushed-clause-region : (w : List ℕ) (l x b : ℕ) → apart b 1703936 ≡ true → apart b 3670016 ≡ true → apart b 1835008 ≡ true → apart b 1966080 ≡ true → region b (pushedWords w l x) ≡ region b w
+pub pushed-clause-region : (w : List ℕ) (l x b : ℕ) → apart b WATCH-HEADS ≡ true → apart b LINKS ≡ true → apart b WATCH-TAILS ≡ true → apart b WATCH-COUNTS ≡ true → region b (pushedWords w l x) ≡ region b w
 unfolding pushedWords linked
-pushed-clause-region w l x b e f g h = rw (stored-out b _ 1966080 l (getD (region 1966080 w) l 0 + 1) h, stored-out b _ 1835008 l x g) (go (eqb (getD (region 1966080 w) l 0) 0))
+pushed-clause-region w l x b e f g h = rw (stored-out b _ WATCH-COUNTS l (getD (region WATCH-COUNTS w) l 0 + 1) h, stored-out b _ WATCH-TAILS l x g) (go (eqb (getD (region WATCH-COUNTS w) l 0) 0))
   where
-    go : (c : Bool) → region b (cond c (stored 1703936 w l x) (stored 3670016 w (getD (region 1835008 w) l 0) x)) ≡ region b w
-    go true = stored-out b w 1703936 l x e
-    go false = stored-out b w 3670016 (getD (region 1835008 w) l 0) x f
+    go : (c : Bool) → region b (cond c (stored WATCH-HEADS w l x) (stored LINKS w (getD (region WATCH-TAILS w) l 0) x)) ≡ region b w
+    go true = stored-out b w WATCH-HEADS l x e
+    go false = stored-out b w LINKS (getD (region WATCH-TAILS w) l 0) x f
 
 pub length-pushed : (w : List ℕ) (l x : ℕ) → length (pushedWords w l x) ≡ length w
 unfolding pushedWords linked
-length-pushed w l x = rw (length-stored, length-stored) (go (eqb (getD (region 1966080 w) l 0) 0))
+length-pushed w l x = rw (length-stored, length-stored) (go (eqb (getD (region WATCH-COUNTS w) l 0) 0))
   where
-    go : (c : Bool) → length (cond c (stored 1703936 w l x) (stored 3670016 w (getD (region 1835008 w) l 0) x)) ≡ length w
-    go true = length-stored 1703936 w l x
-    go false = length-stored 3670016 w (getD (region 1835008 w) l 0) x
+    go : (c : Bool) → length (cond c (stored WATCH-HEADS w l x) (stored LINKS w (getD (region WATCH-TAILS w) l 0) x)) ≡ length w
+    go true = length-stored WATCH-HEADS w l x
+    go false = length-stored LINKS w (getD (region WATCH-TAILS w) l 0) x
 
 -- words with the same starts, literals and assignment are as well formed
-pub formed-kept : (m : Store) (t : Trail) (w w′ : List ℕ) → Formed m t w → region 2097152 w′ ≡ region 2097152 w → region 4718592 w′ ≡ region 4718592 w → assignmentOf t w′ ≡ assignmentOf t w
+pub formed-kept : (m : Store) (t : Trail) (w w′ : List ℕ) → Formed m t w → region CLAUSE-STARTS w′ ≡ region CLAUSE-STARTS w → region LITERALS w′ ≡ region LITERALS w → assignmentOf t w′ ≡ assignmentOf t w
     → length w′ ≡ length w → Formed m t w′
 formed-kept m t w w′ f a b c n = record {
   ready = record { words = omega (arith, f .ready .words); variables = f .ready .variables; literals = f .ready .literals; levels = f .ready .levels };
@@ -108,11 +109,11 @@ formed-kept m t w w′ f a b c n = record {
   room = rw c (f .room);
 }
 
-module _ (m : Store) (t : Trail) (w : List ℕ) (l x : ℕ) (p : List ℕ) (s : Sound m t w (x ∷ p)) where
-  cells-fit : m .clauses * 2 ≤ 1048576
+module _ (m : Store) (t : Trail) (w : List ℕ) (l x : ℕ) (p : List ℕ) (s : SoundStore m t w (x ∷ p)) where
+  cells-fit : m .clauses * 2 ≤ CELLS
   cells-fit = omega (arith, s .formed .clauses)
 
-  words-fit : 8388608 ≤ length w
+  words-fit : LENT ≤ length w
   words-fit = s .formed .ready .words
 
   -- after a push all is sound
@@ -120,7 +121,7 @@ module _ (m : Store) (t : Trail) (w : List ℕ) (l x : ℕ) (p : List ℕ) (s : 
   push-step = record {
     frame = watches-only w (pushedWords w l x) (pushed-unchanged w l x);
     sound = record {
-      formed = formed-kept m t w (pushedWords w l x) (s .formed) (pushed-clause-region w l x 2097152 refl refl refl refl) (pushed-clause-region w l x 4718592 refl refl refl refl)
+      formed = formed-kept m t w (pushedWords w l x) (s .formed) (pushed-clause-region w l x CLAUSE-STARTS refl refl refl refl) (pushed-clause-region w l x LITERALS refl refl refl refl)
           (same-assignment t w (pushedWords w l x) (pushed-unchanged w l x)) (length-pushed w l x);
       queues = pushed-sound w words-fit (m .clauses * 2) cells-fit l x p (s .queues);
     };
@@ -131,14 +132,14 @@ module _ (m : Store) (t : Trail) (w : List ℕ) (l x : ℕ) (p : List ℕ) (s : 
 
   pub push-clauses : clausesOf (m .clauses) (pushedWords w l x) ≡ clausesOf (m .clauses) w
   push-clauses = same-clauses (m .clauses) (pushedWords w l x) w
-      (pushed-clause-region w l x 2097152 refl refl refl refl) (pushed-clause-region w l x 2621440 refl refl refl refl) (pushed-clause-region w l x 4718592 refl refl refl refl)
+      (pushed-clause-region w l x CLAUSE-STARTS refl refl refl refl) (pushed-clause-region w l x WATCHED refl refl refl refl) (pushed-clause-region w l x LITERALS refl refl refl refl)
 
   -- and the clause stands at the end of the watch list
   pub push-solver : (v : Solver) → solverOf v m t (pushedWords w l x) ≡ Sat.keepWatch l (half x) (solverOf v m t w)
   unfolding solverOf Sat.keepWatch Sat.withWatches
   push-solver v = rw (push-clauses, pushed-watches w words-fit (m .clauses * 2) cells-fit l x p (s .queues) (t .variables) (s .formed .ready .variables), same-assignment t w (pushedWords w l x) (pushed-unchanged w l x))
 
-  pub push-pending : (n c : ℕ) → p ≡ walk (region 3670016 w) n c → walk (region 3670016 (pushedWords w l x)) n c ≡ p
+  pub push-pending : (n c : ℕ) → p ≡ walk (region LINKS w) n c → walk (region LINKS (pushedWords w l x)) n c ≡ p
   unfolding queuesOf
   push-pending n c e = pushed-pending w words-fit (m .clauses * 2) cells-fit l x p (s .queues) n c e
 
@@ -149,76 +150,76 @@ other-place : (i j k : ℕ) → (i ≡ j → ⊥) → k < 2 → (i * 2 ≡ j * 2
 other-place i j k n h = ((λ e. n (omega arith)), λ e. n (omega arith))
 
 -- the clause whose place changed
-clause-moved : (w : List ℕ) (id i : ℕ) → id < 524288 → 8388608 ≤ length w → (k : ℕ) → k < 2 → clauseAt (stored 2621440 w (id * 2 + k) i) id ≡ Sat.moveWatch (clauseAt w id) (slotOf k) i
+clause-moved : (w : List ℕ) (id i : ℕ) → id < STARTS → LENT ≤ length w → (k : ℕ) → k < 2 → clauseAt (stored WATCHED w (id * 2 + k) i) id ≡ Sat.moveWatch (clauseAt w id) (slotOf k) i
 unfolding clauseAt Sat.moveWatch slotOf
 clause-moved w id i h n zero b =
     let e : id * 2 + 0 ≡ id * 2 = omega arith in
-    let l : id * 2 < length (region 2621440 w) = omega (arith, length-region 2621440 w (omega arith)) in
+    let l : id * 2 < length (region WATCHED w) = omega (arith, length-region WATCHED w (omega arith)) in
     rw (
       e,
-      stored-out 2097152 w 2621440 (id * 2) i refl,
-      stored-out 4718592 w 2621440 (id * 2) i refl,
-      stored-in 2621440 w (id * 2) i,
-      getD-set-same (region 2621440 w) (id * 2) i 0 l,
-      getD-set-other (region 2621440 w) (id * 2) (id * 2 + 1) i 0 (λ z. omega arith),
+      stored-out CLAUSE-STARTS w WATCHED (id * 2) i refl,
+      stored-out LITERALS w WATCHED (id * 2) i refl,
+      stored-in WATCHED w (id * 2) i,
+      getD-set-same (region WATCHED w) (id * 2) i 0 l,
+      getD-set-other (region WATCHED w) (id * 2) (id * 2 + 1) i 0 (λ z. omega arith),
     )
 clause-moved w id i h n (suc zero) b =
-    let l : id * 2 + 1 < length (region 2621440 w) = omega (arith, length-region 2621440 w (omega arith)) in
+    let l : id * 2 + 1 < length (region WATCHED w) = omega (arith, length-region WATCHED w (omega arith)) in
     rw (
-      stored-out 2097152 w 2621440 (id * 2 + 1) i refl,
-      stored-out 4718592 w 2621440 (id * 2 + 1) i refl,
-      stored-in 2621440 w (id * 2 + 1) i,
-      getD-set-same (region 2621440 w) (id * 2 + 1) i 0 l,
-      getD-set-other (region 2621440 w) (id * 2 + 1) (id * 2) i 0 (λ z. omega arith),
+      stored-out CLAUSE-STARTS w WATCHED (id * 2 + 1) i refl,
+      stored-out LITERALS w WATCHED (id * 2 + 1) i refl,
+      stored-in WATCHED w (id * 2 + 1) i,
+      getD-set-same (region WATCHED w) (id * 2 + 1) i 0 l,
+      getD-set-other (region WATCHED w) (id * 2 + 1) (id * 2) i 0 (λ z. omega arith),
     )
 clause-moved w id i h n (suc (suc k)) b = absurd (omega arith)
 
-module _ (w : List ℕ) (id k i : ℕ) (h : id < 524288) (n : 8388608 ≤ length w) where
+module _ (w : List ℕ) (id k i : ℕ) (h : id < STARTS) (n : LENT ≤ length w) where
   -- the other clauses
-  clause-stays : k < 2 → (j : ℕ) → (j ≡ id → ⊥) → clauseAt (stored 2621440 w (id * 2 + k) i) j ≡ clauseAt w j
+  clause-stays : k < 2 → (j : ℕ) → (j ≡ id → ⊥) → clauseAt (stored WATCHED w (id * 2 + k) i) j ≡ clauseAt w j
   unfolding clauseAt
   clause-stays b j d =
       rw (
-        stored-out 2097152 w 2621440 (id * 2 + k) i refl,
-        stored-out 4718592 w 2621440 (id * 2 + k) i refl,
-        stored-in 2621440 w (id * 2 + k) i,
-        getD-set-other (region 2621440 w) (id * 2 + k) (j * 2) i 0 (other-place j id k d b .0),
-        getD-set-other (region 2621440 w) (id * 2 + k) (j * 2 + 1) i 0 (other-place j id k d b .1),
+        stored-out CLAUSE-STARTS w WATCHED (id * 2 + k) i refl,
+        stored-out LITERALS w WATCHED (id * 2 + k) i refl,
+        stored-in WATCHED w (id * 2 + k) i,
+        getD-set-other (region WATCHED w) (id * 2 + k) (j * 2) i 0 (other-place j id k d b .0),
+        getD-set-other (region WATCHED w) (id * 2 + k) (j * 2 + 1) i 0 (other-place j id k d b .1),
       )
 
-  pub clauses-moved : k < 2 → (c : ℕ) → clausesOf c (stored 2621440 w (id * 2 + k) i) ≡ set (clausesOf c w) id (Sat.moveWatch (clauseAt w id) (slotOf k) i)
+  pub clauses-moved : k < 2 → (c : ℕ) → clausesOf c (stored WATCHED w (id * 2 + k) i) ≡ set (clausesOf c w) id (Sat.moveWatch (clauseAt w id) (slotOf k) i)
   unfolding clausesOf
-  clauses-moved b c = tabulate-set c (clauseAt w) (clauseAt (stored 2621440 w (id * 2 + k) i)) id _ (λ j q d. clause-stays b j d) (λ q. clause-moved w id i h n k b)
+  clauses-moved b c = tabulate-set c (clauseAt w) (clauseAt (stored WATCHED w (id * 2 + k) i)) id _ (λ j q d. clause-stays b j d) (λ q. clause-moved w id i h n k b)
 
-module _ (m : Store) (t : Trail) (w : List ℕ) (id k i : ℕ) (p : List ℕ) (s : Sound m t w p) where
-  pub move-unchanged : Unchanged watchRegions w (stored 2621440 w (id * 2 + k) i)
+module _ (m : Store) (t : Trail) (w : List ℕ) (id k i : ℕ) (p : List ℕ) (s : SoundStore m t w p) where
+  pub move-unchanged : Unchanged watchRegions w (stored WATCHED w (id * 2 + k) i)
   unfolding member
-  move-unchanged = unchanged-stored watchRegions 2621440 (id * 2 + k) i refl (unchanged-none watchRegions w) refl
+  move-unchanged = unchanged-stored watchRegions WATCHED (id * 2 + k) i refl (unchanged-none watchRegions w) refl
 
-  move-queues : queuesOf (stored 2621440 w (id * 2 + k) i) ≡ queuesOf w
+  move-queues : queuesOf (stored WATCHED w (id * 2 + k) i) ≡ queuesOf w
   unfolding queuesOf
   move-queues = simp stores
 
-  pub move-sound : Sound m t (stored 2621440 w (id * 2 + k) i) p
+  pub move-sound : SoundStore m t (stored WATCHED w (id * 2 + k) i) p
   move-sound = record {
-    formed = formed-kept m t w _ (s .formed) (stored-out 2097152 w 2621440 (id * 2 + k) i refl) (stored-out 4718592 w 2621440 (id * 2 + k) i refl)
-        (same-assignment t w _ move-unchanged) (length-stored 2621440 w (id * 2 + k) i);
+    formed = formed-kept m t w _ (s .formed) (stored-out CLAUSE-STARTS w WATCHED (id * 2 + k) i refl) (stored-out LITERALS w WATCHED (id * 2 + k) i refl)
+        (same-assignment t w _ move-unchanged) (length-stored WATCHED w (id * 2 + k) i);
     queues = rw move-queues (s .queues);
   }
 
-  pub move-watches : watchesOf (t .variables) (stored 2621440 w (id * 2 + k) i) ≡ watchesOf (t .variables) w
+  pub move-watches : watchesOf (t .variables) (stored WATCHED w (id * 2 + k) i) ≡ watchesOf (t .variables) w
   move-watches = same-watches (t .variables) _ w move-queues
 
 -- the words after the clause of the cell x, the first pending one, goes over to the literal l at its place i
 unfoldable pub replacedWords : List ℕ → ℕ → ℕ → ℕ → ℕ → List ℕ
-replacedWords w x k i l = pushedWords (stored 2621440 w (half x * 2 + k) i) l x
+replacedWords w x k i l = pushedWords (stored WATCHED w (half x * 2 + k) i) l x
 
-module _ (m : Store) (t : Trail) (w : List ℕ) (x k i l : ℕ) (p : List ℕ) (s : Sound m t w (x ∷ p)) where
+module _ (m : Store) (t : Trail) (w : List ℕ) (x k i l : ℕ) (p : List ℕ) (s : SoundStore m t w (x ∷ p)) where
   pub replace-step : Step m t w t (replacedWords w x k i l) p
   unfolding replacedWords
   replace-step =
       let v = move-sound m t w (half x) k i (x ∷ p) s in
-      let r = push-step m t (stored 2621440 w (half x * 2 + k) i) l x p v in
+      let r = push-step m t (stored WATCHED w (half x * 2 + k) i) l x p v in
       record {
         frame = unchanged-both searchRegions (watches-only w _ (move-unchanged m t w (half x) k i (x ∷ p) s)) (r .frame);
         sound = r .sound;
@@ -227,18 +228,18 @@ module _ (m : Store) (t : Trail) (w : List ℕ) (x k i l : ℕ) (p : List ℕ) (
         head = refl;
       }
 
-  pub replace-pending : (n c : ℕ) → p ≡ walk (region 3670016 w) n c → walk (region 3670016 (replacedWords w x k i l)) n c ≡ p
+  pub replace-pending : (n c : ℕ) → p ≡ walk (region LINKS w) n c → walk (region LINKS (replacedWords w x k i l)) n c ≡ p
   unfolding replacedWords
   replace-pending n c e =
-      push-pending m t (stored 2621440 w (half x * 2 + k) i) l x p (move-sound m t w (half x) k i (x ∷ p) s) n c (rw (stored-out 3670016 w 2621440 (half x * 2 + k) i refl) e)
+      push-pending m t (stored WATCHED w (half x * 2 + k) i) l x p (move-sound m t w (half x) k i (x ∷ p) s) n c (rw (stored-out LINKS w WATCHED (half x * 2 + k) i refl) e)
 
   pub replace-solver : (c : Sat.Clause) → k < 2 → half x < m .clauses → c ≡ clauseAt w (half x) → l ≡ getD (c .literals) i 0
       → (v : Solver) → solverOf v m t (replacedWords w x k i l) ≡ Sat.replaceWatch (half x) (solverOf v m t w) c (slotOf k) i
   unfolding replacedWords solverOf Sat.replaceWatch
   replace-solver c b h e g v =
-      let w1 = stored 2621440 w (half x * 2 + k) i in
+      let w1 = stored WATCHED w (half x * 2 + k) i in
       let s1 = move-sound m t w (half x) k i (x ∷ p) s in
-      let n : half x < 524288 = omega (arith, s .formed .clauses) in
+      let n : half x < STARTS = omega (arith, s .formed .clauses) in
       rw (
         push-clauses m t w1 l x p s1,
         clauses-moved w (half x) k i n (s .formed .ready .words) b (m .clauses),
@@ -277,7 +278,7 @@ module _ (m : Store) (t : Trail) (w : List ℕ) (l : ℕ) (f : Formed m t w) (b 
   fewer = one-fewer (assignmentOf t w .assignments) (Literals.node l) (Literals.inverted l) in-range unset
 
   -- the trail has room for an unassigned literal
-  pub has-room : t .length < 65536
+  pub has-room : t .length < SMALL
   has-room = omega (arith, fewer, f .room, f .ready .variables)
 
   module _ (reason : ℕ) (r : Trail) (w′ : List ℕ) (a : Assigns t w l reason r w′) where
@@ -301,9 +302,9 @@ module _ (m : Store) (t : Trail) (w : List ℕ) (l : ℕ) (f : Formed m t w) (b 
       some = rw (a .variables) (f .some);
       clauses = f .clauses;
       literals = f .literals;
-      last = rw (a .frame .same 2097152 refl) (f .last);
-      within = rw (a .frame .same 2097152 refl) (f .within);
-      range = rw (a .frame .same 4718592 refl, a .variables) (f .range);
+      last = rw (a .frame .same CLAUSE-STARTS refl) (f .last);
+      within = rw (a .frame .same CLAUSE-STARTS refl) (f .within);
+      range = rw (a .frame .same LITERALS refl, a .variables) (f .range);
       room = rw (assigned-values, assigned-length, a .variables) (omega (arith, fewer, f .room));
     }
 
@@ -335,8 +336,8 @@ step-both m t w r w′ u w″ p q a b = record {
 -- a literal of a clause is one of the variables'
 pub literal-range : (m : Store) (t : Trail) (w : List ℕ) → Formed m t w → (i : ℕ) → i < m .clauses → (p : ℕ) → getD (clauseAt w i .literals) p 0 < t .variables * 2
 unfolding clauseAt
-literal-range m t w f i h p = go (below (getD (region 2097152 w) i 0 + p) (getD (region 2097152 w) (i + 1) 0))
+literal-range m t w f i h p = go (below (getD (region CLAUSE-STARTS w) i 0 + p) (getD (region CLAUSE-STARTS w) (i + 1) 0))
   where
-    go : (getD (region 2097152 w) i 0 + p < getD (region 2097152 w) (i + 1) 0) ⊎ (getD (region 2097152 w) (i + 1) 0 ≤ getD (region 2097152 w) i 0 + p) → getD (clauseAt w i .literals) p 0 < t .variables * 2
-    go (inl k) = rw (slice-in _ _ p (region 4718592 w) k) (f .range _ (omega (arith, f .within (i + 1) (omega arith))))
-    go (inr k) = rw (slice-out _ _ p (region 4718592 w) k) (omega (arith, f .some))
+    go : (getD (region CLAUSE-STARTS w) i 0 + p < getD (region CLAUSE-STARTS w) (i + 1) 0) ⊎ (getD (region CLAUSE-STARTS w) (i + 1) 0 ≤ getD (region CLAUSE-STARTS w) i 0 + p) → getD (clauseAt w i .literals) p 0 < t .variables * 2
+    go (inl k) = rw (slice-in _ _ p (region LITERALS w) k) (f .range _ (omega (arith, f .within (i + 1) (omega arith))))
+    go (inr k) = rw (slice-out _ _ p (region LITERALS w) k) (omega (arith, f .some))

@@ -3,6 +3,7 @@ ghost use mathlib.Core.Path.{_≡_};
 ghost use Prim.Native.Nat.{_+_, _*_, _<_, _≤_};
 ghost use mathlib.Core.Bool.{true};
 ghost use lib.ListN.{length};
+ghost use Rattle.words.specs.Layout.{LENT, STARTS, POOL};
 ghost use Rattle.clauses.specs.State.{sealedWords, poolLiterals, clean, Attachable, Attached, Added};
 use crate::queue::push_back;
 use crate::state::Store;
@@ -20,8 +21,8 @@ use words::wide;
 
 // The end of the clause id, and its watched places: 0 and the given one.
 fn seal(words: &mut [u32], id: usize, end: usize, place: u32)
-    requires { ⌜ (8388608 ≤ length (now words)) × (id < 524288) × (end ≤ 786432) ⌝ }
-    ensures { λ _. ⌜ (now (words .exit) ≡ sealedWords (now (words .entry)) id end place) × (8388608 ≤ length (now (words .exit))) ⌝ }
+    requires { ⌜ (LENT ≤ length (now words)) × (id < STARTS) × (end ≤ POOL) ⌝ }
+    ensures { λ _. ⌜ (now (words .exit) ≡ sealedWords (now (words .entry)) id end place) × (LENT ≤ length (now (words .exit))) ⌝ }
 {
     stash(words, CLAUSE_STARTS, STARTS, id + 1, end as u32);
     stash(words, WATCHED, CELLS, id * 2, 0);

@@ -2,6 +2,7 @@
 ghost use mathlib.Core.Path.{_≡_};
 ghost use Prim.Native.Nat.{_+_, _<_, _≤_};
 ghost use lib.ListN.{length, getD};
+ghost use Rattle.words.specs.Layout.{LENT, POOL, CLAUSE-STARTS};
 ghost use Rattle.words.specs.Region.{region};
 ghost use Rattle.model.specs.Literal as Literals;
 ghost use Rattle.model.specs.Sat as Sat;
@@ -24,8 +25,8 @@ use words::wide;
 
 // The clause with a number.
 pub fn clause(words: &[u32], id: usize) -> Clause
-    requires { ⌜ (8388608 ≤ length (now words)) × (id < 4294967296) ⌝ }
-    ensures { λ r. ⌜ (clauseOf r (now (words .entry)) ≡ clauseAt (now (words .entry)) id) × (r .end ≡ getD (region 2097152 (now (words .entry))) (id + 1) 0) ⌝ }
+    requires { ⌜ (LENT ≤ length (now words)) × (id < 4294967296) ⌝ }
+    ensures { λ r. ⌜ (clauseOf r (now (words .entry)) ≡ clauseAt (now (words .entry)) id) × (r .end ≡ getD (region CLAUSE-STARTS (now (words .entry))) (id + 1) 0) ⌝ }
 {
     let start = fetch(words, CLAUSE_STARTS, STARTS, id);
     let end = fetch(words, CLAUSE_STARTS, STARTS, id + 1);
@@ -41,7 +42,7 @@ pub fn clause(words: &[u32], id: usize) -> Clause
 
 // The literal at a place of a clause; 0 past its end.
 pub fn literal_at(words: &[u32], c: Clause, place: u32) -> u32
-    requires { ⌜ 8388608 ≤ length (now words) ⌝ }
+    requires { ⌜ LENT ≤ length (now words) ⌝ }
     ensures { λ r. ⌜ r ≡ getD (clauseOf c (now (words .entry)) .literals) place 0 ⌝ }
 {
     let at = wide(c.start) + wide(place);
@@ -54,7 +55,7 @@ pub fn literal_at(words: &[u32], c: Clause, place: u32) -> u32
 
 // Whether a place of a clause is unwatched and its literal not false.
 fn can_replace(words: &[u32], t: Trail, c: Clause, place: u32) -> bool
-    requires { ⌜ 8388608 ≤ length (now words) ⌝ }
+    requires { ⌜ LENT ≤ length (now words) ⌝ }
     ensures { λ r. ⌜ r ≡ Sat.canReplace (assignmentOf t (now (words .entry))) (clauseOf c (now (words .entry))) place (getD (clauseOf c (now (words .entry)) .literals) place 0) ⌝ }
 {
     if place == c.first {
@@ -73,7 +74,7 @@ fn can_replace(words: &[u32], t: Trail, c: Clause, place: u32) -> bool
 
 // The first place of a clause that is unwatched and whose literal is not false.
 pub fn replacement(words: &[u32], t: Trail, c: Clause) -> Place
-    requires { ⌜ (8388608 ≤ length (now words)) × (c .end ≤ 786432) ⌝ }
+    requires { ⌜ (LENT ≤ length (now words)) × (c .end ≤ POOL) ⌝ }
     ensures { λ r. ⌜ placeOf r ≡ Sat.replacement (assignmentOf t (now (words .entry))) (clauseOf c (now (words .entry))) ⌝ }
 {
     let start = wide(c.start);

@@ -3,9 +3,10 @@ ghost use mathlib.Core.Path.{_≡_};
 ghost use mathlib.Core.List.{List, [], _∷_};
 ghost use Prim.Native.Nat.{ℕ, _+_, _*_, _/_, _<_, _≤_};
 ghost use lib.ListN.{length, drop, getD, take};
+ghost use Rattle.words.specs.Layout.{POOL};
 ghost use Rattle.model.specs.Sat as Sat;
 ghost use Rattle.model.specs.Aig.{Node, And};
-ghost use Rattle.clauses.specs.State.{solverOf, scored, Sound, Pooled, AddedList, Room, Roomy, Grows, GateOf, Gates, Holds, nodeIn, encodedOf};
+ghost use Rattle.clauses.specs.State.{solverOf, scored, SoundStore, Pooled, AddedList, Room, Roomy, Grows, GateOf, Gates, Holds, nodeIn, encodedOf};
 use crate::add::add_clause;
 use crate::clause::negate;
 use crate::state::Encoding;
@@ -21,7 +22,7 @@ use words::stash;
 
 // A literal put into the pool after `count` others of the clause to come.
 pub fn push_literal(words: &mut [u32], store: Store, t: Trail, count: usize, l: u32)
-    requires { ⌜ Sound store t (now words) [] × (store .literals + count < 786432) ⌝ }
+    requires { ⌜ SoundStore store t (now words) [] × (store .literals + count < POOL) ⌝ }
     ensures { λ _. ⌜ Pooled store t (now (words .entry)) count l (now (words .exit)) ⌝ }
 {
     stash(words, LITERALS, POOL, store.literals + count, l);

@@ -2,6 +2,7 @@
 ghost use mathlib.Core.Path.{_≡_};
 ghost use Prim.Native.Nat.{_+_, _<_, _≤_};
 ghost use lib.ListN.{length, getD};
+ghost use Rattle.words.specs.Layout.{LENT, CELLS, WATCH-COUNTS};
 ghost use Rattle.words.specs.Region.{region};
 ghost use Rattle.clauses.specs.Queue.{linked, pushedWords};
 use words::CELLS;
@@ -16,8 +17,8 @@ use words::wide;
 
 // The head of an empty queue, or the link of the last cell, set to a cell.
 fn link(words: &mut [u32], l: usize, cell: u32)
-    requires { ⌜ 8388608 ≤ length (now words) ⌝ }
-    ensures { λ _. ⌜ (now (words .exit) ≡ linked (now (words .entry)) l cell) × (8388608 ≤ length (now (words .exit))) ⌝ }
+    requires { ⌜ LENT ≤ length (now words) ⌝ }
+    ensures { λ _. ⌜ (now (words .exit) ≡ linked (now (words .entry)) l cell) × (LENT ≤ length (now (words .exit))) ⌝ }
 {
     if fetch(words, WATCH_COUNTS, DOUBLE, l) == 0 {
         stash(words, WATCH_HEADS, DOUBLE, l, cell);
@@ -29,8 +30,8 @@ fn link(words: &mut [u32], l: usize, cell: u32)
 
 // A cell at the end of the queue of l; the count has room for one more.
 pub fn push_back(words: &mut [u32], l: usize, cell: u32)
-    requires { ⌜ (8388608 ≤ length (now words)) × (getD (region 1966080 (now words)) l 0 < 1048577) ⌝ }
-    ensures { λ _. ⌜ (now (words .exit) ≡ pushedWords (now (words .entry)) l cell) × (8388608 ≤ length (now (words .exit))) ⌝ }
+    requires { ⌜ (LENT ≤ length (now words)) × (getD (region WATCH-COUNTS (now words)) l 0 < CELLS + 1) ⌝ }
+    ensures { λ _. ⌜ (now (words .exit) ≡ pushedWords (now (words .entry)) l cell) × (LENT ≤ length (now (words .exit))) ⌝ }
 {
     let count = fetch(words, WATCH_COUNTS, DOUBLE, l);
     link(words, l, cell);

@@ -1,6 +1,7 @@
 // The start of a search: no clause and empty queues; then the clauses of a graph and its assumptions.
 ghost use Prim.Native.Nat.{_≤_};
 ghost use lib.ListN.{length};
+ghost use Rattle.words.specs.Layout.{LENT};
 ghost use Rattle.clauses.specs.State.{Cleared, Encodable, Encodes};
 use crate::encode::add_assumptions;
 use crate::encode::add_nodes;
@@ -18,7 +19,7 @@ use words::stash;
 
 // No clause and no watch, whatever the words held before.
 pub fn clear_watches(words: &mut [u32]) -> Store
-    requires { ⌜ 8388608 ≤ length (now words) ⌝ }
+    requires { ⌜ LENT ≤ length (now words) ⌝ }
     ensures { λ r. ⌜ Cleared (now (words .entry)) r (now (words .exit)) ⌝ }
 {
     clear(words, WATCH_COUNTS, DOUBLE, DOUBLE);

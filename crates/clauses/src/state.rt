@@ -15,23 +15,10 @@ pub struct Clause {
     pub second: u32,
 }
 
-// The cells that were taken from a queue and are still to be visited: the first, and how many there are.
-pub struct Pending {
-    pub cell: u32,
-    pub left: usize,
-}
-
 // A place in a clause, or none.
 pub enum Place {
     At(u32),
     Nothing,
-}
-
-// A propagation under way, ended without a conflict, or stopped at a clause whose literals are all false.
-pub enum Propagation {
-    Propagating(Trail),
-    Complete(Trail),
-    Conflict(usize, Trail),
 }
 
 // What is encoded so far: the clauses, and whether one without a literal was asked for.

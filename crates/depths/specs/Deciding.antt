@@ -9,10 +9,10 @@ use Rattle.model.specs.Equivalence as Model
 use Rattle.model.specs.Equivalence.{Proving, undecided, decided, basePreservesNamedState, inductionCloses, askedToo, afterQuery4, query4, afterQuery3, afterQuery2}
 use Rattle.model.specs.Check.{verdictAnswer, verdictTrace}
 use Rattle.unrolling.specs.Side.{Untouched}
-use Rattle.sat.specs.SolveLaws.{answerOf as answered}
+use Rattle.sat.specs.SolveLaws.{searchAnswer}
 use Rattle.sat.specs.declared.state.Answer.{Answer}
 use Rattle.sat.specs.declared.state.Answer.the-variants as Answers
-use Rattle.queries.specs.Problem.{StandsFor, answerOf}
+use Rattle.queries.specs.Problem.{StandsFor, answerOfVerdict}
 use Rattle.queries.specs.Untouched.{untouched-both}
 use Rattle.queries.specs.Querying.{Queryable, stands-for-kept, Queried}
 use Rattle.queries.specs.declared.problem.Problem.{Problem}
@@ -25,7 +25,7 @@ abbrev pub Agrees : Decision → List ℕ → List ℕ → Proving → Type 0
 Agrees Decisions.Undecided t t′ (undecided asked) = t′ ≡ t
 Agrees Decisions.Undecided t t′ (decided u asked) = ⊥
 Agrees (Decisions.Decided v) t t′ (undecided asked) = ⊥
-Agrees (Decisions.Decided v) t t′ (decided u asked) = (answerOf v ≡ verdictAnswer u) × (t′ ≡ verdictTrace u t)
+Agrees (Decisions.Decided v) t t′ (decided u asked) = (answerOfVerdict v ≡ verdictAnswer u) × (t′ ≡ verdictTrace u t)
 
 -- From w to w′ queries were asked that write no trace, and what is decided is the model's, whatever was asked before.
 pub record Decides (x : Problem) (goal : Model.Problem → List Model.Asked → Proving) (w : List ℕ) (r : Decision) (w′ : List ℕ) : Type 0 where
@@ -49,18 +49,18 @@ module _ (x : Problem) (limit d : ℕ) (w : List ℕ) (s : List Float) (a : Quer
       (q : Queried x limit d query w r w₁ s₁) (u : Answer) (e : r ≡ u) (z : Decision) where
     -- what holds of the model after the search's answer holds after the model's
     by-answer : (p : Model.Problem) → StandsFor x w p → (earlier : List Model.Asked) (t : List ℕ)
-        → Agrees z t t (after p earlier (answered (q .nodes) u w₁)) → Agrees z t t (after p earlier (Model.ask limit (query p)))
+        → Agrees z t t (after p earlier (searchAnswer (q .nodes) u w₁)) → Agrees z t t (after p earlier (Model.ask limit (query p)))
     by-answer p k earlier t h =
-        subst (λ (y : Sat.Answer). Agrees z t t (after p earlier y)) (ap (λ (y : Answer). answered (q .nodes) y w₁) (sym e) ∙ q .is p k) h
+        subst (λ (y : Sat.Answer). Agrees z t t (after p earlier y)) (ap (λ (y : Answer). searchAnswer (q .nodes) y w₁) (sym e) ∙ q .is p k) h
 
     -- the query decides
-    at-once : ((p : Model.Problem) (earlier : List Model.Asked) (t : List ℕ) → Agrees z t t (after p earlier (answered (q .nodes) u w₁)))
+    at-once : ((p : Model.Problem) (earlier : List Model.Asked) (t : List ℕ) → Agrees z t t (after p earlier (searchAnswer (q .nodes) u w₁)))
         → Decides x (λ p earlier. after p earlier (Model.ask limit (query p))) w z w₁
     at-once h = record { is = λ p k earlier t. by-answer p k earlier t (h p earlier t); kept = q .kept }
 
     -- those after it decide
     by-next : (goal : Model.Problem → List Model.Asked → Proving) (more : List Model.Asked → List Model.Asked) (w₂ : List ℕ) → Decides x goal w₁ z w₂
-        → ((p : Model.Problem) (earlier : List Model.Asked) → goal p (more earlier) ≡ after p earlier (answered (q .nodes) u w₁))
+        → ((p : Model.Problem) (earlier : List Model.Asked) → goal p (more earlier) ≡ after p earlier (searchAnswer (q .nodes) u w₁))
         → Decides x (λ p earlier. after p earlier (Model.ask limit (query p))) w z w₂
     by-next goal more w₂ b h =
         record {
@@ -77,12 +77,12 @@ module _ (x : Problem) (limit d : ℕ) (w : List ℕ) (s : List Float) (a : Quer
 
     -- it has none: equivalent
     pub closed-4 : r ≡ Answers.NoModel k → Decides x (goal4 limit d) w (Decisions.Decided (Verdicts.Equivalent d)) w₁
-    unfolding afterQuery4 answerOf verdictAnswer verdictTrace
+    unfolding afterQuery4 answerOfVerdict verdictAnswer verdictTrace
     closed-4 e = at-once _ (λ p earlier y. afterQuery4 d earlier y) r w₁ s₁ q _ e _ (λ p earlier t. (refl, refl))
 
     -- its search gave up
     pub gave-up-4 : r ≡ Answers.GaveUp k → Decides x (goal4 limit d) w (Decisions.Decided (Verdicts.GaveUp d 4)) w₁
-    unfolding afterQuery4 answerOf verdictAnswer verdictTrace
+    unfolding afterQuery4 answerOfVerdict verdictAnswer verdictTrace
     gave-up-4 e = at-once _ (λ p earlier y. afterQuery4 d earlier y) r w₁ s₁ q _ e _ (λ p earlier t. (refl, refl))
 
   module _ (r : Answer) (w₁ : List ℕ) (s₁ : List Float) (q : Queried x limit d (λ p. inductionCloses p true d) w r w₁ s₁) (k : ℕ) where
@@ -93,12 +93,12 @@ module _ (x : Problem) (limit d : ℕ) (w : List ℕ) (s : List Float) (a : Quer
 
     -- it has none: equivalent
     pub closed-3 : r ≡ Answers.NoModel k → Decides x (goal3 limit d) w (Decisions.Decided (Verdicts.Equivalent d)) w₁
-    unfolding afterQuery3 answerOf verdictAnswer verdictTrace
+    unfolding afterQuery3 answerOfVerdict verdictAnswer verdictTrace
     closed-3 e = at-once _ (λ p earlier y. afterQuery3 limit p d earlier y) r w₁ s₁ q _ e _ (λ p earlier t. (refl, refl))
 
     -- its search gave up
     pub gave-up-3 : r ≡ Answers.GaveUp k → Decides x (goal3 limit d) w (Decisions.Decided (Verdicts.GaveUp d 3)) w₁
-    unfolding afterQuery3 answerOf verdictAnswer verdictTrace
+    unfolding afterQuery3 answerOfVerdict verdictAnswer verdictTrace
     gave-up-3 e = at-once _ (λ p earlier y. afterQuery3 limit p d earlier y) r w₁ s₁ q _ e _ (λ p earlier t. (refl, refl))
 
   module _ (r : Answer) (w₁ : List ℕ) (s₁ : List Float) (q : Queried x limit d (λ p. basePreservesNamedState p d) w r w₁ s₁) (k : ℕ) where
@@ -114,5 +114,5 @@ module _ (x : Problem) (limit d : ℕ) (w : List ℕ) (s : List Float) (a : Quer
 
     -- its search gave up
     pub gave-up-2 : r ≡ Answers.GaveUp k → Decides x (goal2 limit d) w (Decisions.Decided (Verdicts.GaveUp d 2)) w₁
-    unfolding afterQuery2 answerOf verdictAnswer verdictTrace
+    unfolding afterQuery2 answerOfVerdict verdictAnswer verdictTrace
     gave-up-2 e = at-once _ (λ p earlier y. afterQuery2 limit p d earlier y) r w₁ s₁ q _ e _ (λ p earlier t. (refl, refl))

@@ -13,7 +13,7 @@ use Rattle.model.specs.Answers.{acceptedAnswer, statusNumber}
 use Rattle.model.specs.Equivalence as Model
 use Rattle.model.specs.Equivalence.{Proving, undecided, decided, baseCounterexample, traceBytes, notEquivalentAt, askedToo, afterQuery1, query1, atDepth, depths, proveSequentialEquivalence}
 use Rattle.model.specs.Check.{overwrite, verdictAnswer, verdictTrace}
-use Rattle.queries.specs.Problem.{StandsFor, Provable, answerOf, Proves}
+use Rattle.queries.specs.Problem.{StandsFor, Provable, answerOfVerdict, Proves}
 use Rattle.unrolling.specs.Side.{Untouched}
 use Rattle.queries.specs.Untouched.{untouched-none, untouched-both}
 use Rattle.queries.specs.Querying.{Queryable, stands-for-kept, queryable-at, queryable-kept}
@@ -36,7 +36,7 @@ module _ (x : Problem) (limit d : ℕ) (w : List ℕ) (s : List Float) (a : Quer
     (f : Finds x limit d w t r w₁ s₁ t₁) where
   -- query 1 found a counterexample
   pub differs-1 : (m : ℕ) → r ≡ Found.Mismatch m → Passes x limit d w t (Decisions.Decided (Verdicts.NotEquivalent d m)) w₁ t₁
-  unfolding atDepth query1 afterQuery1 notEquivalentAt answerOf verdictAnswer verdictTrace
+  unfolding atDepth query1 afterQuery1 notEquivalentAt answerOfVerdict verdictAnswer verdictTrace
   differs-1 m e =
       record {
         is = λ p q earlier.
@@ -51,7 +51,7 @@ module _ (x : Problem) (limit d : ℕ) (w : List ℕ) (s : List Float) (a : Quer
 
   -- its search gave up
   pub gave-up-1 : r ≡ Found.GaveUp → Passes x limit d w t (Decisions.Decided (Verdicts.GaveUp d 1)) w₁ t₁
-  unfolding atDepth query1 afterQuery1 answerOf verdictAnswer verdictTrace
+  unfolding atDepth query1 afterQuery1 answerOfVerdict verdictAnswer verdictTrace
   gave-up-1 e =
       record {
         is = λ p q earlier.
@@ -107,7 +107,7 @@ module _ (x : Problem) (limit D : ℕ) (w₀ : List ℕ) (s₀ : List Float) (t�
 
   -- no depth is left
   pub ended : D ≤ d → d ≤ D → Proves x limit D w₀ t₀ (Verdicts.Inconclusive D) t
-  unfolding depths answerOf verdictAnswer verdictTrace
+  unfolding depths answerOfVerdict verdictAnswer verdictTrace
   ended h k =
       let e : d ≡ D = omega arith in
       let z : D - d ≡ 0 = omega arith in
@@ -144,7 +144,7 @@ module _ (x : Problem) (limit D : ℕ) (w₀ : List ℕ) (s₀ : List Float) (t�
         record { kept = untouched-both (l .kept) (b .kept); trace = next (a .problem) (a .stands) .0 ∙ l .trace; is = λ p q. (next p q .1, next p q .2) }
 
     stopped-by : (v : Verdict) (p : Model.Problem) (q : StandsFor x w₀ p) (z : Proving) → atDepth limit p (d + 1) (l .is p q .0) ≡ z → Agrees (Decisions.Decided v) t t′ z
-        → (answerOf v ≡ verdictAnswer (proveSequentialEquivalence limit p D .verdict)) × (t′ ≡ verdictTrace (proveSequentialEquivalence limit p D .verdict) t₀)
+        → (answerOfVerdict v ≡ verdictAnswer (proveSequentialEquivalence limit p D .verdict)) × (t′ ≡ verdictTrace (proveSequentialEquivalence limit p D .verdict) t₀)
     stopped-by v p q (undecided asked) e g = absurd g
     stopped-by v p q (decided u asked) e g =
         let same : u ≡ proveSequentialEquivalence limit p D .verdict =
@@ -155,6 +155,6 @@ module _ (x : Problem) (limit D : ℕ) (w₀ : List ℕ) (s₀ : List Float) (t�
     pub stopped : (v : Verdict) → r ≡ Decisions.Decided v → Proves x limit D w₀ t₀ v t′
     stopped v e =
         let given : (p : Model.Problem) (q : StandsFor x w₀ p)
-        → (answerOf v ≡ verdictAnswer (proveSequentialEquivalence limit p D .verdict)) × (t′ ≡ verdictTrace (proveSequentialEquivalence limit p D .verdict) t₀) =
+        → (answerOfVerdict v ≡ verdictAnswer (proveSequentialEquivalence limit p D .verdict)) × (t′ ≡ verdictTrace (proveSequentialEquivalence limit p D .verdict) t₀) =
         λ p q. stopped-by v p q (atDepth limit p (d + 1) (l .is p q .0)) refl (rw e at (b .is p (here p q) (l .is p q .0))) in
         record { answer = λ p q. given p q .0; traced = λ p q. given p q .1 }

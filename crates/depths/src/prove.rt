@@ -2,21 +2,23 @@
 ghost use Rattle.queries.specs.Problem.{Provable, Proves};
 use crate::depth::Decision;
 use crate::depth::at_depth;
+use calls::options::Options;
 use queries::problem::Problem;
 use queries::problem::Verdict;
 
-// The verdict after depths 1 to `max_depth`, each query under a limit of learned literals; the trace changes for NotEquivalent only.
+// The verdict after depths 1 to the maximum asked for, each query under the limit asked for; the trace changes for NotEquivalent only.
 pub fn prove_sequential_equivalence(
     problem: Problem,
     words: &mut [u32],
     scores: &mut [f64],
     trace: &mut [u8],
-    limit: usize,
-    max_depth: usize,
+    options: Options,
 ) -> Verdict
-    requires { ⌜ Provable problem limit «max_depth» (now words) (now scores) (now trace) ⌝ }
-    ensures { λ r. ⌜ Proves problem limit «max_depth» (now (words .entry)) (now (trace .entry)) r (now (trace .exit)) ⌝ }
+    requires { ⌜ Provable problem (options .limit) (options .depth) (now words) (now scores) (now trace) ⌝ }
+    ensures { λ r. ⌜ Proves problem (options .limit) (options .depth) (now (words .entry)) (now (trace .entry)) r (now (trace .exit)) ⌝ }
 {
+    let limit = options.limit;
+    let max_depth = options.depth as usize;
     let mut depth: usize = 0;
     while depth < max_depth {
         depth += 1;

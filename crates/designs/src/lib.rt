@@ -1,4 +1,4 @@
-// The designs of document 01's cases that are run, as records.
+// The designs of the specification's cases that are run, as records.
 pub mod record;
 
 use crate::record::Record;
@@ -101,7 +101,7 @@ fn holding_registers(r: Record, count: u8) -> Record {
 }
 
 // One side of the pair with 11 inputs and 9 outputs: 135 nodes and so many registers.
-pub fn wide(count: u8) -> Record {
+pub fn wide_side(count: u8) -> Record {
     let ports = wide_inputs(clocked(begun()));
     let nodes = ands(states(ports, count), 126);
     let shown = wide_outputs(nodes, last(nodes));

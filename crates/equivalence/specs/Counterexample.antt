@@ -6,12 +6,13 @@ use native.Mathlib.Omega.{arith}
 use native.Mathlib.Nat.{suc-mul}
 use native.Mathlib.Numerals.{add-one}
 use lib.ListN.{length}
+use Rattle.words.specs.Layout.{LENT, MOST-NODES, FRAMES}
 use Rattle.words.specs.Region.{region}
 use Rattle.model.specs.Lists.{snoc}
 use Rattle.model.specs.Aig.{Aig, Built, new, or}
 use Rattle.model.specs.Equivalence.{Problem, FrameComparison, Cycle, Base, baseStart, baseQuery, counterexampleNext, counterexampleCompared, counterexampleCycle, counterexampleCycles, baseCounterexample}
 use Rattle.aig.specs.Graph.{graphOf}
-use Rattle.aig.specs.Made.{Ready, Same, Made, HeadsBelow, outside, same-refl, same-trans}
+use Rattle.aig.specs.Made.{Ready, Same, Made, outside, same-refl, same-trans}
 use Rattle.import.specs.Importing.{beyond, same-beyond}
 use Rattle.lowering.specs.Firsts.{firsts, pairs, Below, below-le}
 use Rattle.equivalence.specs.Frames.{comparisonsOf, beyondFrames}
@@ -31,7 +32,7 @@ baseAfter x y n c w gs ts m =
       aig = graphOf c w;
       goldState = firsts (x .«state_count») gs;
       gateState = firsts (y .«state_count») ts;
-      comparisons = comparisonsOf (x .«input_count») (x .«output_count») n (region 524288 w);
+      comparisons = comparisonsOf (x .«input_count») (x .«output_count») n (region FRAMES w);
       anyMismatch = m;
     }
 
@@ -56,10 +57,10 @@ module _ (x y : System) (n c : ℕ) (w gs ts : List ℕ) (m : ℕ) (s : Startabl
   abbrev made : FrameComparison
   made = record { inputs = firsts (x .«input_count») ins; outputs = pairs (x .«output_count») go to; mismatch = d }
 
-  comparisons-are : comparisonsOf (x .«input_count») (x .«output_count») (n + 1) (region 524288 w′)
-      ≡ snoc (comparisonsOf (x .«input_count») (x .«output_count») n (region 524288 w)) made
+  comparisons-are : comparisonsOf (x .«input_count») (x .«output_count») (n + 1) (region FRAMES w′)
+      ≡ snoc (comparisonsOf (x .«input_count») (x .«output_count») n (region FRAMES w)) made
   comparisons-are =
-      rw (← same-made .at 524288 refl)
+      rw (← same-made .at FRAMES refl)
       (comparisons-more (x .«input_count») (x .«output_count») n ins go to d w₂ w′ (s .paired .gold .input-count) (s .paired .gold .output-count) r)
 
   next-is : (p : Problem) → Standing x y w p → baseAfter x y (n + 1) c₂ w′ gn tn l ≡ counterexampleCycle p (baseAfter x y n c w gs ts m)
@@ -71,7 +72,7 @@ module _ (x y : System) (n c : ℕ) (w gs ts : List ℕ) (m : ℕ) (s : Startabl
         aig = b .aig;
         goldState = firsts (x .«state_count») gn;
         gateState = firsts (y .«state_count») tn;
-        comparisons = snoc (comparisonsOf (x .«input_count») (x .«output_count») n (region 524288 w)) made;
+        comparisons = snoc (comparisonsOf (x .«input_count») (x .«output_count») n (region FRAMES w)) made;
         anyMismatch = b .literal;
       }) (o .built)
       ∙ ap (λ (z : Cycle). counterexampleCompared (baseAfter x y n c w gs ts m) z) (k .is p t)
@@ -137,27 +138,25 @@ compared-left-more x y n c₀ w₀ gs₀ ts₀ m₀ i k c w gs ts m c′ w′ gs
 -- ---- the whole query
 
 -- What query 1 asks: both sides in order, constant start literals, room for all nodes and for a row of each cycle.
-pub record Comparable (x y : System) (gs ts : List ℕ) (used depth : ℕ) (w : List ℕ) : Type 0 where
-  pub long : 8388608 ≤ length w
-  pub used-small : used ≤ 65536
-  pub heads : HeadsBelow used w
+pub record Comparable (x y : System) (gs ts : List ℕ) (depth : ℕ) (w : List ℕ) : Type 0 where
+  pub long : LENT ≤ length w
   pub paired : Paired x y w
   pub gold-start : Below 2 (x .«state_count») gs
   pub gate-start : Below 2 (y .«state_count») ts
   pub depth-small : depth ≤ 64
-  pub room : 1 + suc depth * comparedCost x y w ≤ 65536
+  pub room : 1 + suc depth * comparedCost x y w ≤ MOST-NODES
 
 -- The graph, the assumption and the comparisons of query 1 stand in w′.
 pub record Compares (x y : System) (gs ts : List ℕ) (depth : ℕ) (w : List ℕ) (c : ℕ) (w′ : List ℕ) (m : ℕ) : Type 0 where
   pub ready : Ready c w′
-  pub small : c ≤ 65536
+  pub small : c ≤ MOST-NODES
   pub same : Same beyondFrames w w′
   pub mismatch : m < c * 2
   pub is : (p : Problem) → Standing x y w p → Started x y gs ts p
-      → record { aig = graphOf c w′; assumptions = m ∷ []; comparisons = comparisonsOf (x .«input_count») (x .«output_count») (depth + 1) (region 524288 w′) }
+      → record { aig = graphOf c w′; assumptions = m ∷ []; comparisons = comparisonsOf (x .«input_count») (x .«output_count») (depth + 1) (region FRAMES w′) }
       ≡ baseCounterexample p depth
 
-module _ (x y : System) (gs ts : List ℕ) (used depth : ℕ) (w w₁ : List ℕ) (a : Comparable x y gs ts used depth w) (s : Same outside w w₁) (r : Ready 1 w₁) where
+module _ (x y : System) (gs ts : List ℕ) (depth : ℕ) (w w₁ : List ℕ) (a : Comparable x y gs ts depth w) (s : Same outside w w₁) (r : Ready 1 w₁) where
   -- the cycles may follow the empty graph
   pub startable-compared : Startable ((depth + 1) * comparedCost x y w₁) x y 1 w₁ gs ts
   startable-compared =

@@ -1,8 +1,9 @@
--- What the region FRAMES holds: a row of 512 words for each cycle, with its inputs at 0, gold's outputs at 128, gate's at 256 and its mismatch at 384. Definitions only.
+-- What the region FRAMES holds: a row of ROW words for each cycle, with its inputs at the beginning, gold's outputs at GOLD-OUTPUTS, gate's at GATE-OUTPUTS and its mismatch at MISMATCH. Definitions only.
 use mathlib.Core.List.{List, []}
 use mathlib.Core.Bool.{Bool, _&&_}
 use Prim.Native.Nat.{ℕ, zero, suc, _+_, _*_}
 use lib.ListN.{getD}
+use Rattle.words.specs.Layout.{FRAMES, ROW, GOLD-OUTPUTS, GATE-OUTPUTS, MISMATCH}
 use Rattle.words.specs.Region.{apart}
 use Rattle.model.specs.Lists.{snoc}
 use Rattle.model.specs.Equivalence.{FrameComparison}
@@ -21,7 +22,7 @@ pairsFrom (suc n) at to fs = snoc (pairsFrom n at to fs) (getD fs (at + n) 0, ge
 -- the comparison of cycle c, of I inputs and O outputs
 unfoldable pub comparisonAt : ℕ → ℕ → List ℕ → ℕ → FrameComparison
 comparisonAt I O fs c =
-    record { inputs = wordsFrom I (512 * c) fs; outputs = pairsFrom O (512 * c + 128) (512 * c + 256) fs; mismatch = getD fs (512 * c + 384) 0 }
+    record { inputs = wordsFrom I (ROW * c) fs; outputs = pairsFrom O (ROW * c + GOLD-OUTPUTS) (ROW * c + GATE-OUTPUTS) fs; mismatch = getD fs (ROW * c + MISMATCH) 0 }
 
 -- the comparisons of the first n cycles
 unfoldable pub comparisonsOf : ℕ → ℕ → ℕ → List ℕ → List FrameComparison
@@ -30,4 +31,4 @@ comparisonsOf I O (suc n) fs = snoc (comparisonsOf I O n fs) (comparisonAt I O f
 
 -- the region at b is none of the proof graph's, not IMPORTED and not FRAMES
 abbrev pub beyondFrames : ℕ → Bool
-beyondFrames b = beyond b && apart b 524288
+beyondFrames b = beyond b && apart b FRAMES

@@ -5,10 +5,11 @@ use mathlib.Core.List.{List, []}
 use Prim.Native.Nat.{ℕ, suc, _+_, _*_, _≤_, _<_}
 use native.Mathlib.Omega.{arith}
 use lib.ListN.{length}
+use Rattle.words.specs.Layout.{LENT, MOST-NODES}
 use Rattle.model.specs.Aig.{Aig, new}
 use Rattle.model.specs.Equivalence.{Problem, LiteralList, newVariables, gateVariables, Induction, freeProductState, inductionQuery, inductionCycles, inductionCloses}
 use Rattle.aig.specs.Graph.{graphOf}
-use Rattle.aig.specs.Made.{Ready, Same, HeadsBelow, outside, same-trans}
+use Rattle.aig.specs.Made.{Ready, Same, outside, same-trans}
 use Rattle.import.specs.Importing.{beyond, same-beyond}
 use Rattle.lowering.specs.Firsts.{firsts, Below, below-le}
 use Rattle.unrolling.specs.Variables.{Listed, grown, new-variables}
@@ -70,14 +71,14 @@ module _ (x y : System) (share : Bool) (ms : List ℕ) (c : ℕ) (w : List ℕ) 
 -- The graph and assumptions of query 3 or 4 stand in w′.
 pub record Induces (x y : System) (ms rs : List ℕ) (include : Bool) (depth : ℕ) (w : List ℕ) (c : ℕ) (w′ hs : List ℕ) : Type 0 where
   pub ready : Ready c w′
-  pub small : c ≤ 65536
+  pub small : c ≤ MOST-NODES
   pub same : Same beyond w w′
   pub assumptions : Below (c * 2) (depth + 1) hs
   pub is : (p : Problem) → Standing x y w p → Matched x y ms p → Returned x y rs p
       → record { aig = graphOf c w′; assumptions = firsts (depth + 1) hs; comparisons = [] } ≡ inductionCloses p include depth
 
 module _ (x y : System) (rs : List ℕ) (include : Bool) (depth : ℕ) (w w₁ : List ℕ) (c₂ : ℕ) (w₂ gs ts : List ℕ) (q : Paired x y w) (s : Same outside w w₁)
-    (room : 1 + (x .«state_count» + y .«state_count») + suc depth * cycleCost x y w ≤ 65536) (f : Freed x y include rs 1 w₁ c₂ w₂ gs ts) where
+    (room : 1 + (x .«state_count» + y .«state_count») + suc depth * cycleCost x y w ≤ MOST-NODES) (f : Freed x y include rs 1 w₁ c₂ w₂ gs ts) where
   same-free : Same beyond w w₂
   same-free = same-trans (same-beyond s) (same-beyond (f .same))
 
@@ -106,12 +107,10 @@ module _ (x y : System) (rs : List ℕ) (include : Bool) (depth : ℕ) (w w₁ :
       }
 
 -- What query 3 and 4 ask: both sides in order, matches of their states, and room for all nodes.
-pub record Inducible (x y : System) (ms rs : List ℕ) (used depth : ℕ) (w : List ℕ) : Type 0 where
-  pub long : 8388608 ≤ length w
-  pub used-small : used ≤ 65536
-  pub heads : HeadsBelow used w
+pub record Inducible (x y : System) (ms rs : List ℕ) (depth : ℕ) (w : List ℕ) : Type 0 where
+  pub long : LENT ≤ length w
   pub paired : Paired x y w
   pub gold-matches : Below (y .«state_count» + 1) (x .«state_count») ms
   pub gate-matches : Below (x .«state_count» + 1) (y .«state_count») rs
   pub depth-small : depth < 128
-  pub room : 1 + (x .«state_count» + y .«state_count») + suc depth * cycleCost x y w ≤ 65536
+  pub room : 1 + (x .«state_count» + y .«state_count») + suc depth * cycleCost x y w ≤ MOST-NODES

@@ -6,6 +6,7 @@ use Prim.Native.Nat.{ℕ, suc, _+_, _*_, _≤_, _<_}
 use native.Mathlib.Omega.{arith}
 use native.Mathlib.Nat.{suc-mul}
 use lib.ListN.{length, set, length-map}
+use Rattle.words.specs.Layout.{MOST-NODES}
 use Rattle.model.specs.Literal.{Literal}
 use Rattle.model.specs.Lists.{snoc}
 use Rattle.model.specs.Aig.{Built, or}
@@ -175,7 +176,7 @@ induced-more x y ms include depth c₀ w₀ gs₀ ts₀ hs₀ i k c w gs ts hs c
 -- The query of an induction from c₀ nodes in w₀ stands in w: the model's graph and assumptions.
 pub record Closed (x y : System) (ms : List ℕ) (include : Bool) (depth c₀ : ℕ) (w₀ gs₀ ts₀ hs₀ : List ℕ) (c : ℕ) (w hs : List ℕ) : Type 0 where
   pub ready : Ready c w
-  pub small : c ≤ 65536
+  pub small : c ≤ MOST-NODES
   pub same : Same beyond w₀ w
   pub assumptions : Below (c * 2) (depth + 1) hs
   pub is : (p : Problem) → Standing x y w₀ p → Matched x y ms p

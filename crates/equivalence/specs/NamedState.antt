@@ -7,11 +7,12 @@ use native.Mathlib.Omega.{arith}
 use native.Mathlib.Nat.{suc-mul}
 use native.Mathlib.Numerals.{add-one}
 use lib.ListN.{length}
+use Rattle.words.specs.Layout.{LENT, MOST-NODES}
 use Rattle.model.specs.Literal.{Literal, constantLiteral}
 use Rattle.model.specs.Aig.{Built, new}
 use Rattle.model.specs.Equivalence.{Problem, orMismatch, comparePairs, compareNamedState, Frames, Base, namedStateNext, namedStateCompared, namedStateCycle, namedStateCycles, baseStart, baseQuery, basePreservesNamedState}
 use Rattle.aig.specs.Graph.{graphOf}
-use Rattle.aig.specs.Made.{Ready, Same, Made, HeadsBelow, outside, same-refl, same-trans}
+use Rattle.aig.specs.Made.{Ready, Same, Made, outside, same-refl, same-trans}
 use Rattle.import.specs.Importing.{beyond, same-beyond}
 use Rattle.lowering.specs.Firsts.{firsts, Below, below-le}
 use Rattle.unrolling.specs.Matching.{named-is}
@@ -122,16 +123,14 @@ named-left-more x y ms n c₀ w₀ gs₀ ts₀ m₀ k c w gs ts m c′ w′ gs�
 -- ---- the whole query
 
 -- What query 2 asks: both sides in order, matches of gold's states, constant start literals, and room for all nodes.
-pub record Preservable (x y : System) (ms gs ts : List ℕ) (used depth : ℕ) (w : List ℕ) : Type 0 where
-  pub long : 8388608 ≤ length w
-  pub used-small : used ≤ 65536
-  pub heads : HeadsBelow used w
+pub record Preservable (x y : System) (ms gs ts : List ℕ) (depth : ℕ) (w : List ℕ) : Type 0 where
+  pub long : LENT ≤ length w
   pub paired : Paired x y w
   pub matches : Below (y .«state_count» + 1) (x .«state_count») ms
   pub gold-start : Below 2 (x .«state_count») gs
   pub gate-start : Below 2 (y .«state_count») ts
   pub depth-small : depth < 128
-  pub room : 1 + (depth + 1) * namedCost x y w ≤ 65536
+  pub room : 1 + (depth + 1) * namedCost x y w ≤ MOST-NODES
 
 -- The start literals are those of a problem's start bits.
 pub record Started (x y : System) (gs ts : List ℕ) (p : Problem) : Type 0 where
@@ -141,13 +140,13 @@ pub record Started (x y : System) (gs ts : List ℕ) (p : Problem) : Type 0 wher
 -- The graph and the assumption of query 2 stand in w′.
 pub record Preserves (x y : System) (ms gs ts : List ℕ) (depth : ℕ) (w : List ℕ) (c : ℕ) (w′ : List ℕ) (m : ℕ) : Type 0 where
   pub ready : Ready c w′
-  pub small : c ≤ 65536
+  pub small : c ≤ MOST-NODES
   pub same : Same beyond w w′
   pub mismatch : m < c * 2
   pub is : (p : Problem) → Standing x y w p → Matched x y ms p → Started x y gs ts p
       → record { aig = graphOf c w′; assumptions = m ∷ []; comparisons = [] } ≡ basePreservesNamedState p depth
 
-module _ (x y : System) (ms gs ts : List ℕ) (used depth : ℕ) (w w₁ : List ℕ) (a : Preservable x y ms gs ts used depth w) (s : Same outside w w₁) (r : Ready 1 w₁) where
+module _ (x y : System) (ms gs ts : List ℕ) (depth : ℕ) (w w₁ : List ℕ) (a : Preservable x y ms gs ts depth w) (s : Same outside w w₁) (r : Ready 1 w₁) where
   -- the cycles may follow the empty graph
   pub startable-base : Startable ((depth + 1) * namedCost x y w₁) x y 1 w₁ gs ts
   startable-base =

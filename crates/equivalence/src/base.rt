@@ -75,21 +75,20 @@ pub fn named_state_cycles(
     base
 }
 
-// The graph of query 2 in cycles 0 to `depth` from the start literals, and its assumption; the graph before had `used` nodes.
+// The graph of query 2 in cycles 0 to `depth` from the start literals, and its assumption.
 pub fn base_preserves_named_state(
     gold: System,
     gate: System,
     matches: &[u32; 128],
     words: &mut [u32],
-    used: u32,
     gold_start: [u32; 128],
     gate_start: [u32; 128],
     depth: usize,
 ) -> Base
-    requires { ⌜ Preservable gold gate (now matches) «gold_start» «gate_start» used depth (now words) ⌝ }
+    requires { ⌜ Preservable gold gate (now matches) «gold_start» «gate_start» depth (now words) ⌝ }
     ensures { λ r. ⌜ Preserves gold gate (now (matches .entry)) «gold_start» «gate_start» depth (now (words .entry)) (r .aig .count) (now (words .exit)) (r .«any_mismatch» .0) ⌝ }
 {
-    let aig = Aig::new(words, used);
+    let aig = Aig::new(words);
     let start = Base {
         aig,
         gold_state: gold_start,

@@ -1,6 +1,7 @@
 // Query 1: base_counterexample of equivalence.rs up to the search, with the comparison of each cycle in FRAMES.
 ghost use Prim.Native.Nat.{_+_, _*_, _≤_, _<_};
 ghost use lib.ListN.{length};
+ghost use Rattle.words.specs.Layout.{LENT, SMALL};
 ghost use Rattle.unrolling.specs.Cycling.{Startable};
 ghost use Rattle.equivalence.specs.Rows.{KeptRow, KeptComparison};
 ghost use Rattle.equivalence.specs.Counterexample.{comparedCost, ComparedNext, ComparedLeft, Comparable, Compares};
@@ -12,12 +13,16 @@ use unrolling::cycle::Frames;
 use unrolling::cycle::compared_cycle;
 use unrolling::variables::at;
 use words::FRAMES;
+use words::GATE_OUTPUTS;
+use words::GOLD_OUTPUTS;
+use words::MISMATCH;
+use words::ROW;
 use words::SMALL;
 use words::stash;
 
 // The first `n` literals put into FRAMES from a place on.
 fn keep_row(words: &mut [u32], place: usize, literals: &[u32; 128], n: usize)
-    requires { ⌜ (8388608 ≤ length (now words)) × (n ≤ 128) × (place + n ≤ 65536) ⌝ }
+    requires { ⌜ (LENT ≤ length (now words)) × (n ≤ 128) × (place + n ≤ SMALL) ⌝ }
     ensures { λ _. ⌜ KeptRow place n (now (literals .entry)) (now (words .entry)) (now (words .exit)) ⌝ }
 {
     let mut i: usize = 0;
@@ -36,17 +41,17 @@ fn keep_comparison(
     input_count: usize,
     output_count: usize,
 )
-    requires { ⌜ (8388608 ≤ length (now words)) × (cycle ≤ 64) × («input_count» ≤ 128) × («output_count» ≤ 128) ⌝ }
+    requires { ⌜ (LENT ≤ length (now words)) × (cycle ≤ 64) × («input_count» ≤ 128) × («output_count» ≤ 128) ⌝ }
     ensures { λ _. ⌜ KeptComparison «input_count» «output_count» cycle (frames .inputs) (frames .«gold_outputs») (frames .«gate_outputs») (mismatch .0) (now (words .entry)) (now (words .exit)) ⌝ }
 {
-    let row = 512 * cycle;
+    let row = ROW * cycle;
     let inputs = frames.inputs;
     keep_row(words, row, &inputs, input_count);
     let gold_outputs = frames.gold_outputs;
-    keep_row(words, row + 128, &gold_outputs, output_count);
+    keep_row(words, row + GOLD_OUTPUTS, &gold_outputs, output_count);
     let gate_outputs = frames.gate_outputs;
-    keep_row(words, row + 256, &gate_outputs, output_count);
-    stash(words, FRAMES, SMALL, row + 384, mismatch.0);
+    keep_row(words, row + GATE_OUTPUTS, &gate_outputs, output_count);
+    stash(words, FRAMES, SMALL, row + MISMATCH, mismatch.0);
 }
 
 // One cycle of query 1: the outputs compared, their mismatch joined to those before, and the comparison kept.
@@ -106,20 +111,19 @@ pub fn counterexample_cycles(
     base
 }
 
-// The graph of query 1 in cycles 0 to `depth` from the start literals, its assumption, and the comparisons in FRAMES; the graph before had `used` nodes.
+// The graph of query 1 in cycles 0 to `depth` from the start literals, its assumption, and the comparisons in FRAMES.
 pub fn base_counterexample(
     gold: System,
     gate: System,
     words: &mut [u32],
-    used: u32,
     gold_start: [u32; 128],
     gate_start: [u32; 128],
     depth: usize,
 ) -> Base
-    requires { ⌜ Comparable gold gate «gold_start» «gate_start» used depth (now words) ⌝ }
+    requires { ⌜ Comparable gold gate «gold_start» «gate_start» depth (now words) ⌝ }
     ensures { λ r. ⌜ Compares gold gate «gold_start» «gate_start» depth (now (words .entry)) (r .aig .count) (now (words .exit)) (r .«any_mismatch» .0) ⌝ }
 {
-    let aig = Aig::new(words, used);
+    let aig = Aig::new(words);
     let start = Base {
         aig,
         gold_state: gold_start,

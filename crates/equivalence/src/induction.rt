@@ -2,6 +2,7 @@
 ghost use mathlib.Core.Path.{_≡_};
 ghost use Prim.Native.Nat.{suc, _+_, _*_, _≤_, _<_};
 ghost use lib.ListN.{length};
+ghost use Rattle.words.specs.Layout.{MOST-NODES};
 ghost use Rattle.model.specs.Equivalence.{assumed};
 ghost use Rattle.aig.specs.Graph.{graphOf};
 ghost use Rattle.aig.specs.Made.{Ready, Made};
@@ -38,7 +39,7 @@ pub fn cycle_mismatch(
     gate: &[u32; 128],
     n: usize,
 ) -> Built
-    requires { ⌜ Ready (proof .count) (now words) × (n ≤ 128) × (proof .count + (4 * n + 1) ≤ 65536) × (mismatch .0 < proof .count * 2) × Below (proof .count * 2) n (now gold) × MatchesBelow (proof .count * 2) n (now matches) (now gate) ⌝ }
+    requires { ⌜ Ready (proof .count) (now words) × (n ≤ 128) × (proof .count + (4 * n + 1) ≤ MOST-NODES) × (mismatch .0 < proof .count * 2) × Below (proof .count * 2) n (now gold) × MatchesBelow (proof .count * 2) n (now matches) (now gate) ⌝ }
     ensures { λ r. ⌜ Made (4 * n + 1) (proof .count) (now (words .entry)) (r .aig .count) (now (words .exit)) (r .literal .0) (joinNamed include n (now (matches .entry)) (now (gold .entry)) (now (gate .entry)) (record { aig = graphOf (proof .count) (now (words .entry)); literal = mismatch .0 })) ⌝ }
 {
     if !include {
@@ -134,7 +135,7 @@ pub fn free_product_state(
     words: &mut [u32],
     share: bool,
 ) -> Induction
-    requires { ⌜ Ready (proof .count) (now words) × (gold .«state_count» ≤ 128) × (gate .«state_count» ≤ 128) × (proof .count + (gold .«state_count» + gate .«state_count») ≤ 65536) × Below (gold .«state_count» + 1) (gate .«state_count») (now matches) ⌝ }
+    requires { ⌜ Ready (proof .count) (now words) × (gold .«state_count» ≤ 128) × (gate .«state_count» ≤ 128) × (proof .count + (gold .«state_count» + gate .«state_count») ≤ MOST-NODES) × Below (gold .«state_count» + 1) (gate .«state_count») (now matches) ⌝ }
     ensures { λ r. ⌜ Freed gold gate share (now (matches .entry)) (proof .count) (now (words .entry)) (r .aig .count) (now (words .exit)) (r .«gold_state») (r .«gate_state») × (length (r .assumptions) ≡ 128) ⌝ }
 {
     let made = new_variables(proof, words, gold.state_count);
@@ -152,21 +153,20 @@ pub fn free_product_state(
     }
 }
 
-// The graph of query 3 (named states included) or 4, with its `depth` + 1 assumptions; the graph before had `used` nodes.
+// The graph of query 3 (named states included) or 4, with its `depth` + 1 assumptions.
 pub fn induction_closes(
     gold: System,
     gate: System,
     gold_matches: &[u32; 128],
     gate_matches: &[u32; 128],
     words: &mut [u32],
-    used: u32,
     include: bool,
     depth: usize,
 ) -> Induction
-    requires { ⌜ Inducible gold gate (now «gold_matches») (now «gate_matches») used depth (now words) ⌝ }
+    requires { ⌜ Inducible gold gate (now «gold_matches») (now «gate_matches») depth (now words) ⌝ }
     ensures { λ r. ⌜ Induces gold gate (now («gold_matches» .entry)) (now («gate_matches» .entry)) include depth (now (words .entry)) (r .aig .count) (now (words .exit)) (r .assumptions) ⌝ }
 {
-    let aig = Aig::new(words, used);
+    let aig = Aig::new(words);
     let start = free_product_state(gold, gate, gate_matches, aig, words, include);
     induction_cycles(gold, gate, gold_matches, words, include, start, depth)
 }

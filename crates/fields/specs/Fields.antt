@@ -2,6 +2,7 @@
 use Prim.Native.Nat.{ℕ}
 use mathlib.Core.Bool.{Bool, not, _&&_}
 use lib.Dec.{eqb, leb}
+use Rattle.model.specs.Kinds.{inputKind, outputKind}
 use Rattle.model.specs.Names.{Name}
 use Rattle.model.specs.Record.{Step, got, refused, Reader, refuse, guard, code, listedKind}
 use Rattle.fields.specs.declared.Code.{Code}
@@ -30,7 +31,7 @@ placed i = mapStep (λ n. i)
 
 -- there is room for one more of this kind after so many Inputs and Outputs
 unfoldable pub roomFor : ℕ → ℕ → ℕ → Bool
-roomFor inputs outputs k = not (eqb k 0x00 && leb 64 inputs) && not (eqb k 0x11 && leb 64 outputs)
+roomFor inputs outputs k = not (eqb k inputKind && leb 64 inputs) && not (eqb k outputKind && leb 64 outputs)
 
 -- the kind byte, after so many Inputs and Outputs
 unfoldable pub kindAt : ℕ → ℕ → Reader ℕ

@@ -1,4 +1,15 @@
 // The fields of a record, each read at an offset. A refusal has its number and the offset of its field.
+pub mod kinds;
+
+use crate::kinds::AND;
+use crate::kinds::CONSTANT;
+use crate::kinds::INPUT;
+use crate::kinds::MUX;
+use crate::kinds::NOT;
+use crate::kinds::OR;
+use crate::kinds::OUTPUT;
+use crate::kinds::REGISTER_OUTPUT;
+use crate::kinds::XOR;
 ghost use mathlib.Core.Path.{_≡_};
 ghost use Prim.Native.Nat.{_+_, _≤_};
 ghost use lib.ListN.{length};
@@ -81,41 +92,41 @@ pub fn inputs_per_kind(kind: u8) -> u8
 fn is_listed(kind: u8) -> bool
     ensures { λ r. ⌜ r ≡ Record.listedKind kind ⌝ }
 {
-    if kind == 0x00 {
+    if kind == INPUT {
         return true;
     }
-    if kind == 0x01 {
+    if kind == CONSTANT {
         return true;
     }
-    if kind == 0x02 {
+    if kind == REGISTER_OUTPUT {
         return true;
     }
-    if kind == 0x10 {
+    if kind == NOT {
         return true;
     }
-    if kind == 0x11 {
+    if kind == OUTPUT {
         return true;
     }
-    if kind == 0x20 {
+    if kind == AND {
         return true;
     }
-    if kind == 0x21 {
+    if kind == OR {
         return true;
     }
-    if kind == 0x22 {
+    if kind == XOR {
         return true;
     }
-    kind == 0x30
+    kind == MUX
 }
 
 // Whether one more node of this kind keeps the Inputs and the Outputs at 64 or fewer.
 fn has_room(kind: u8, inputs: u32, outputs: u32) -> bool
     ensures { λ r. ⌜ r ≡ roomFor inputs outputs kind ⌝ }
 {
-    if kind == 0x00 {
+    if kind == INPUT {
         return inputs < 64;
     }
-    if kind == 0x11 {
+    if kind == OUTPUT {
         return outputs < 64;
     }
     true

@@ -2,6 +2,7 @@
 ghost use mathlib.Core.Path.{_≡_};
 ghost use Prim.Native.Nat.{_+_, _≤_, _<_};
 ghost use lib.ListN.{length};
+ghost use Rattle.words.specs.Layout.{LENT, IMPORTED};
 ghost use Rattle.words.specs.Region.{region};
 ghost use Rattle.model.specs.Equivalence.{remapLiteral};
 ghost use Rattle.import.specs.Importing.{Importable, Stepped, Importing, Sourced};
@@ -15,8 +16,8 @@ use words::wide;
 
 // A literal of the source, by the literals of its nodes.
 pub fn remap_literal(literal: Literal, words: &[u32]) -> Literal
-    requires { ⌜ 8388608 ≤ length (now words) ⌝ }
-    ensures { λ r. ⌜ r .0 ≡ remapLiteral (region 458752 (now (words .entry))) (literal .0) ⌝ }
+    requires { ⌜ LENT ≤ length (now words) ⌝ }
+    ensures { λ r. ⌜ r .0 ≡ remapLiteral (region IMPORTED (now (words .entry))) (literal .0) ⌝ }
 {
     let mapped = Literal(fetch(words, IMPORTED, SMALL, wide(literal.node())));
     if literal.inverted() {

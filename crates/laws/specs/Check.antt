@@ -6,8 +6,8 @@ pub mod Call
 pub mod Course
 pub mod Ending
 pub mod Meaning
-pub mod Sound
-pub mod Verdict
+pub mod Designs
+pub mod Records
 pub mod Replaying
 -- the limit of learned literals
 pub mod LargerLimit

@@ -1,4 +1,4 @@
--- k-induction over the plain run: it is sound, and the laws of demand 3 of any check that follows it. Assumes nothing.
+-- k-induction over the plain run: it is sound, and keeps what it says of swapped designs; chains; and what an accepted pair of records has. Assumes nothing.
 pub mod Sound
 pub mod Chain
 pub mod Swap

@@ -1,4 +1,4 @@
--- What is promised of the check and of replay, on one page and with nothing assumed. Every word here is of `model`, or of `Terms`, which adds a few definitions over `model` alone. `checkUnder limit` is the definition of the check under a limit of learned literals, as a refusal or a status and a depth; `checked` is it at document 01's limit 262,144; `check` is the call, with every number and every lent byte. Assumes nothing.
+-- What is promised of the check and of replay, on one page and with nothing assumed. Every word here is of `model`, or of `Terms`, which adds a few definitions over `model` alone. `checked` is the definition of the check of two records under a caller's options (maximum depth and limit of learned literals), as a refusal or a status and a depth; `check` is the call, to a depth D under the specification's limit 262,144, with every number and every lent byte; `checkDesigns` is the check of two designs, each from its own start bits. Assumes nothing.
 use Prim.Native.Nat.{ℕ, _≤_, _<_}
 use mathlib.Core.Path.{_≡_}
 use mathlib.Core.Logic.{_≢_, _⊎_, _↔_}
@@ -8,57 +8,60 @@ use mathlib.Core.Option.{none, some}
 use lib.ListN.{length, getD, drop, replicate}
 use lib.Ieee.{Float}
 use Rattle.model.specs.Answers.{Refusal, accepted, Status, Equivalent, NotEquivalent, GaveUp, statusNumber, acceptedAnswer}
+use Rattle.model.specs.Options.{Options, toDepth}
 use Rattle.model.specs.Names.{Name, memberName, namesOf}
 use Rattle.model.specs.Netlist.{Design, inputs, outputs}
+use Rattle.model.specs.Validate.{validate}
 use Rattle.model.specs.Run.{StoredBits, initialBits}
-use Rattle.model.specs.Pair.{Lent, both, readPair, inputsDiffer, outputsDiffer, checkRefusal, replayFault}
+use Rattle.model.specs.Pair.{Lent, both, readPair, inputsDiffer, outputsDiffer, proofNodes, checkRefusal, replayFault}
 use Rattle.model.specs.Replay.{replays, replay, stepsReplay}
-use Rattle.model.specs.Induction.{Query1, Says, SameOutputs, answered, Refuses, Sound, Checked, Chain, SwapLaw, ChainLaw, SelfLaw}
+use Rattle.model.specs.Induction.{Query1, Says, Begun, initially, SameOutputs, Chain, answered, Refuses, Sound, Checked, SwapLaw, ChainLaw, SelfLaw}
 use Rattle.model.specs.Literal.{Literal}
 use Rattle.model.specs.Aig.{Aig, evaluate, aigNodeValues}
 use Rattle.model.specs.Sat.{Solver, scoreZero, model, noModel, gaveUp, outOfFuel, encode, solve}
-use Rattle.model.specs.Transition.{fromNetlist}
 use Rattle.model.specs.Equivalence.{Problem, Query, ask}
 use Rattle.model.specs.Equivalence as Search
-use Rattle.model.specs.Check.{problemOf, checkDesigns, lentOf, learnedLimit, check, checkUnder, checked}
+use Rattle.model.specs.Check.{problemOf, checkDesigns, acceptedCheck, checkOutcome, lentOf, check, checked}
 use Rattle.laws.specs.Search.Limits.{give-up-needed}
-use Rattle.laws.specs.Terms.{Real, Called, TraceLeft, Yes, Settled, answerTotal, literalCount, Reached, GivesUp, QueryOf, Asks, StopsAt}
-use Rattle.laws.specs.Check.Call.{check-refuses, check-refused, check-cleared}
-use Rattle.laws.specs.Check.Self.{check-self}
-use Rattle.laws.specs.Check.Sound.{check-sound, check-swap, check-chain, check-replays}
-use Rattle.laws.specs.Check.Ending.{check-answers}
-use Rattle.laws.specs.Check.LargerLimit.{check-larger}
+use Rattle.laws.specs.Terms.{Real, Called, TraceLeft, Comparable, checkedDesigns, LargerLimit, Linked, JoinedDesigns, TraceGood, Yes, Settled, answerTotal, literalCount, Reached, GivesUp, QueryOf, Asks, StopsAt}
+use Rattle.laws.specs.Induction.Chain.{chain-outputs}
+use Rattle.laws.specs.Induction.Pairs.{comparable}
+use Rattle.laws.specs.Check.Call.{check-refuses, outcome-is, check-refused, check-cleared}
+use Rattle.laws.specs.Check.Self.{designs-self, check-self-depth, check-self}
+use Rattle.laws.specs.Check.Designs.{designs-sound, designs-said, designs-find, designs-equivalent, designs-trace, designs-swap, designs-chain}
+use Rattle.laws.specs.Check.Records.{check-sound, check-said, check-finds, check-equivalent, check-replays, check-swap, check-chain}
+use Rattle.laws.specs.Check.Ending.{designs-answer, check-answers}
+use Rattle.laws.specs.Check.LargerLimit.{designs-larger, check-larger}
 use Rattle.laws.specs.Check.Refusals.{check-real}
 use Rattle.laws.specs.Replay.{steps-replay}
-use Rattle.laws.specs.Check.Verdict.{check-answers-said, check-finds, check-equivalent, check-self-depth}
 use Rattle.laws.specs.Check.Replaying.{replay-rule, inputs-compared, outputs-compared}
-use Rattle.laws.specs.Check.Queries.{query-ends, query-refutes, query-evaluates, query-gives-up, query-total, no-model-no, model-yes, query-fits}
+use Rattle.laws.specs.Check.Queries.{query-ends, query-refutes, query-evaluates, query-gives-up, query-total, no-model-no, model-yes, query-size, query-fits}
 use Rattle.laws.specs.Check.GiveUp.{designs-give-up, call-gives-up}
 use Rattle.laws.specs.Check.Numbers.{called, call-checked, trace-left, trace-kept}
 use Rattle.laws.specs.Check.Demand3.{number-zero, call-joins, call-never, call-swap, call-swap-refused, call-self}
 
 -- ==== P1, demand 1: a pair of records of any content and length comes back with a numbered refusal or a verdict
 
--- refused exactly where one of document 01's refusals applies, with the first that does
-pub refused-exactly : (limit : ℕ) → Refuses (checkUnder limit)
-refused-exactly limit = check-refuses limit
+-- refused exactly where one of the specification's refusals applies, with the first that does
+pub refused-exactly : Refuses checked
+refused-exactly = check-refuses
 
 -- where none applies, a status and a depth are answered: no search is left unfinished
-pub else-answered : (limit : ℕ) (a b : List ℕ) (D : ℕ) (lent : Lent) → checkRefusal a b D lent ≡ none → (status : Status) × (d : ℕ) × (checkUnder limit a b D lent ≡ answered status d)
-else-answered limit = check-answers limit
+pub else-answered : (a b : List ℕ) (o : Options) (lent : Lent) → checkRefusal a b o lent ≡ none → (status : Status) × (d : ℕ) × (checked a b o lent ≡ answered status d)
+else-answered = check-answers
 
 -- every refusal has a number from 1 to 25
-pub refusal-numbered : (a b : List ℕ) (D : ℕ) (lent : Lent) (r : Refusal) → checkRefusal a b D lent ≡ some r → Real r
+pub refusal-numbered : (a b : List ℕ) (o : Options) (lent : Lent) (r : Refusal) → checkRefusal a b o lent ≡ some r → Real r
 refusal-numbered = check-real
 
 -- so the call answers number 0 exactly where no refusal applies
 pub number-zero-exactly : (a b : List ℕ) (D : ℕ) (trace words : List ℕ) (scores : List Float)
-    → (check a b D trace words scores .answer .number ≡ 0) ↔ (checkRefusal a b D (lentOf trace words scores) ≡ none)
+    → (check a b D trace words scores .answer .number ≡ 0) ↔ (checkRefusal a b (toDepth D) (lentOf trace words scores) ≡ none)
 number-zero-exactly = number-zero
 
 -- a refused call: the refusal's three numbers, the others 0, and every lent buffer as it was
 pub refusal-leaves-memory : (gold gate : List ℕ) (D : ℕ) (trace words : List ℕ) (scores : List Float) (r : Refusal)
-    → checkRefusal gold gate D (lentOf trace words scores) ≡ some r
+    → checkRefusal gold gate (toDepth D) (lentOf trace words scores) ≡ some r
     → check gold gate D trace words scores
     ≡ record {
       answer = record { number = r .number; side = r .side; place = r .place; status = 0; depth = 0; mismatch = 0; query = 0 };
@@ -70,18 +73,18 @@ refusal-leaves-memory = check-refused
 
 -- an accepted call leaves words and scores zero over their whole length
 pub acceptance-clears-memory : (gold gate : List ℕ) (D : ℕ) (trace words : List ℕ) (scores : List Float)
-    → checkRefusal gold gate D (lentOf trace words scores) ≡ none
+    → checkRefusal gold gate (toDepth D) (lentOf trace words scores) ≡ none
     → (check gold gate D trace words scores .words ≡ replicate (length words) 0)
     × (check gold gate D trace words scores .scores ≡ replicate (length scores) scoreZero)
 acceptance-clears-memory = check-cleared
 
 -- after status 1 the trace buffer begins with bytes that replay answers with yes at the mismatch answered, and all its other bytes stay
-pub call-leaves-trace : (a b : List ℕ) (D : ℕ) (trace words : List ℕ) (scores : List Float) → checkRefusal a b D (lentOf trace words scores) ≡ none
+pub call-leaves-trace : (a b : List ℕ) (D : ℕ) (trace words : List ℕ) (scores : List Float) → checkRefusal a b (toDepth D) (lentOf trace words scores) ≡ none
     → check a b D trace words scores .answer .status ≡ 1 → TraceLeft a b D trace words scores
 call-leaves-trace = trace-left
 
 -- after any other status every byte of the trace buffer stays
-pub call-keeps-trace : (a b : List ℕ) (D : ℕ) (trace words : List ℕ) (scores : List Float) → checkRefusal a b D (lentOf trace words scores) ≡ none
+pub call-keeps-trace : (a b : List ℕ) (D : ℕ) (trace words : List ℕ) (scores : List Float) → checkRefusal a b (toDepth D) (lentOf trace words scores) ≡ none
     → check a b D trace words scores .answer .status ≢ 1 → check a b D trace words scores .trace ≡ trace
 call-keeps-trace = trace-kept
 
@@ -98,33 +101,33 @@ outputs-as-sets = outputs-compared
 -- ==== P2, demand 2: the verdict is what k-induction over the plain run of the two designs says
 
 -- every status other than GaveUp, with its depth, is what k-induction says from the initial states
-pub status-is-said : (limit : ℕ) → Sound (checkUnder limit)
-status-is-said limit = check-sound limit
+pub status-is-said : Sound checked
+status-is-said = check-sound
 
 -- and what k-induction says is answered, unless the check gives up
-pub said-is-answered : (limit : ℕ) (a b : List ℕ) (D : ℕ) (lent : Lent) (gold gate : Design) → checkRefusal a b D lent ≡ none → readPair a b ≡ both gold gate
-    → (status : Status) (d : ℕ) → Says gold gate (initialBits gold) (initialBits gate) D status d
-    → (checkUnder limit a b D lent ≡ answered status d) ⊎ ((e : ℕ) × (checkUnder limit a b D lent ≡ answered GaveUp e))
-said-is-answered = check-answers-said
+pub said-is-answered : (a b : List ℕ) (o : Options) (lent : Lent) (gold gate : Design) → checkRefusal a b o lent ≡ none → readPair a b ≡ both gold gate
+    → (status : Status) (d : ℕ) → Says gold gate (initialBits gold) (initialBits gate) (o .depth) status d
+    → (checked a b o lent ≡ answered status d) ⊎ ((e : ℕ) × (checked a b o lent ≡ answered GaveUp e))
+said-is-answered = check-said
 
--- where the check does not give up, it says NotEquivalent exactly when some input sequence makes outputs differ in a cycle from 0 to D
-pub different-exactly : (limit : ℕ) (a b : List ℕ) (D : ℕ) (lent : Lent) (status : Status) (d : ℕ) → checkUnder limit a b D lent ≡ answered status d → status ≢ GaveUp
-    → (gold gate : Design) → readPair a b ≡ both gold gate → (status ≡ NotEquivalent) ↔ Query1 gold gate (initialBits gold) (initialBits gate) D
+-- where the check does not give up, it says NotEquivalent exactly when some input sequence makes outputs differ in a cycle from 0 to the maximum depth
+pub different-exactly : (a b : List ℕ) (o : Options) (lent : Lent) (status : Status) (d : ℕ) → checked a b o lent ≡ answered status d → status ≢ GaveUp
+    → (gold gate : Design) → readPair a b ≡ both gold gate → (status ≡ NotEquivalent) ↔ Query1 gold gate (initialBits gold) (initialBits gate) (o .depth)
 different-exactly = check-finds
 
 -- Equivalent: the outputs have the same names, and the same bits in every cycle of every input sequence, past any depth searched
-pub equivalent-never-differs : (limit : ℕ) (a b : List ℕ) (D : ℕ) (lent : Lent) (d : ℕ) → checkUnder limit a b D lent ≡ answered Equivalent d
-    → (gold gate : Design) → readPair a b ≡ both gold gate → SameOutputs gold gate
+pub equivalent-never-differs : (a b : List ℕ) (o : Options) (lent : Lent) (d : ℕ) → checked a b o lent ≡ answered Equivalent d
+    → (gold gate : Design) → readPair a b ≡ both gold gate → SameOutputs (initially gold) (initially gate)
 equivalent-never-differs = check-equivalent
 
 -- an accepted call answers number 0, with the status and the depth that k-induction says, or GaveUp
-pub call-is-said : (a b : List ℕ) (D : ℕ) (trace words : List ℕ) (scores : List Float) → checkRefusal a b D (lentOf trace words scores) ≡ none → Called a b D trace words scores
+pub call-is-said : (a b : List ℕ) (D : ℕ) (trace words : List ℕ) (scores : List Float) → checkRefusal a b (toDepth D) (lentOf trace words scores) ≡ none → Called a b D trace words scores
 call-is-said = called
 
 -- the numbers of an accepted call are what the laws above speak of
-pub call-is-checked : (a b : List ℕ) (D : ℕ) (trace words : List ℕ) (scores : List Float) → checkRefusal a b D (lentOf trace words scores) ≡ none
+pub call-is-checked : (a b : List ℕ) (D : ℕ) (trace words : List ℕ) (scores : List Float) → checkRefusal a b (toDepth D) (lentOf trace words scores) ≡ none
     → (status : Status) → check a b D trace words scores .answer .status ≡ statusNumber status
-    → checked a b D (lentOf trace words scores) ≡ answered status (check a b D trace words scores .answer .depth)
+    → checked a b (toDepth D) (lentOf trace words scores) ≡ answered status (check a b D trace words scores .answer .depth)
 call-is-checked = call-checked
 
 -- behind it, of each query that the check asks: its search ends
@@ -141,16 +144,14 @@ pub model-evaluates : (limit : ℕ) (p : Problem) (d k : ℕ) (q : Query) → Qu
     → (environment : ℕ → Bool) × (values ≡ aigNodeValues environment (q .aig)) × ((i : ℕ) → i < length (q .assumptions) → evaluate values (getD (q .assumptions) i 0) ≡ true)
 model-evaluates = query-evaluates
 
--- so no model means that the answer to its question is no
-pub none-means-no : (limit : ℕ) (a b : List ℕ) (D : ℕ) (lent : Lent) (gold gate : Design) → checkRefusal a b D lent ≡ none → readPair a b ≡ both gold gate
-    → (d k : ℕ) (q : Query) (w : QueryOf (problemOf (fromNetlist gold) (fromNetlist gate)) d k q) (n : ℕ) → ask limit q ≡ noModel n
-    → Asks gold gate (problemOf (fromNetlist gold) (fromNetlist gate)) d k q w → ⊥
+-- so, of comparable designs from any start bits, no model means that the answer to its question is no
+pub none-means-no : (limit : ℕ) (gold gate : Design) → Comparable gold gate → (s t : StoredBits)
+    → (d k : ℕ) (q : Query) (w : QueryOf (problemOf gold gate s t) d k q) (n : ℕ) → ask limit q ≡ noModel n → Asks gold gate s t d k q w → ⊥
 none-means-no = no-model-no
 
 -- and a model means yes
-pub model-means-yes : (limit : ℕ) (a b : List ℕ) (D : ℕ) (lent : Lent) (gold gate : Design) → checkRefusal a b D lent ≡ none → readPair a b ≡ both gold gate
-    → (d k : ℕ) (q : Query) (w : QueryOf (problemOf (fromNetlist gold) (fromNetlist gate)) d k q) (values : List Bool) (n : ℕ) → ask limit q ≡ model values n
-    → Asks gold gate (problemOf (fromNetlist gold) (fromNetlist gate)) d k q w
+pub model-means-yes : (limit : ℕ) (gold gate : Design) → Comparable gold gate → (s t : StoredBits)
+    → (d k : ℕ) (q : Query) (w : QueryOf (problemOf gold gate s t) d k q) (values : List Bool) (n : ℕ) → ask limit q ≡ model values n → Asks gold gate s t d k q w
 model-means-yes = model-yes
 
 -- ==== P3: GaveUp exactly by the counted steps
@@ -164,20 +165,20 @@ pub total-is-sum : (limit : ℕ) (p : Problem) (d k : ℕ) (q : Query) → Query
     → s .learned ≡ literalCount (drop (length (encode (q .aig) (q .assumptions) .clauses)) (s .clauses))
 total-is-sum = query-total
 
--- a whole check names depth d and query q exactly where every earlier query of its order was answered without deciding and query q at depth d so exceeds the limit
-pub check-gives-up-exactly : (limit : ℕ) (gold gate : Design) (D d q : ℕ)
-    → (checkDesigns limit gold gate D .verdict ≡ Search.GaveUp d q) ↔ StopsAt limit (problemOf (fromNetlist gold) (fromNetlist gate)) D d q
+-- a whole check, from any start bits, names depth d and query q exactly where every earlier query of its order was answered without deciding and query q at depth d so exceeds the limit
+pub check-gives-up-exactly : (o : Options) (gold gate : Design) (s t : StoredBits) (d q : ℕ)
+    → (checkDesigns o gold gate s t .verdict ≡ Search.GaveUp d q) ↔ StopsAt o (problemOf gold gate s t) d q
 check-gives-up-exactly = designs-give-up
 
 -- the same of the call: status 3, with that depth and that query, and the mismatch 0
 pub call-gives-up-exactly : (a b : List ℕ) (D : ℕ) (trace words : List ℕ) (scores : List Float) (gold gate : Design)
-    → checkRefusal a b D (lentOf trace words scores) ≡ none → readPair a b ≡ both gold gate
-    → (d q : ℕ) → (check a b D trace words scores .answer ≡ acceptedAnswer 3 d 0 q) ↔ StopsAt learnedLimit (problemOf (fromNetlist gold) (fromNetlist gate)) D d q
+    → checkRefusal a b (toDepth D) (lentOf trace words scores) ≡ none → readPair a b ≡ both gold gate
+    → (d q : ℕ) → (check a b D trace words scores .answer ≡ acceptedAnswer 3 d 0 q) ↔ StopsAt (toDepth D) (problemOf gold gate (initialBits gold) (initialBits gate)) d q
 call-gives-up-exactly = call-gives-up
 
 -- a larger limit changes no status and no depth but those of a give-up
-pub larger-limit : (limit larger : ℕ) → limit ≤ larger → (a b : List ℕ) (D : ℕ) (lent : Lent) (status : Status) (d : ℕ) → checkUnder limit a b D lent ≡ answered status d → status ≢ GaveUp
-    → checkUnder larger a b D lent ≡ answered status d
+pub larger-limit : (o larger : Options) → LargerLimit o larger → (a b : List ℕ) (lent : Lent) (status : Status) (d : ℕ) → checked a b o lent ≡ answered status d → status ≢ GaveUp
+    → checked a b larger lent ≡ answered status d
 larger-limit = check-larger
 
 -- and a query gives up only where it has to: under any larger limit that settles it, it learns more literals than the limit
@@ -187,14 +188,9 @@ gives-up-only-above = give-up-needed
 
 -- ==== P4 and P5, demand 3: lists of any length
 
--- lists of any length of two or more, neighbours checked Equivalent either way and to any depth: any two of the list show the same outputs in every cycle of every input sequence, and no check of them says NotEquivalent
-pub chain-law : (limit : ℕ) → ChainLaw (checkUnder limit)
-chain-law limit = check-chain limit
-
--- the same at document 01's limit
-pub call-chain-law : ChainLaw checked
-unfolding checked
-call-chain-law = chain-law learnedLimit
+-- lists of any length of two or more, neighbours checked Equivalent either way, each check with its own depth, limit and memory: any two of the list show the same outputs in every cycle of every input sequence, and no check of them says NotEquivalent
+pub chain-law : ChainLaw checked
+chain-law = check-chain
 
 -- in the call's numbers: a call that answers number 0 and status 0 joins its two records for the chain law
 pub equivalent-joins : (a b : List ℕ) (D : ℕ) (trace words : List ℕ) (scores : List Float) → check a b D trace words scores .answer .number ≡ 0
@@ -203,19 +199,14 @@ equivalent-joins = call-joins
 
 -- a call on any two records of a chain, if it answers number 0, does not answer status 1
 pub chain-never-different : (a b : List ℕ) (D : ℕ) (trace words : List ℕ) (scores : List Float) → check a b D trace words scores .answer .number ≡ 0
-    → (l : List (List ℕ)) → Chain checked l → List·Memᴰ a l → List·Memᴰ b l → check a b D trace words scores .answer .status ≢ 1
+    → (l : List (List ℕ)) → Chain (Checked checked) l → List·Memᴰ a l → List·Memᴰ b l → check a b D trace words scores .answer .status ≢ 1
 chain-never-different = call-never
 
 -- ==== P6 and P7, demand 3: swapped pairs
 
 -- a swapped pair: the same status and depth where neither check gives up, and refused where the first is
-pub swap-law : (limit : ℕ) → SwapLaw (checkUnder limit)
-swap-law limit = check-swap limit
-
--- the same at document 01's limit
-pub call-swap-law : SwapLaw checked
-unfolding checked
-call-swap-law = swap-law learnedLimit
+pub swap-law : SwapLaw checked
+swap-law = check-swap
 
 -- calls on a pair and on the swapped pair, to one depth, with buffers of the same lengths: the same status and depth, unless one gives up
 pub swap-keeps-numbers : (a b : List ℕ) (D : ℕ) (t w : List ℕ) (s : List Float) (t' w' : List ℕ) (s' : List Float) → lentOf t' w' s' ≡ lentOf t w s
@@ -232,13 +223,12 @@ swap-keeps-refusal = call-swap-refused
 -- ==== P8, demand 3: a design against itself
 
 -- a record against itself, where no refusal applies: Equivalent at depth 1
-pub self-law : (limit : ℕ) (a : List ℕ) (D : ℕ) (lent : Lent) → checkRefusal a a D lent ≡ none → checkUnder limit a a D lent ≡ answered Equivalent 1
+pub self-law : (a : List ℕ) (o : Options) (lent : Lent) → checkRefusal a a o lent ≡ none → checked a a o lent ≡ answered Equivalent 1
 self-law = check-self-depth
 
--- the same at document 01's limit
+-- so whatever a check of a record against itself answers is that
 pub call-self-law : SelfLaw checked
-unfolding checked
-call-self-law = check-self learnedLimit
+call-self-law = check-self
 
 -- a record against itself, not refused: status 0 at depth 1
 pub self-is-equivalent : (a : List ℕ) (D : ℕ) (t w : List ℕ) (s : List Float) → check a a D t w s .answer .number ≡ 0
@@ -253,9 +243,9 @@ pub replay-says-yes-exactly : (a b : List ℕ) (cycle : ℕ) (claim : List ℕ) 
 replay-says-yes-exactly = replay-rule
 
 -- the trace of NotEquivalent is not refused by replay, and the answer is yes
-pub trace-replays : (limit : ℕ) (a b : List ℕ) (D : ℕ) (lent : Lent) (gold gate : Design) (d m : ℕ) (bytes : List ℕ) → checkRefusal a b D lent ≡ none → readPair a b ≡ both gold gate
-    → checkDesigns limit gold gate D .verdict ≡ Search.NotEquivalent d m bytes → replay a b m bytes ≡ record { refusal = accepted; yes = true }
-trace-replays limit = check-replays limit
+pub trace-replays : (a b : List ℕ) (o : Options) (lent : Lent) (gold gate : Design) (d m : ℕ) (bytes : List ℕ) → checkRefusal a b o lent ≡ none → readPair a b ≡ both gold gate
+    → checkDesigns o gold gate (initialBits gold) (initialBits gate) .verdict ≡ Search.NotEquivalent d m bytes → replay a b m bytes ≡ record { refusal = accepted; yes = true }
+trace-replays = check-replays
 
 -- ==== P10 and P13: steps, and the size of the graphs
 
@@ -263,7 +253,74 @@ trace-replays limit = check-replays limit
 pub steps-are-replay : (gold gate : Design) (s t : StoredBits) (cycle : ℕ) (claim : List ℕ) → stepsReplay gold gate s t cycle claim ≡ replays gold gate s t cycle claim
 steps-are-replay = steps-replay
 
--- where no refusal applies, 23 among them, the graph of every query up to the maximum depth has at most 65,535 nodes
-pub graphs-fit : (limit : ℕ) (a b : List ℕ) (D : ℕ) (lent : Lent) (gold gate : Design) → checkRefusal a b D lent ≡ none → readPair a b ≡ both gold gate
-    → (d k : ℕ) (q : Query) → QueryOf (problemOf (fromNetlist gold) (fromNetlist gate)) d k q → d ≤ D → length (q .aig) ≤ 65535
+-- where no refusal applies, 23 among them, the graph of every query up to the maximum depth, from any start bits, has at most 65,535 nodes
+pub graphs-fit : (a b : List ℕ) (o : Options) (lent : Lent) (gold gate : Design) → checkRefusal a b o lent ≡ none → readPair a b ≡ both gold gate
+    → (s t : StoredBits) (d k : ℕ) (q : Query) → QueryOf (problemOf gold gate s t) d k q → d ≤ o .depth → length (q .aig) ≤ 65535
 graphs-fit = query-fits
+
+-- ==== the check of two designs, each from its own start bits: the laws of two records are these at the initial bits
+
+-- the designs of two records to which no refusal applies are comparable
+pub accepted-comparable : (a b : List ℕ) (o : Options) (lent : Lent) (gold gate : Design) → checkRefusal a b o lent ≡ none → readPair a b ≡ both gold gate → Comparable gold gate
+accepted-comparable = comparable
+
+-- and the outcome of their check is that of the designs from the initial bits
+pub outcome-of-designs : (a b : List ℕ) (o : Options) (lent : Lent) (gold gate : Design) → checkRefusal a b o lent ≡ none → readPair a b ≡ both gold gate
+    → checkOutcome a b o lent ≡ acceptedCheck (checkDesigns o gold gate (initialBits gold) (initialBits gate))
+outcome-of-designs = outcome-is
+
+-- a status and a depth are answered
+pub designs-answered : (o : Options) (gold gate : Design) (s t : StoredBits) → (status : Status) × (d : ℕ) × (checkedDesigns o gold gate s t ≡ answered status d)
+designs-answered = designs-answer
+
+-- every status other than GaveUp, with its depth, is what k-induction says from the start bits
+pub designs-status-is-said : (o : Options) (gold gate : Design) → Comparable gold gate → (s t : StoredBits) (status : Status) (d : ℕ)
+    → checkedDesigns o gold gate s t ≡ answered status d → status ≢ GaveUp → Says gold gate s t (o .depth) status d
+designs-status-is-said = designs-sound
+
+-- and what k-induction says is answered, unless the check gives up
+pub designs-said-is-answered : (o : Options) (gold gate : Design) → Comparable gold gate → (s t : StoredBits) (status : Status) (d : ℕ) → Says gold gate s t (o .depth) status d
+    → (checkedDesigns o gold gate s t ≡ answered status d) ⊎ ((e : ℕ) × (checkedDesigns o gold gate s t ≡ answered GaveUp e))
+designs-said-is-answered = designs-said
+
+-- NotEquivalent exactly when some input sequence makes outputs differ in a cycle from 0 to the maximum depth, unless the check gives up
+pub designs-different-exactly : (o : Options) (gold gate : Design) → Comparable gold gate → (s t : StoredBits) → 1 ≤ o .depth → (status : Status) (d : ℕ)
+    → checkedDesigns o gold gate s t ≡ answered status d → status ≢ GaveUp → (status ≡ NotEquivalent) ↔ Query1 gold gate s t (o .depth)
+designs-different-exactly = designs-find
+
+-- Equivalent: the same output names, and the same output bits in every cycle of every input sequence
+pub designs-equivalent-never-differ : (o : Options) (gold gate : Design) → Comparable gold gate → (s t : StoredBits) (d : ℕ)
+    → checkedDesigns o gold gate s t ≡ answered Equivalent d → SameOutputs (record { design = gold; start = s }) (record { design = gate; start = t })
+designs-equivalent-never-differ = designs-equivalent
+
+-- the trace of NotEquivalent replays yes from the start bits
+pub designs-trace-replays : (o : Options) (gold gate : Design) → Comparable gold gate → (s t : StoredBits) (d m : ℕ) (bytes : List ℕ)
+    → checkDesigns o gold gate s t .verdict ≡ Search.NotEquivalent d m bytes → (d ≤ o .depth) × TraceGood gold gate s t d m bytes
+designs-trace-replays = designs-trace
+
+-- a larger limit changes no verdict, trace and all, but a give-up
+pub designs-larger-limit : (o larger : Options) → LargerLimit o larger → (gold gate : Design) (s t : StoredBits) (status : Status) (d : ℕ)
+    → checkedDesigns o gold gate s t ≡ answered status d → status ≢ GaveUp → checkDesigns larger gold gate s t .verdict ≡ checkDesigns o gold gate s t .verdict
+designs-larger-limit = designs-larger
+
+-- the graph of a query of depth d has at most (d + 1) × F + R nodes
+pub designs-graphs-bounded : (gold gate : Design) → Comparable gold gate → (s t : StoredBits) (d k : ℕ) (q : Query) → QueryOf (problemOf gold gate s t) d k q → length (q .aig) ≤ proofNodes gold gate d
+designs-graphs-bounded = query-size
+
+-- swapped, each design with its own start bits: the same status and depth where neither check gives up
+pub designs-swap-law : (o : Options) (gold gate : Design) → Comparable gold gate → (s t : StoredBits) (p q : Status) (d e : ℕ)
+    → checkedDesigns o gold gate s t ≡ answered p d → checkedDesigns o gate gold t s ≡ answered q e → p ≢ GaveUp → q ≢ GaveUp → (p ≡ q) × (d ≡ e)
+designs-swap-law = designs-swap
+
+-- a valid design against itself, from the same start bits: Equivalent at depth 1
+pub designs-self-law : (o : Options) (d : Design) (s : StoredBits) → validate d ≡ none → 1 ≤ o .depth → checkedDesigns o d d s s ≡ answered Equivalent 1
+designs-self-law = designs-self
+
+-- links of any kind that give the same outputs: any two of a chain show the same outputs
+pub links-chain-law : (Link : Begun → Begun → Type 0) → ((a b : Begun) → Link a b → SameOutputs a b) → (l : List Begun) → Chain Link l
+    → (a b : Begun) → List·Memᴰ a l → List·Memᴰ b l → SameOutputs a b
+links-chain-law = chain-outputs
+
+-- links that are checks, each under its own options: any two of a chain are comparable and show the same outputs, and no check of them, whichever is gold, says NotEquivalent
+pub designs-chain-law : (l : List Begun) → Chain Linked l → (a b : Begun) → List·Memᴰ a l → List·Memᴰ b l → JoinedDesigns a b
+designs-chain-law = designs-chain

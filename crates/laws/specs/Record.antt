@@ -1,4 +1,5 @@
 -- Records: what the reader leaves, and what an accepted design has. Assumes nothing.
+pub mod Kinds
 pub mod Reader
 pub mod Ports
 pub mod Limits

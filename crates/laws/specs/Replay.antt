@@ -49,7 +49,7 @@ module _ (gold gate : Design) (s t : StoredBits) (cycle : ℕ) (claim : List ℕ
       ∙ ap (λ (r : Stepped). r .yes) (step-at cycle (omega arith))
       ∙ rw (eq-eqb cycle cycle refl)
 
--- ---- a yes, in document 01's words
+-- ---- a yes, in the specification's words
 
 -- the outputs agree in every earlier cycle
 module _ (gold gate : Design) (s t : StoredBits) (ins : InputSequence) where

@@ -1,27 +1,31 @@
--- The words of `Promises` that `model` does not have: what a give-up is, and what a call leaves. Definitions only, over `model` alone. Assumes nothing.
+-- The words of `Promises` that `model` does not have: which designs are compared and linked, what a give-up is, and what a call leaves. Definitions only, over `model` alone. Assumes nothing.
 use Prim.Native.Nat.{ℕ, suc, _+_, _*_, _≤_, _<_}
 use mathlib.Core.Path.{_≡_}
 use mathlib.Core.Logic.{_≢_, _⊎_}
 use mathlib.Core.Bool.{Bool, true, false, xor}
 use mathlib.Core.List.{List, [], _∷_, _++_}
+use mathlib.Core.Option.{none}
 use lib.ListN.{length, drop}
 use lib.Ieee.{Float}
 use Rattle.model.specs.Answers.{Refusal, accepted, Status, statusNumber, CheckAnswer}
 use Rattle.model.specs.Answers as Answers
-use Rattle.model.specs.Netlist.{Design, inputCount}
+use Rattle.model.specs.Options.{Options}
+use Rattle.model.specs.Names.{namesOf}
+use Rattle.model.specs.Netlist.{Design, inputs, outputs, inputCount}
+use Rattle.model.specs.Validate.{validate}
 use Rattle.model.specs.Run.{StoredBits, bitAt, outputsAt, initialBits}
-use Rattle.model.specs.Pair.{both, readPair}
-use Rattle.model.specs.Replay.{claimBit, claimInputs, differAt, replay}
-use Rattle.model.specs.Induction.{Says, Query1, Query2, Query3, Query4}
+use Rattle.model.specs.Pair.{traceLength, allBits, both, readPair}
+use Rattle.model.specs.Replay.{claimBit, claimInputs, differAt, replays, replay}
+use Rattle.model.specs.Induction.{Query1, Query2, Query3, Query4, Says, Begun, SameOutputs, Verdict, answered}
 use Rattle.model.specs.Literal.{Literal}
 use Rattle.model.specs.Aig.{Aig}
 use Rattle.model.specs.Sat.{Clause, Solver, decisionLevel, conflict, propagate, Analysis, resolved, analyze, Answer, model, noModel, gaveUp, outOfFuel, searching, step, start, encode}
 use Rattle.model.specs.Equivalence.{Problem, Query, baseCounterexample, basePreservesNamedState, inductionCloses, ask}
-use Rattle.model.specs.Check.{check}
+use Rattle.model.specs.Check.{problemOf, checkDesigns, check, verdictSays}
 
 -- ---- refusals, and the numbers of a call
 
--- a refusal with one of document 01's numbers
+-- a refusal with one of the specification's numbers
 pub record Real (r : Refusal) : Type 0 where
   pub low : 1 ≤ r .number
   pub high : r .number ≤ 25
@@ -49,7 +53,43 @@ pub record TraceLeft (a b : List ℕ) (D : ℕ) (trace words : List ℕ) (scores
   pub written : check a b D trace words scores .trace ≡ bytes ++ drop (length bytes) trace
   pub yes : replay a b (check a b D trace words scores .answer .mismatch) bytes ≡ record { refusal = accepted; yes = true }
 
+-- ---- two designs, each from its own start bits
+
+-- both designs are valid, with the same names of inputs and of outputs
+pub record Comparable (gold gate : Design) : Type 0 where
+  pub gold-valid : validate gold ≡ none
+  pub gate-valid : validate gate ≡ none
+  pub input-names : namesOf (inputs gold) ≡ namesOf (inputs gate)
+  pub output-names : namesOf (outputs gold) ≡ namesOf (outputs gate)
+
+-- what the check of two designs from their start bits says: a status and a depth
+abbrev pub checkedDesigns : Options → Design → Design → StoredBits → StoredBits → Verdict
+checkedDesigns o gold gate s t = verdictSays (checkDesigns o gold gate s t .verdict)
+
+-- the same is asked, under a limit that is as large or larger
+pub record LargerLimit (o larger : Options) : Type 0 where
+  pub depth : o .depth ≡ larger .depth
+  pub limit : o .limit ≤ larger .limit
+
+-- two begun designs are comparable, and were checked with the verdict Equivalent, either of them as gold, under options of the check's own
+pub data Linked (a b : Begun) : Type 0 where
+  gold-first : Comparable (a .design) (b .design) → (o : Options) (d : ℕ) → checkedDesigns o (a .design) (b .design) (a .start) (b .start) ≡ answered Answers.Equivalent d → Linked a b
+  gate-first : Comparable (a .design) (b .design) → (o : Options) (d : ℕ) → checkedDesigns o (b .design) (a .design) (b .start) (a .start) ≡ answered Answers.Equivalent d → Linked a b
+
+-- what holds of any two begun designs of a chain, whichever is named first: they are comparable, show the same outputs, and no check says NotEquivalent
+pub record JoinedDesigns (a b : Begun) : Type 0 where
+  pub comparable : Comparable (a .design) (b .design)
+  pub same : SameOutputs a b
+  pub never : (o : Options) (d : ℕ) → checkedDesigns o (a .design) (b .design) (a .start) (b .start) ≢ answered Answers.NotEquivalent d
+
 -- ---- replay
+
+-- a trace of cycles 0 to m, within depth d, that replays yes, with a byte, 0 or 1, for each input of each cycle and for each output
+pub record TraceGood (gold gate : Design) (s t : StoredBits) (d m : ℕ) (bytes : List ℕ) : Type 0 where
+  pub replay : replays gold gate s t m bytes ≡ true
+  pub early : m ≤ d
+  pub size : length bytes ≡ traceLength gold m
+  pub bits : allBits bytes ≡ true
 
 -- a yes: agreement before, exactly the marked differences in the claimed cycle, and at least one
 pub record Yes (gold gate : Design) (s t : StoredBits) (cycle : ℕ) (claim : List ℕ) : Type 0 where
@@ -111,12 +151,12 @@ pub data QueryOf (p : Problem) (d : ℕ) : ℕ → Query → Type 0 where
   query-3 : QueryOf p d 3 (inductionCloses p true d)
   query-4 : QueryOf p d 4 (inductionCloses p false d)
 
--- the question that a query asks, from the initial states
-abbrev pub Asks : (gold gate : Design) (p : Problem) (d k : ℕ) (q : Query) → QueryOf p d k q → Type 0
-Asks gold gate p d k q query-1 = Query1 gold gate (initialBits gold) (initialBits gate) d
-Asks gold gate p d k q query-2 = Query2 gold gate (initialBits gold) (initialBits gate) d
-Asks gold gate p d k q query-3 = Query3 gold gate d
-Asks gold gate p d k q query-4 = Query4 gold gate d
+-- the question that a query of two designs asks, from their start bits
+abbrev pub Asks : (gold gate : Design) (s t : StoredBits) (d k : ℕ) (q : Query) → QueryOf (problemOf gold gate s t) d k q → Type 0
+Asks gold gate s t d k q query-1 = Query1 gold gate s t d
+Asks gold gate s t d k q query-2 = Query2 gold gate s t d
+Asks gold gate s t d k q query-3 = Query3 gold gate d
+Asks gold gate s t d k q query-4 = Query4 gold gate d
 
 -- the query has no model
 abbrev pub NoModel : ℕ → Query → Type 0
@@ -149,8 +189,8 @@ pub data Stops (limit : ℕ) (p : Problem) (d : ℕ) : ℕ → Type 0 where
   at-query-4 : NoModel limit (baseCounterexample p d) → NamedOpen limit p d → Exceeds limit (inductionCloses p false d) → Stops limit p d 4
 
 -- the check gives up at depth d in query q: no depth before it decides, and there it stops
-pub record StopsAt (limit : ℕ) (p : Problem) (D d q : ℕ) : Type 0 where
+pub record StopsAt (o : Options) (p : Problem) (d q : ℕ) : Type 0 where
   pub low : 1 ≤ d
-  pub high : d ≤ D
-  pub passed : (e : ℕ) → 1 ≤ e → e < d → Passed limit p e
-  pub stops : Stops limit p d q
+  pub high : d ≤ o .depth
+  pub passed : (e : ℕ) → 1 ≤ e → e < d → Passed (o .limit) p e
+  pub stops : Stops (o .limit) p d q

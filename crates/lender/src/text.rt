@@ -172,33 +172,32 @@ pub fn begins(s: &[u8], word: &[u8]) -> bool {
     true
 }
 
-// The word `yes` or `no` to the end of the line: 1 or 0; `NOWHERE` comes next where neither stands there.
+// The offset after a word; `NOWHERE` where it does not stand here.
+fn after(s: &[u8], from: usize, word: &[u8]) -> usize {
+    if s.len() < from {
+        return NOWHERE;
+    }
+    let rest = &s[from..];
+    if rest.len() < word.len() {
+        return NOWHERE;
+    }
+    if begins(rest, word) {
+        return from + word.len();
+    }
+    NOWHERE
+}
+
+// The word `yes` or `no`: 1 or 0; `NOWHERE` comes next where neither stands here.
 pub fn yes_or_no(s: &[u8], from: usize) -> Decimal {
-    if s.len() <= from {
+    let yes = after(s, from, b"yes");
+    if yes != NOWHERE {
         return Decimal {
-            value: 0,
-            next: NOWHERE,
+            value: 1,
+            next: yes,
         };
-    }
-    let rest = s.len() - from;
-    if rest == 3 {
-        if at(s, from) == b'y' {
-            return Decimal {
-                value: 1,
-                next: s.len(),
-            };
-        }
-    }
-    if rest == 2 {
-        if at(s, from) == b'n' {
-            return Decimal {
-                value: 0,
-                next: s.len(),
-            };
-        }
     }
     Decimal {
         value: 0,
-        next: NOWHERE,
+        next: after(s, from, b"no"),
     }
 }

@@ -6,14 +6,17 @@ use Prim.Native.Nat.{ℕ, _*_, _≤_, _<_}
 use native.Mathlib.Omega.{arith}
 use lib.Dec.{eqb}
 use lib.ListN.{getD}
-use borrow.Author.Tests.{eq-eqb, ne-eqb}
+use borrow.Author.Tests.{ne-eqb}
+use Rattle.words.specs.Layout.{IMPORTED, NETS}
 use Rattle.words.specs.Region.{region}
-use Rattle.model.specs.Literal.{Literal, negate, constantLiteral}
+use Rattle.model.specs.Kinds.{inputKind, constantKind, registerOutputKind, notKind, outputKind, andKind, orKind, xorKind, muxKind, byKind}
+use Rattle.model.specs.Literal.{Literal, FALSE, negate, constantLiteral}
 use Rattle.model.specs.Aig.{Aig, Built, variable, and, or, xor, mux}
 use Rattle.model.specs.Names.{Name}
 use Rattle.model.specs.Netlist.{Node, Input, Constant, RegisterOutput, Not, Output, And, Or, Xor, Mux}
 use Rattle.model.specs.Record.{nodeOf}
 use Rattle.model.specs.Transition.{netLiteral}
+use Rattle.laws.specs.Record.Kinds.{by-kind}
 use Rattle.aig.specs.Made.{Ready, Made, made-none}
 use Rattle.aig.specs.Graph.{graphOf}
 
@@ -29,39 +32,36 @@ gateOf g nets (Or a b) = or g (netLiteral nets a) (netLiteral nets b)
 gateOf g nets (Xor a b) = xor g (netLiteral nets a) (netLiteral nets b)
 gateOf g nets (Mux c a b) = mux g (netLiteral nets c) (netLiteral nets a) (netLiteral nets b)
 
--- the same by the kind of a gate with two or three inputs
+-- FALSE, which needs no node
+abbrev pub noGate : Aig → Built
+noGate g = record { aig = g; literal = FALSE }
+
+-- the same by the kind of a gate with two or three inputs; FALSE for another kind
 unfoldable pub pairBy : Aig → List Literal → ℕ → ℕ → ℕ → ℕ → Built
 pairBy g nets k a b c =
-    cond (eqb k 0x20) (and g (netLiteral nets a) (netLiteral nets b))
-    (cond (eqb k 0x21) (or g (netLiteral nets a) (netLiteral nets b))
-    (cond (eqb k 0x22) (xor g (netLiteral nets a) (netLiteral nets b)) (mux g (netLiteral nets a) (netLiteral nets b) (netLiteral nets c))))
+    byKind k (noGate g) (noGate g) (noGate g) (noGate g) (noGate g)
+    (and g (netLiteral nets a) (netLiteral nets b))
+    (or g (netLiteral nets a) (netLiteral nets b))
+    (xor g (netLiteral nets a) (netLiteral nets b))
+    (mux g (netLiteral nets a) (netLiteral nets b) (netLiteral nets c))
+    (noGate g)
 
 -- the same by the kind of any node, its value and its input numbers
 unfoldable pub gateBy : Aig → List Literal → ℕ → ℕ → ℕ → ℕ → ℕ → Built
 gateBy g nets k v a b c =
-    cond (eqb k 0x00) (variable g)
-    (cond (eqb k 0x01) (record { aig = g; literal = constantLiteral (eqb v 1) })
-    (cond (eqb k 0x02) (variable g)
-    (cond (eqb k 0x10) (record { aig = g; literal = negate (netLiteral nets a) })
-    (cond (eqb k 0x11) (record { aig = g; literal = netLiteral nets a }) (pairBy g nets k a b c)))))
-
-at-cond : {A B : Type 0} (f : A → B) (t : Bool) (x y : A) (z : B) → f y ≡ z → f (cond t x y) ≡ cond t (f x) z
-at-cond f true x y z e = refl
-at-cond f false x y z e = e
+    byKind k (variable g) (record { aig = g; literal = constantLiteral (eqb v 1) }) (variable g)
+    (record { aig = g; literal = negate (netLiteral nets a) })
+    (record { aig = g; literal = netLiteral nets a })
+    (and g (netLiteral nets a) (netLiteral nets b))
+    (or g (netLiteral nets a) (netLiteral nets b))
+    (xor g (netLiteral nets a) (netLiteral nets b))
+    (mux g (netLiteral nets a) (netLiteral nets b) (netLiteral nets c))
+    (noGate g)
 
 -- the decoded node's gate
 pub gate-of : (g : Aig) (nets : List Literal) (k : ℕ) (n : Name) (v a b c : ℕ) → gateOf g nets (nodeOf k n v (a ∷ b ∷ c ∷ [])) ≡ gateBy g nets k v a b c
-unfolding gateOf gateBy pairBy nodeOf
-gate-of g nets k n v a b c =
-    let f : Node → Built = gateOf g nets in
-    at-cond f (eqb k 0x00) _ _ _
-    (at-cond f (eqb k 0x01) _ _ _
-    (at-cond f (eqb k 0x02) _ _ _
-    (at-cond f (eqb k 0x10) _ _ _
-    (at-cond f (eqb k 0x11) _ _ _
-    (at-cond f (eqb k 0x20) _ _ _
-    (at-cond f (eqb k 0x21) _ _ _
-    (at-cond f (eqb k 0x22) _ _ _ refl)))))))
+unfolding gateOf gateBy nodeOf constantLiteral
+gate-of g nets k n v a b c = by-kind (gateOf g nets) k _ _ _ _ _ _ _ _ _ _
 
 -- ---- nets that read alike
 
@@ -86,8 +86,8 @@ gate-alike g xs ys (Mux c a b) e = rw (e .at c, e .at a, e .at b)
 -- the words hold a graph of c nodes; the nets' literals and the state variables are of it
 pub record Netted (c : ℕ) (w : List ℕ) : Type 0 where
   pub ready : Ready c w
-  pub nets : (a : ℕ) → netLiteral (region 589824 w) a < c * 2
-  pub states : (k : ℕ) → getD (region 458752 w) k 0 < c * 2
+  pub nets : (a : ℕ) → netLiteral (region NETS w) a < c * 2
+  pub states : (k : ℕ) → getD (region IMPORTED w) k 0 < c * 2
 
 -- the same work with more room
 pub made-more : {k n : ℕ} {w : List ℕ} {n′ : ℕ} {w′ : List ℕ} {l : ℕ} {m : Built} (k′ : ℕ) → k ≤ k′ → Made k n w n′ w′ l m → Made k′ n w n′ w′ l m
@@ -98,50 +98,61 @@ made-more k′ h d =
 pub made-as : {k n : ℕ} {w : List ℕ} {n′ : ℕ} {w′ : List ℕ} {l : ℕ} {m m′ : Built} → m ≡ m′ → Made k n w n′ w′ l m → Made k n w n′ w′ l m′
 made-as e d = record { built = d .built ∙ e; ready = d .ready; same = d .same; grows = d .grows; within = d .within; below = d .below }
 
+-- ---- each kind's choice
+
 module _ (g : Aig) (nets : List Literal) (k a b c : ℕ) where
-  pub pair-and : k ≡ 0x20 → and g (netLiteral nets a) (netLiteral nets b) ≡ pairBy g nets k a b c
-  unfolding pairBy
-  pair-and e = rw (eq-eqb k 0x20 e)
+  pub pair-and : k ≡ andKind → and g (netLiteral nets a) (netLiteral nets b) ≡ pairBy g nets k a b c
+  unfolding pairBy byKind
+  pair-and e = rw e
 
-  pub pair-or : (k ≡ 0x20 → ⊥) → k ≡ 0x21 → or g (netLiteral nets a) (netLiteral nets b) ≡ pairBy g nets k a b c
-  unfolding pairBy
-  pair-or p e = rw (ne-eqb k 0x20 p, eq-eqb k 0x21 e)
+  pub pair-or : k ≡ orKind → or g (netLiteral nets a) (netLiteral nets b) ≡ pairBy g nets k a b c
+  unfolding pairBy byKind
+  pair-or e = rw e
 
-  pub pair-xor : (k ≡ 0x20 → ⊥) → (k ≡ 0x21 → ⊥) → k ≡ 0x22 → xor g (netLiteral nets a) (netLiteral nets b) ≡ pairBy g nets k a b c
-  unfolding pairBy
-  pair-xor p q e = rw (ne-eqb k 0x20 p, ne-eqb k 0x21 q, eq-eqb k 0x22 e)
+  pub pair-xor : k ≡ xorKind → xor g (netLiteral nets a) (netLiteral nets b) ≡ pairBy g nets k a b c
+  unfolding pairBy byKind
+  pair-xor e = rw e
 
-  pub pair-mux : (k ≡ 0x20 → ⊥) → (k ≡ 0x21 → ⊥) → (k ≡ 0x22 → ⊥) → mux g (netLiteral nets a) (netLiteral nets b) (netLiteral nets c) ≡ pairBy g nets k a b c
-  unfolding pairBy
-  pair-mux p q r = rw (ne-eqb k 0x20 p, ne-eqb k 0x21 q, ne-eqb k 0x22 r)
+  pub pair-mux : k ≡ muxKind → mux g (netLiteral nets a) (netLiteral nets b) (netLiteral nets c) ≡ pairBy g nets k a b c
+  unfolding pairBy byKind
+  pair-mux e = rw e
+
+  pub pair-none : (k ≡ andKind → ⊥) → (k ≡ orKind → ⊥) → (k ≡ xorKind → ⊥) → (k ≡ muxKind → ⊥) → noGate g ≡ pairBy g nets k a b c
+  unfolding pairBy byKind
+  pair-none p q r s =
+      let z = noGate g in
+      rw (ne-eqb k andKind p, ne-eqb k orKind q, ne-eqb k xorKind r, ne-eqb k muxKind s)
+      (either (eqb k inputKind) z _ (either (eqb k constantKind) z _ (either (eqb k registerOutputKind) z _ (either (eqb k notKind) z _ (either (eqb k outputKind) z _ refl)))))
+    where
+      either : (t : Bool) (x y : Built) → x ≡ y → x ≡ cond t x y
+      either true x y e = refl
+      either false x y e = e
 
 module _ (g : Aig) (nets : List Literal) (k v a b c : ℕ) where
-  pub gate-input : k ≡ 0 → variable g ≡ gateBy g nets k v a b c
-  unfolding gateBy
-  gate-input e = rw (eq-eqb k 0 e)
+  pub gate-input : k ≡ inputKind → variable g ≡ gateBy g nets k v a b c
+  unfolding gateBy byKind
+  gate-input e = rw e
 
-  module _ (p : k ≡ 0 → ⊥) where
-    pub gate-constant : k ≡ 1 → record { aig = g; literal = constantLiteral (eqb v 1) } ≡ gateBy g nets k v a b c
-    unfolding gateBy
-    gate-constant e = rw (ne-eqb k 0 p, eq-eqb k 1 e)
+  pub gate-constant : k ≡ constantKind → record { aig = g; literal = constantLiteral (eqb v 1) } ≡ gateBy g nets k v a b c
+  unfolding gateBy byKind
+  gate-constant e = rw e
 
-    module _ (q : k ≡ 1 → ⊥) where
-      pub gate-register : k ≡ 2 → variable g ≡ gateBy g nets k v a b c
-      unfolding gateBy
-      gate-register e = rw (ne-eqb k 0 p, ne-eqb k 1 q, eq-eqb k 2 e)
+  pub gate-register : k ≡ registerOutputKind → variable g ≡ gateBy g nets k v a b c
+  unfolding gateBy byKind
+  gate-register e = rw e
 
-      module _ (r : k ≡ 2 → ⊥) where
-        pub gate-not : k ≡ 0x10 → record { aig = g; literal = negate (netLiteral nets a) } ≡ gateBy g nets k v a b c
-        unfolding gateBy
-        gate-not e = rw (ne-eqb k 0 p, ne-eqb k 1 q, ne-eqb k 2 r, eq-eqb k 0x10 e)
+  pub gate-not : k ≡ notKind → record { aig = g; literal = negate (netLiteral nets a) } ≡ gateBy g nets k v a b c
+  unfolding gateBy byKind
+  gate-not e = rw e
 
-        pub gate-output : (k ≡ 0x10 → ⊥) → k ≡ 0x11 → record { aig = g; literal = netLiteral nets a } ≡ gateBy g nets k v a b c
-        unfolding gateBy
-        gate-output s e = rw (ne-eqb k 0 p, ne-eqb k 1 q, ne-eqb k 2 r, ne-eqb k 0x10 s, eq-eqb k 0x11 e)
+  pub gate-output : k ≡ outputKind → record { aig = g; literal = netLiteral nets a } ≡ gateBy g nets k v a b c
+  unfolding gateBy byKind
+  gate-output e = rw e
 
-        pub gate-pair : (k ≡ 0x10 → ⊥) → (k ≡ 0x11 → ⊥) → pairBy g nets k a b c ≡ gateBy g nets k v a b c
-        unfolding gateBy
-        gate-pair s t = rw (ne-eqb k 0 p, ne-eqb k 1 q, ne-eqb k 2 r, ne-eqb k 0x10 s, ne-eqb k 0x11 t)
+  -- the kinds with fewer inputs left out
+  pub gate-pair : (k ≡ inputKind → ⊥) → (k ≡ constantKind → ⊥) → (k ≡ registerOutputKind → ⊥) → (k ≡ notKind → ⊥) → (k ≡ outputKind → ⊥) → pairBy g nets k a b c ≡ gateBy g nets k v a b c
+  unfolding gateBy pairBy byKind
+  gate-pair p q r s t = rw (ne-eqb k inputKind p, ne-eqb k constantKind q, ne-eqb k registerOutputKind r, ne-eqb k notKind s, ne-eqb k outputKind t)
 
 -- a literal that needs no node
 pub made-literal : (c : ℕ) (w : List ℕ) (l : ℕ) (m : Built) → Netted c w → l < c * 2 → record { aig = graphOf c w; literal = l } ≡ m → Made 3 c w c w l m

@@ -1,7 +1,7 @@
 -- The walk over all nodes of a decoded design. Assumes nothing.
 use mathlib.Core.Path.{_≡_, refl, ap, _∙_}
-use mathlib.Core.Bool.{false}
-use mathlib.Core.List.{List, [], _∷_, _++_, map}
+use mathlib.Core.Bool.{Bool, true, false, cond}
+use mathlib.Core.List.{List, [], _∷_, _++_}
 use Prim.Native.Nat.{ℕ, suc, _+_, _*_, _≤_, _<_}
 use native.Mathlib.Omega.{arith}
 use native.Mathlib.Numerals.{add-one}
@@ -9,61 +9,59 @@ use lib.Dec.{eqb}
 use lib.ListN.{length, getD, take, set, length-take, length-map, List·getD-map}
 use lib.Seq.{take-suc, getD-take}
 use borrow.Author.Tests.{ne-eqb}
+use Rattle.words.specs.Layout.{SMALL, IMPORTED, NETS}
 use Rattle.words.specs.Region.{region}
 use Rattle.model.specs.Aig.{variable}
+use Rattle.model.specs.Kinds.{inputKind, constantKind, registerOutputKind, notKind, outputKind, andKind, orKind, xorKind, muxKind, byKind}
 use Rattle.model.specs.Names.{Name}
 use Rattle.model.specs.Netlist.{isRegisterOutput, Register, RegisterOutput}
 use Rattle.model.specs.Netlist as Model
 use Rattle.model.specs.Record.{nodeOf}
-use Rattle.model.specs.Validate.{driver}
 use Rattle.model.specs.Transition.{Lowering, driverReset, shown, lowerNode, lowerNodes, noNodes}
-use Rattle.facts.specs.Bools.{by-cond}
-use Rattle.struo_ir.specs.Decoded.{decodedNode, nameAt}
+use Rattle.laws.specs.Record.Kinds.{by-kind}
+use Rattle.struo_ir.specs.Decoded.{decodedNode, nameAt, decoded}
 use Rattle.struo_ir.specs.declared.netlist.Node.{Node}
-use Rattle.struo_ir.specs.declared.netlist.RegisterCell.{RegisterCell}
+use Rattle.struo_ir.specs.declared.netlist.Netlist.{Netlist}
+use Rattle.drivers.specs.Drivers.{driverBy}
 use Rattle.aig.specs.Graph.{graphOf}
 use Rattle.aig.specs.Made.{Same, same-refl, same-trans}
 use Rattle.lowering.specs.declared.resets.ResetCell.{ResetCell}
 use Rattle.lowering.specs.Gate.{gateBy, gate-of, Netted}
 use Rattle.lowering.specs.Walk.{Walked, elsewhere}
 use Rattle.lowering.specs.Step.{Entered, resetOf, walked-gate, walked-register}
-use Rattle.lowering.specs.Driver.{registersOf}
-
--- the nodes that the record's fields say
-abbrev pub nodesIn : List ℕ → ℕ → List Node → List Model.Node
-nodesIn s n nodes = map (decodedNode s) (take n nodes)
+use Rattle.lowering.specs.Driver.{Driven}
 
 -- ---- one node
 
--- From c nodes in w the walk took one node at net `net`, with `rc` of the registers `rs`.
-pub record Taken (node : Node) (rc : ℕ) (rs : List RegisterCell) (net c : ℕ) (w : List ℕ) (c′ : ℕ) (w′ : List ℕ) : Type 0 where
+-- From c nodes in w the walk took one node of the netlist at net `net`.
+pub record Taken (node : Node) (n : Netlist) (net c : ℕ) (w : List ℕ) (c′ : ℕ) (w′ : List ℕ) : Type 0 where
   pub netted : Netted c′ w′
   pub same : Same elsewhere w w′
   pub within : c′ ≤ c + 4
-  pub walked : (s : List ℕ) (l : Lowering) → Walked l net c w → Walked (lowerNode (registersOf s rc rs) l net (decodedNode s node)) (net + 1) c′ w′
+  pub walked : (s : List ℕ) (l : Lowering) → Walked l net c w → Walked (lowerNode (decoded s n .registers) l net (decodedNode s node)) (net + 1) c′ w′
 
-no-register : (k : ℕ) (n : Name) (v : ℕ) (ins : List ℕ) → (k ≡ 2 → ⊥) → isRegisterOutput (nodeOf k n v ins) ≡ false
-unfolding nodeOf isRegisterOutput
+-- a choice of false or what is false
+false-either : (t : Bool) {x : Bool} → x ≡ false → cond t false x ≡ false
+false-either true e = refl
+false-either false e = e
+
+no-register : (k : ℕ) (n : Name) (v : ℕ) (ins : List ℕ) → (k ≡ registerOutputKind → ⊥) → isRegisterOutput (nodeOf k n v ins) ≡ false
+unfolding nodeOf isRegisterOutput byKind
 no-register k n v ins e =
-    let P : Model.Node → Type 0 = λ x. isRegisterOutput x ≡ false in
-    rw (ne-eqb k 2 e)
-    (by-cond P {t = eqb k 0x00} (λ e. refl) (λ e.
-    by-cond P {t = eqb k 0x01} (λ e. refl) (λ e.
-    by-cond P {t = eqb k 0x10} (λ e. refl) (λ e.
-    by-cond P {t = eqb k 0x11} (λ e. refl) (λ e.
-    by-cond P {t = eqb k 0x20} (λ e. refl) (λ e.
-    by-cond P {t = eqb k 0x21} (λ e. refl) (λ e.
-    by-cond P {t = eqb k 0x22} (λ e. refl) (λ e. refl))))))))
+    by-kind isRegisterOutput k _ _ _ _ _ _ _ _ _ _
+    ∙ rw (ne-eqb k registerOutputKind e)
+    (false-either (eqb k inputKind) (false-either (eqb k constantKind) (false-either (eqb k notKind) (false-either (eqb k outputKind)
+    (false-either (eqb k andKind) (false-either (eqb k orKind) (false-either (eqb k xorKind) (false-either (eqb k muxKind) refl))))))))
 
-a-register : (k : ℕ) (n : Name) (v : ℕ) (ins : List ℕ) → k ≡ 2 → nodeOf k n v ins ≡ RegisterOutput
-unfolding nodeOf
+a-register : (k : ℕ) (n : Name) (v : ℕ) (ins : List ℕ) → k ≡ registerOutputKind → nodeOf k n v ins ≡ RegisterOutput
+unfolding nodeOf byKind
 a-register k n v ins e = rw e
 
-module _ (node : Node) (rc : ℕ) (rs : List RegisterCell) (net c c′ : ℕ) (w w′ : List ℕ) (before : Netted c w) (small : net < 65536) where
+module _ (node : Node) (n : Netlist) (net c c′ : ℕ) (w w′ : List ℕ) (before : Netted c w) (small : net < SMALL) where
   -- no register output
-  pub taken-gate : (node .kind ≡ 2 → ⊥)
-      → Entered 3 net c w c′ w′ (region 458752 w) (gateBy (graphOf c w) (region 589824 w) (node .kind) (node .detail) (node .first) (node .second) (node .third))
-      → Taken node rc rs net c w c′ w′
+  pub taken-gate : (node .kind ≡ registerOutputKind → ⊥)
+      → Entered 3 net c w c′ w′ (region IMPORTED w) (gateBy (graphOf c w) (region NETS w) (node .kind) (node .detail) (node .first) (node .second) (node .third))
+      → Taken node n net c w c′ w′
   unfolding decodedNode
   taken-gate h e =
       record {
@@ -71,25 +69,25 @@ module _ (node : Node) (rc : ℕ) (rs : List RegisterCell) (net c c′ : ℕ) (w
         same = e .same;
         within = omega (arith, e .within);
         walked = λ s l at.
-            walked-gate (registersOf s rc rs) l net c c′ w w′ 3 small (before .ready .long) at (decodedNode s node)
+            walked-gate (decoded s n .registers) l net c c′ w w′ 3 small (before .ready .long) at (decodedNode s node)
             (no-register (node .kind) (nameAt s (node .detail)) (node .detail) _ h)
-            (rw (← (gate-of (graphOf c w) (region 589824 w) (node .kind) (nameAt s (node .detail)) (node .detail) (node .first) (node .second) (node .third))) at e);
+            (rw (← (gate-of (graphOf c w) (region NETS w) (node .kind) (nameAt s (node .detail)) (node .detail) (node .first) (node .second) (node .third))) at e);
       }
 
   -- a register output
-  pub taken-register : (reset : ResetCell) → node .kind ≡ 2 → ((s : List ℕ) → resetOf reset ≡ driverReset (driver (registersOf s rc rs) net))
-      → Entered 4 net c w c′ w′ (set (region 458752 w) net (variable (graphOf c w) .literal))
-      (shown (variable (graphOf c w) .aig) (region 589824 w) (resetOf reset) (variable (graphOf c w) .literal))
-      → Taken node rc rs net c w c′ w′
+  pub taken-register : (reset : ResetCell) (entry : ℕ) → node .kind ≡ registerOutputKind → Driven n net entry → ((s : List ℕ) → resetOf reset ≡ driverReset (driverBy s (n .registers) entry))
+      → Entered 4 net c w c′ w′ (set (region IMPORTED w) net (variable (graphOf c w) .literal))
+      (shown (variable (graphOf c w) .aig) (region NETS w) (resetOf reset) (variable (graphOf c w) .literal))
+      → Taken node n net c w c′ w′
   unfolding decodedNode
-  taken-register reset h r e =
+  taken-register reset entry h d r e =
       record {
         netted = e .netted;
         same = e .same;
         within = omega (arith, e .within);
         walked = λ s l at.
             rw (a-register (node .kind) (nameAt s (node .detail)) (node .detail) (node .first ∷ node .second ∷ node .third ∷ []) h)
-            (walked-register (registersOf s rc rs) l net c c′ w w′ 4 small (before .ready .long) at (rw (r s) at e));
+            (walked-register (decoded s n .registers) l net c c′ w w′ 4 small (before .ready .long) at (rw (r s ∙ ap driverReset (d s)) at e));
       }
 
 -- ---- all nodes
@@ -102,20 +100,21 @@ lower-snoc rs l net (m ∷ ns) n =
     lower-snoc rs (lowerNode rs l net m) (suc net) ns n ∙ ap (λ (k : ℕ). lowerNode rs (lowerNodes rs (lowerNode rs l net m) (suc net) ns) k n) (omega arith)
 
 -- From c₀ nodes in w₀ the walk took the first i nodes.
-pub record Walking (n : ℕ) (nodes : List Node) (rc : ℕ) (rs : List RegisterCell) (c₀ : ℕ) (w₀ : List ℕ) (i c : ℕ) (w : List ℕ) : Type 0 where
+pub record Walking (n : Netlist) (c₀ : ℕ) (w₀ : List ℕ) (i c : ℕ) (w : List ℕ) : Type 0 where
   pub netted : Netted c w
   pub same : Same elsewhere w₀ w
   pub within : c ≤ c₀ + 4 * i
-  pub walked : (s : List ℕ) → Walked noNodes 0 c₀ w₀ → Walked (lowerNodes (registersOf s rc rs) noNodes 0 (take i (nodesIn s n nodes))) i c w
+  pub walked : (s : List ℕ) → Walked noNodes 0 c₀ w₀ → Walked (lowerNodes (decoded s n .registers) noNodes 0 (take i (decoded s n .nodes))) i c w
 
-module _ (n : ℕ) (nodes : List Node) (rc : ℕ) (rs : List RegisterCell) (c₀ : ℕ) (w₀ : List ℕ) where
-  pub walking-none : Netted c₀ w₀ → Walking n nodes rc rs c₀ w₀ 0 c₀ w₀
+module _ (n : Netlist) (c₀ : ℕ) (w₀ : List ℕ) where
+  pub walking-none : Netted c₀ w₀ → Walking n c₀ w₀ 0 c₀ w₀
   unfolding lowerNodes
   walking-none h = record { netted = h; same = same-refl elsewhere w₀; within = omega arith; walked = λ s at. at }
 
   -- one node more
-  pub walking-more : (i c c′ : ℕ) (w w′ : List ℕ) (d : Node) → i < n → n ≤ length nodes → Walking n nodes rc rs c₀ w₀ i c w → Taken (getD nodes i d) rc rs i c w c′ w′
-      → Walking n nodes rc rs c₀ w₀ (i + 1) c′ w′
+  pub walking-more : (i c c′ : ℕ) (w w′ : List ℕ) (d : Node) → i < n .«node_count» → n .«node_count» ≤ length (n .nodes) → Walking n c₀ w₀ i c w → Taken (getD (n .nodes) i d) n i c w c′ w′
+      → Walking n c₀ w₀ (i + 1) c′ w′
+  unfolding decoded
   walking-more i c c′ w w′ d h k a t =
       record {
         netted = t .netted;
@@ -124,16 +123,17 @@ module _ (n : ℕ) (nodes : List Node) (rc : ℕ) (rs : List RegisterCell) (c₀
         walked = λ s at. rw (step s) (t .walked s _ (a .walked s at));
       }
     where
-      step : (s : List ℕ) → lowerNodes (registersOf s rc rs) noNodes 0 (take (i + 1) (nodesIn s n nodes))
-          ≡ lowerNode (registersOf s rc rs) (lowerNodes (registersOf s rc rs) noNodes 0 (take i (nodesIn s n nodes))) i (decodedNode s (getD nodes i d))
+      step : (s : List ℕ) → lowerNodes (decoded s n .registers) noNodes 0 (take (i + 1) (decoded s n .nodes))
+          ≡ lowerNode (decoded s n .registers) (lowerNodes (decoded s n .registers) noNodes 0 (take i (decoded s n .nodes))) i (decodedNode s (getD (n .nodes) i d))
       step s =
-          let N : List Model.Node = nodesIn s n nodes in
+          let R : List Register = decoded s n .registers in
+          let N : List Model.Node = decoded s n .nodes in
           let m : i < length N = rw length-map (simp length-take (omega arith)) in
-          let p : take (i + 1) N ≡ take i N ++ (decodedNode s (getD nodes i d) ∷ []) =
+          let p : take (i + 1) N ≡ take i N ++ (decodedNode s (getD (n .nodes) i d) ∷ []) =
           rw add-one
           (take-suc N i (decodedNode s d) m
-          ∙ ap (λ (x : Model.Node). take i N ++ (x ∷ [])) (List·getD-map (decodedNode s) (take n nodes) i d ∙ ap (decodedNode s) (getD-take n nodes i d h))) in
+          ∙ ap (λ (x : Model.Node). take i N ++ (x ∷ [])) (List·getD-map (decodedNode s) (take (n .«node_count») (n .nodes)) i d ∙ ap (decodedNode s) (getD-take (n .«node_count») (n .nodes) i d h))) in
           let q : 0 + length (take i N) ≡ i = simp length-take (omega arith) in
-          ap (λ (x : List Model.Node). lowerNodes (registersOf s rc rs) noNodes 0 x) p
-          ∙ lower-snoc (registersOf s rc rs) noNodes 0 (take i N) (decodedNode s (getD nodes i d))
-          ∙ ap (λ (j : ℕ). lowerNode (registersOf s rc rs) (lowerNodes (registersOf s rc rs) noNodes 0 (take i N)) j (decodedNode s (getD nodes i d))) q
+          ap (λ (x : List Model.Node). lowerNodes R noNodes 0 x) p
+          ∙ lower-snoc R noNodes 0 (take i N) (decodedNode s (getD (n .nodes) i d))
+          ∙ ap (λ (j : ℕ). lowerNode R (lowerNodes R noNodes 0 (take i N)) j (decodedNode s (getD (n .nodes) i d))) q

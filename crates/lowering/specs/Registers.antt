@@ -9,6 +9,7 @@ use lib.Dec.{eqb}
 use lib.ListN.{length, getD, take, set, length-take, length-map, List·getD-map}
 use lib.Seq.{take-suc, take-suc-set, getD-take}
 use Rattle.facts.specs.Lists.{set-any}
+use Rattle.words.specs.Layout.{IMPORTED, NETS}
 use Rattle.words.specs.Region.{region}
 use Rattle.model.specs.Literal.{Literal, FALSE, node, constantLiteral}
 use Rattle.model.specs.Lists.{snoc, lookup}
@@ -16,8 +17,9 @@ use Rattle.model.specs.Aig.{Aig, Built, mux}
 use Rattle.model.specs.Netlist.{Enable, Reset, Register}
 use Rattle.model.specs.Record.{levelOf, bit}
 use Rattle.model.specs.Transition.{Lowering, Registers, StateBit, assertedLiteral, netLiteral, resetMux, enabled, resetNext, withState, lowerRegister, lowerRegisters}
-use Rattle.struo_ir.specs.Decoded.{decodedRegister, decodedEnable, decodedReset}
+use Rattle.struo_ir.specs.Decoded.{decodedRegister, decodedEnable, decodedReset, cellEnable, cellReset, decoded}
 use Rattle.struo_ir.specs.declared.netlist.RegisterCell.{RegisterCell}
+use Rattle.struo_ir.specs.declared.netlist.Netlist.{Netlist}
 use Rattle.aig.specs.Graph.{graphOf}
 use Rattle.aig.specs.Made.{Same, Made, outside, same-refl, same-trans}
 use Rattle.lowering.specs.declared.resets.ResetCell.{ResetCell}
@@ -25,21 +27,16 @@ use Rattle.lowering.specs.Firsts.{map-snoc}
 use Rattle.lowering.specs.Gate.{Netted, Alike}
 use Rattle.lowering.specs.Walk.{Walked}
 use Rattle.lowering.specs.Step.{resetOf, resetMuxBy, reset-alike, netted-made, by-code}
-use Rattle.lowering.specs.Driver.{registersOf}
 
 -- ---- the enable and the reset, by their fields
 
--- the enable that a register's fields say
-abbrev pub enableOf : RegisterCell → Option Enable
-enableOf r = decodedEnable (r .enable) (r .«enable_signal»)
-
 module _ (g : Aig) (nets : List Literal) (r : RegisterCell) (l state : Literal) where
-  pub enabled-always : r .enable ≡ 0 → record { aig = g; literal = l } ≡ enabled g nets (enableOf r) l state
-  unfolding enabled decodedEnable
+  pub enabled-always : r .enable ≡ 0 → record { aig = g; literal = l } ≡ enabled g nets (cellEnable r) l state
+  unfolding enabled cellEnable decodedEnable
   enabled-always e = rw e
 
-  pub enabled-when : 0 < r .enable → mux g (assertedLiteral (netLiteral nets (r .«enable_signal»)) (levelOf (r .enable))) l state ≡ enabled g nets (enableOf r) l state
-  unfolding enabled decodedEnable
+  pub enabled-when : 0 < r .enable → mux g (assertedLiteral (netLiteral nets (r .«enable_signal»)) (levelOf (r .enable))) l state ≡ enabled g nets (cellEnable r) l state
+  unfolding enabled cellEnable decodedEnable
   enabled-when h =
       by-code (λ (c : ℕ). mux g (assertedLiteral (netLiteral nets (r .«enable_signal»)) (levelOf c)) l state ≡ enabled g nets (decodedEnable c (r .«enable_signal»)) l state) (r .enable) h (λ k. refl)
 
@@ -76,16 +73,16 @@ pub record Registered (r : RegisterCell) (c : ℕ) (w : List ℕ) (c′ : ℕ) (
   pub within : c′ ≤ c + 6
   pub grows : c ≤ c′
   pub built : record { aig = graphOf c′ w′; literal = next }
-      ≡ nextOf (graphOf c w) (region 589824 w) (enableOf r) (r .«data») (decodedReset (r .reset) (r .«reset_signal») (r .«reset_kind») (r .«reset_value»)) (getD (region 458752 w) (r .output) 0)
-  pub is-variable : variable ≡ node (getD (region 458752 w) (r .output) 0)
+      ≡ nextOf (graphOf c w) (region NETS w) (cellEnable r) (r .«data») (cellReset r) (getD (region IMPORTED w) (r .output) 0)
+  pub is-variable : variable ≡ node (getD (region IMPORTED w) (r .output) 0)
   pub below : next < c′ * 2
 
 -- the enable's part, then the reset's
 pub registered : (r : RegisterCell) (reset : ResetCell) (c : ℕ) (w : List ℕ) (c₁ : ℕ) (w₁ : List ℕ) (l₁ c₂ : ℕ) (w₂ : List ℕ) (l₂ state variable : ℕ) → Netted c w
-    → state ≡ getD (region 458752 w) (r .output) 0 → variable ≡ node state
-    → resetOf reset ≡ decodedReset (r .reset) (r .«reset_signal») (r .«reset_kind») (r .«reset_value»)
-    → Made 3 c w c₁ w₁ l₁ (enabled (graphOf c w) (region 589824 w) (enableOf r) (netLiteral (region 589824 w) (r .«data»)) state)
-    → Made 3 c₁ w₁ c₂ w₂ l₂ (resetNext (record { aig = graphOf c₁ w₁; literal = l₁ }) (region 589824 w₁) (resetOf reset))
+    → state ≡ getD (region IMPORTED w) (r .output) 0 → variable ≡ node state
+    → resetOf reset ≡ cellReset r
+    → Made 3 c w c₁ w₁ l₁ (enabled (graphOf c w) (region NETS w) (cellEnable r) (netLiteral (region NETS w) (r .«data»)) state)
+    → Made 3 c₁ w₁ c₂ w₂ l₂ (resetNext (record { aig = graphOf c₁ w₁; literal = l₁ }) (region NETS w₁) (resetOf reset))
     → Registered r c w c₂ w₂ l₂ variable
 unfolding nextOf
 registered r reset c w c₁ w₁ l₁ c₂ w₂ l₂ state variable n s v q d e =
@@ -94,7 +91,7 @@ registered r reset c w c₁ w₁ l₁ c₂ w₂ l₂ state variable n s v q d e 
       same = same-trans (d .same) (e .same);
       within = omega (arith, d .within, e .within);
       grows = omega (arith, d .grows, e .grows);
-      built = e .built ∙ rw (d .same .at 589824 refl, ← q, ← s) (ap (λ (m : Built). resetNext m (region 589824 w) (resetOf reset)) (d .built));
+      built = e .built ∙ rw (d .same .at NETS refl, ← q, ← s) (ap (λ (m : Built). resetNext m (region NETS w) (resetOf reset)) (d .built));
       is-variable = rw (← s) v;
       below = e .below;
     }
@@ -133,16 +130,16 @@ abbrev pub noStates : Lowering → Registers
 noStates l = record { aig = l .aig; states = [] }
 
 -- From c₀ nodes in w₀ the first i registers were lowered.
-pub record Registering (n : ℕ) (rs : List RegisterCell) (c₀ : ℕ) (w₀ : List ℕ) (i c : ℕ) (w : List ℕ) (next variable : List ℕ) : Type 0 where
+pub record Registering (n : Netlist) (c₀ : ℕ) (w₀ : List ℕ) (i c : ℕ) (w : List ℕ) (next variable : List ℕ) : Type 0 where
   pub netted : Netted c w
   pub same : Same outside w₀ w
   pub within : c ≤ c₀ + 6 * i
   pub grows : c₀ ≤ c
   pub below : (k : ℕ) → getD next k 0 < c * 2
-  pub held : (s : List ℕ) (l : Lowering) (net : ℕ) → Walked l net c₀ w₀ → Held (lowerRegisters l (noStates l) (take i (registersOf s n rs))) i c w next variable
+  pub held : (s : List ℕ) (l : Lowering) (net : ℕ) → Walked l net c₀ w₀ → Held (lowerRegisters l (noStates l) (take i (decoded s n .registers))) i c w next variable
 
-module _ (n : ℕ) (rs : List RegisterCell) (c₀ : ℕ) (w₀ : List ℕ) where
-  pub registering-none : (next variable : List ℕ) → Netted c₀ w₀ → ((k : ℕ) → getD next k 0 ≡ 0) → Registering n rs c₀ w₀ 0 c₀ w₀ next variable
+module _ (n : Netlist) (c₀ : ℕ) (w₀ : List ℕ) where
+  pub registering-none : (next variable : List ℕ) → Netted c₀ w₀ → ((k : ℕ) → getD next k 0 ≡ 0) → Registering n c₀ w₀ 0 c₀ w₀ next variable
   unfolding lowerRegisters
   registering-none next variable h z =
       record {
@@ -154,39 +151,39 @@ module _ (n : ℕ) (rs : List RegisterCell) (c₀ : ℕ) (w₀ : List ℕ) where
         held = λ s l net at. record { graph = at .graph; next-are = refl; variables-are = refl };
       }
 
-  module _ (i c c′ : ℕ) (w w′ : List ℕ) (next variable : List ℕ) (l v : ℕ) (d : RegisterCell) (h : i < n) (k : n ≤ length rs) (hn : i < length next) (hv : i < length variable)
-      (a : Registering n rs c₀ w₀ i c w next variable) (t : Registered (getD rs i d) c w c′ w′ l v) where
-    step : (s : List ℕ) (low : Lowering) → lowerRegisters low (noStates low) (take (i + 1) (registersOf s n rs))
-        ≡ lowerRegister (low .nets) (lowerRegisters low (noStates low) (take i (registersOf s n rs))) (decodedRegister s (getD rs i d)) (lookup FALSE (low .stateVariables) (getD rs i d .output))
-    unfolding decodedRegister
+  module _ (i c c′ : ℕ) (w w′ : List ℕ) (next variable : List ℕ) (l v : ℕ) (d : RegisterCell) (h : i < n .«register_count») (k : n .«register_count» ≤ length (n .registers)) (hn : i < length next) (hv : i < length variable)
+      (a : Registering n c₀ w₀ i c w next variable) (t : Registered (getD (n .registers) i d) c w c′ w′ l v) where
+    step : (s : List ℕ) (low : Lowering) → lowerRegisters low (noStates low) (take (i + 1) (decoded s n .registers))
+        ≡ lowerRegister (low .nets) (lowerRegisters low (noStates low) (take i (decoded s n .registers))) (decodedRegister s (getD (n .registers) i d)) (lookup FALSE (low .stateVariables) (getD (n .registers) i d .output))
+    unfolding decodedRegister decoded
     step s low =
-        let R : List Register = registersOf s n rs in
+        let R : List Register = decoded s n .registers in
         let m : i < length R = rw length-map (simp length-take (omega arith)) in
-        let p : take (i + 1) R ≡ take i R ++ (decodedRegister s (getD rs i d) ∷ []) =
+        let p : take (i + 1) R ≡ take i R ++ (decodedRegister s (getD (n .registers) i d) ∷ []) =
         rw add-one
         (take-suc R i (decodedRegister s d) m
-        ∙ ap (λ (x : Register). take i R ++ (x ∷ [])) (List·getD-map (decodedRegister s) (take n rs) i d ∙ ap (decodedRegister s) (getD-take n rs i d h))) in
-        ap (λ (x : List Register). lowerRegisters low (noStates low) x) p ∙ lower-more low (noStates low) (take i R) (decodedRegister s (getD rs i d))
+        ∙ ap (λ (x : Register). take i R ++ (x ∷ [])) (List·getD-map (decodedRegister s) (take (n .«register_count») (n .registers)) i d ∙ ap (decodedRegister s) (getD-take (n .«register_count») (n .registers) i d h))) in
+        ap (λ (x : List Register). lowerRegisters low (noStates low) x) p ∙ lower-more low (noStates low) (take i R) (decodedRegister s (getD (n .registers) i d))
 
     -- what the model makes of the register
     made : (s : List ℕ) (low : Lowering) (net : ℕ) → Walked low net c₀ w₀
         → record { aig = graphOf c′ w′; literal = l }
-        ≡ nextOf (lowerRegisters low (noStates low) (take i (registersOf s n rs)) .aig) (low .nets) (decodedRegister s (getD rs i d) .enable) (getD rs i d .«data»)
-        (decodedRegister s (getD rs i d) .reset) (lookup FALSE (low .stateVariables) (getD rs i d .output))
-    unfolding decodedRegister
+        ≡ nextOf (lowerRegisters low (noStates low) (take i (decoded s n .registers)) .aig) (low .nets) (decodedRegister s (getD (n .registers) i d) .enable) (getD (n .registers) i d .«data»)
+        (decodedRegister s (getD (n .registers) i d) .reset) (lookup FALSE (low .stateVariables) (getD (n .registers) i d .output))
+    unfolding decodedRegister cellEnable cellReset
     made s low net at =
         t .built
-        ∙ rw (a .same .at 589824 refl, a .same .at 458752 refl, at .states (getD rs i d .output), a .held s low net at .graph)
-        (next-alike _ (region 589824 w₀) (low .nets) _ _ _ _ (at .nets))
+        ∙ rw (a .same .at NETS refl, a .same .at IMPORTED refl, at .states (getD (n .registers) i d .output), a .held s low net at .graph)
+        (next-alike _ (region NETS w₀) (low .nets) _ _ _ _ (at .nets))
 
-    state-is : (s : List ℕ) (low : Lowering) (net : ℕ) → Walked low net c₀ w₀ → v ≡ node (lookup FALSE (low .stateVariables) (getD rs i d .output))
-    state-is s low net at = t .is-variable ∙ rw (a .same .at 458752 refl, at .states (getD rs i d .output))
+    state-is : (s : List ℕ) (low : Lowering) (net : ℕ) → Walked low net c₀ w₀ → v ≡ node (lookup FALSE (low .stateVariables) (getD (n .registers) i d .output))
+    state-is s low net at = t .is-variable ∙ rw (a .same .at IMPORTED refl, at .states (getD (n .registers) i d .output))
 
     now-held : (s : List ℕ) (low : Lowering) (net : ℕ) → Walked low net c₀ w₀
-        → Held (lowerRegisters low (noStates low) (take (i + 1) (registersOf s n rs))) (i + 1) c′ w′ (set next i l) (set variable i v)
+        → Held (lowerRegisters low (noStates low) (take (i + 1) (decoded s n .registers))) (i + 1) c′ w′ (set next i l) (set variable i v)
     unfolding lowerRegister withState nextOf decodedRegister
     now-held s low net at =
-        let g : Registers = lowerRegisters low (noStates low) (take i (registersOf s n rs)) in
+        let g : Registers = lowerRegisters low (noStates low) (take i (decoded s n .registers)) in
         let p = a .held s low net at in
         let m = made s low net at in
         rw (step s low)
@@ -197,7 +194,7 @@ module _ (n : ℕ) (rs : List RegisterCell) (c₀ : ℕ) (w₀ : List ℕ) where
         })
 
     -- one register more
-    pub registering-more : Registering n rs c₀ w₀ (i + 1) c′ w′ (set next i l) (set variable i v)
+    pub registering-more : Registering n c₀ w₀ (i + 1) c′ w′ (set next i l) (set variable i v)
     registering-more =
         record {
           netted = t .netted;

@@ -9,28 +9,29 @@ use lib.ListN.{length, getD, take, set, length-take, length-map, List·getD-eq-d
 use lib.Seq.{getD-set-other, getD-set-same, take-all}
 use borrow.Author.Tests.{eqb-true, eqb-false, ltb-true, ltb-false}
 use Rattle.facts.specs.Bools.{and-both}
+use Rattle.words.specs.Layout.{LENT, SMALL, MOST-NODES, GRAPH-LHS, GRAPH-RHS, AND-NEXT, GOLD-LHS, GATE-LHS, IMPORTED, NETS, AND-HEADS}
 use Rattle.words.specs.Fill.{filled, getD-filled, length-filled}
 use Rattle.words.specs.Region.{region, apart, sizeOf, stored, cleared, stores, stored-in, stored-out, length-region}
 use Rattle.model.specs.Lists.{lookup}
 use Rattle.model.specs.Aig.{new}
 use Rattle.model.specs.Transition.{Lowering, Registers, netLiteral, lowerNodes, lowerRegisters, noNodes, systemOf, withRegisters, fromNetlist}
 use Rattle.struo_ir.specs.Decoded.{decoded}
+use Rattle.struo_ir.specs.Designs.{Sized}
 use Rattle.struo_ir.specs.declared.netlist.Netlist.{Netlist}
 use Rattle.aig.specs.Graph.{graphAt, graphOf, Ordered, nodes-agree, ordered-agree}
-use Rattle.aig.specs.Made.{Ready, Same, outside, same-refl, same-trans, HeadsBelow}
+use Rattle.aig.specs.Made.{Ready, Same, outside, same-refl, same-trans}
 use Rattle.aig.specs.Side.{side-size, side-above, side-after, side-under, side-before}
 use Rattle.lowering.specs.Gate.{Netted, Alike}
 use Rattle.lowering.specs.Walk.{Walked, elsewhere}
 use Rattle.lowering.specs.Step.{elsewhere-parts, same-elsewhere}
-use Rattle.lowering.specs.Driver.{registersOf}
-use Rattle.lowering.specs.Nodes.{Walking, nodesIn}
+use Rattle.lowering.specs.Nodes.{Walking}
 use Rattle.lowering.specs.Registers.{Held, Registering, noStates, nexts, variables}
 
 -- ---- the start
 
 -- the words of the nets and the state variables cleared
 abbrev pub wiped : List ℕ → List ℕ
-wiped w = cleared 458752 (cleared 589824 w 65536) 65536
+wiped w = cleared IMPORTED (cleared NETS w SMALL) SMALL
 
 -- the walk may begin: node 0 alone, every net FALSE, no state variable
 pub record Started (w₀ w : List ℕ) : Type 0 where
@@ -38,23 +39,20 @@ pub record Started (w₀ w : List ℕ) : Type 0 where
   pub walked : Walked noNodes 0 1 w
   pub same : Same elsewhere w₀ w
 
-zeroes : (xs : List ℕ) (a : ℕ) → length xs ≡ 65536 → getD (filled 0 65536 xs) a 0 ≡ 0
-zeroes xs a e = go (ltb a 65536) refl
+zeroes : (xs : List ℕ) (a : ℕ) → length xs ≡ SMALL → getD (filled 0 SMALL xs) a 0 ≡ 0
+zeroes xs a e = go (ltb a SMALL) refl
   where
-    go : (t : Bool) → ltb a 65536 ≡ t → getD (filled 0 65536 xs) a 0 ≡ 0
-    go true f = getD-filled 0 65536 xs a (ltb-true a 65536 f)
-    go false f = List·getD-eq-default (filled 0 65536 xs) 0 (rw length-filled (omega (arith, ltb-false a 65536 f)))
+    go : (t : Bool) → ltb a SMALL ≡ t → getD (filled 0 SMALL xs) a 0 ≡ 0
+    go true f = getD-filled 0 SMALL xs a (ltb-true a SMALL f)
+    go false f = List·getD-eq-default (filled 0 SMALL xs) 0 (rw length-filled (omega (arith, ltb-false a SMALL f)))
 
-pub heads-wiped : (used : ℕ) (w : List ℕ) → HeadsBelow used w → HeadsBelow used (wiped w)
-heads-wiped used w h = record { none-past = λ r k. simp stores (h .none-past r k) }
-
-pub started : (w₀ w : List ℕ) → 8388608 ≤ length w₀ → graphOf 1 w ≡ new → Ready 1 w → Same outside (wiped w₀) w → Started w₀ w
+pub started : (w₀ w : List ℕ) → LENT ≤ length w₀ → graphOf 1 w ≡ new → Ready 1 w → Same outside (wiped w₀) w → Started w₀ w
 unfolding netLiteral lookup noNodes
 started w₀ w long g r s =
-    let nets : (a : ℕ) → getD (region 589824 w) a 0 ≡ 0 =
-    λ a. rw (s .at 589824 refl) (simp stores (zeroes (region 589824 w₀) a (length-region 589824 w₀ (omega arith)))) in
-    let states : (k : ℕ) → getD (region 458752 w) k 0 ≡ 0 =
-    λ k. rw (s .at 458752 refl) (simp stores (zeroes (region 458752 w₀) k (length-region 458752 w₀ (omega arith)))) in
+    let nets : (a : ℕ) → getD (region NETS w) a 0 ≡ 0 =
+    λ a. rw (s .at NETS refl) (simp stores (zeroes (region NETS w₀) a (length-region NETS w₀ (omega arith)))) in
+    let states : (k : ℕ) → getD (region IMPORTED w) k 0 ≡ 0 =
+    λ k. rw (s .at IMPORTED refl) (simp stores (zeroes (region IMPORTED w₀) k (length-region IMPORTED w₀ (omega arith)))) in
     record {
       netted = record { ready = r; nets = λ a. rw (nets a) (omega arith); states = λ k. rw (states k) (omega arith) };
       walked = record { graph = g; nets = record { at = nets }; count = refl; states = states; fresh = λ k h z. refl };
@@ -65,37 +63,37 @@ started w₀ w long g r s =
 
 -- the region at b is none of the side's two
 abbrev pub offSide : ℕ → ℕ → Bool
-offSide base b = apart b base && apart b (base + 65536)
+offSide base b = apart b base && apart b (base + SMALL)
 
 -- the words after node i of the proof graph was copied to the side at `base`
 abbrev pub copied : ℕ → List ℕ → ℕ → List ℕ
-copied base w i = stored (base + 65536) (stored base w i (getD (region 0 w) i 0)) i (getD (region 65536 w) i 0)
+copied base w i = stored (base + SMALL) (stored base w i (getD (region GRAPH-LHS w) i 0)) i (getD (region GRAPH-RHS w) i 0)
 
 -- the first i nodes of the proof graph of w₀ were copied
 pub record Copying (base : ℕ) (w₀ : List ℕ) (i : ℕ) (w : List ℕ) : Type 0 where
   pub same : Same (offSide base) w₀ w
-  pub lhs : (j : ℕ) → j < i → getD (region base w) j 0 ≡ getD (region 0 w₀) j 0
-  pub rhs : (j : ℕ) → j < i → getD (region (base + 65536) w) j 0 ≡ getD (region 65536 w₀) j 0
+  pub lhs : (j : ℕ) → j < i → getD (region base w) j 0 ≡ getD (region GRAPH-LHS w₀) j 0
+  pub rhs : (j : ℕ) → j < i → getD (region (base + SMALL) w) j 0 ≡ getD (region GRAPH-RHS w₀) j 0
 
-module _ (base : ℕ) (lo : 196608 ≤ base) (hi : base ≤ 327680) (w₀ : List ℕ) where
+module _ (base : ℕ) (lo : GOLD-LHS ≤ base) (hi : base ≤ GATE-LHS) (w₀ : List ℕ) where
   -- a region that is off the side
-  off : (b : ℕ) → apart b base ≡ true → apart b (base + 65536) ≡ true → offSide base b ≡ true
+  off : (b : ℕ) → apart b base ≡ true → apart b (base + SMALL) ≡ true → offSide base b ≡ true
   off b p q = rw (p, q)
 
-  pub off-small : (x : ℕ) → x + 65536 ≤ 196608 → offSide base x ≡ true
-  off-small x h = off x (side-after base lo (omega arith) x (omega arith) (omega arith)) (side-after (base + 65536) (omega arith) (omega arith) x (omega arith) (omega arith))
+  pub off-small : (x : ℕ) → x + SMALL ≤ GOLD-LHS → offSide base x ≡ true
+  off-small x h = off x (side-after base lo (omega arith) x (omega arith) (omega arith)) (side-after (base + SMALL) (omega arith) (omega arith) x (omega arith) (omega arith))
 
   pub copying-none : Copying base w₀ 0 w₀
   copying-none = record { same = same-refl (offSide base) w₀; lhs = λ j h. absurd (omega arith); rhs = λ j h. absurd (omega arith) }
 
-  module _ (i : ℕ) (w : List ℕ) (small : i < 65536) (long : 8388608 ≤ length w) (a : Copying base w₀ i w) where
-    copied-lhs : region base (copied base w i) ≡ set (region base w) i (getD (region 0 w) i 0)
-    copied-lhs = stored-out base _ (base + 65536) i _ (side-under base lo (omega arith) (base + 65536) (omega arith)) ∙ stored-in base w i _
+  module _ (i : ℕ) (w : List ℕ) (small : i < MOST-NODES) (long : LENT ≤ length w) (a : Copying base w₀ i w) where
+    copied-lhs : region base (copied base w i) ≡ set (region base w) i (getD (region GRAPH-LHS w) i 0)
+    copied-lhs = stored-out base _ (base + SMALL) i _ (side-under base lo (omega arith) (base + SMALL) (omega arith)) ∙ stored-in base w i _
 
-    copied-rhs : region (base + 65536) (copied base w i) ≡ set (region (base + 65536) w) i (getD (region 65536 w) i 0)
+    copied-rhs : region (base + SMALL) (copied base w i) ≡ set (region (base + SMALL) w) i (getD (region GRAPH-RHS w) i 0)
     copied-rhs =
-        stored-in (base + 65536) _ i _
-        ∙ ap (λ (xs : List ℕ). set xs i (getD (region 65536 w) i 0)) (stored-out (base + 65536) w base i _ (side-above (base + 65536) (omega arith) (omega arith) base (omega arith) (omega arith)))
+        stored-in (base + SMALL) _ i _
+        ∙ ap (λ (xs : List ℕ). set xs i (getD (region GRAPH-RHS w) i 0)) (stored-out (base + SMALL) w base i _ (side-above (base + SMALL) (omega arith) (omega arith) base (omega arith) (omega arith)))
 
     -- one node more
     pub copying-more : Copying base w₀ (i + 1) (copied base w i)
@@ -103,25 +101,25 @@ module _ (base : ℕ) (lo : 196608 ≤ base) (hi : base ≤ 327680) (w₀ : List
       where
         kept : Same (offSide base) w (copied base w i)
         kept = record {
-          at = λ b e. let q = and-both (apart b base) (apart b (base + 65536)) e in stored-out b _ (base + 65536) i _ (q .1) ∙ stored-out b w base i _ (q .0);
+          at = λ b e. let q = and-both (apart b base) (apart b (base + SMALL)) e in stored-out b _ (base + SMALL) i _ (q .1) ∙ stored-out b w base i _ (q .0);
         }
 
-        lhs′ : (j : ℕ) → j < i + 1 → (t : Bool) → eqb j i ≡ t → getD (region base (copied base w i)) j 0 ≡ getD (region 0 w₀) j 0
+        lhs′ : (j : ℕ) → j < i + 1 → (t : Bool) → eqb j i ≡ t → getD (region base (copied base w i)) j 0 ≡ getD (region GRAPH-LHS w₀) j 0
         lhs′ j h true e =
             rw (copied-lhs, eqb-true j i e)
             (getD-set-same (region base w) i _ 0 (omega (arith, length-region base w (rw (side-size base lo (omega arith)) (omega arith)), side-size base lo (omega arith)))
-            ∙ ap (λ (xs : List ℕ). getD xs i 0) (a .same .at 0 (off-small 0 (omega arith))))
+            ∙ ap (λ (xs : List ℕ). getD xs i 0) (a .same .at GRAPH-LHS (off-small GRAPH-LHS (omega arith))))
         lhs′ j h false e =
             rw copied-lhs (getD-set-other (region base w) i j _ 0 (eqb-false j i e) ∙ a .lhs j (omega (arith, eqb-false j i e)))
 
-        rhs′ : (j : ℕ) → j < i + 1 → (t : Bool) → eqb j i ≡ t → getD (region (base + 65536) (copied base w i)) j 0 ≡ getD (region 65536 w₀) j 0
+        rhs′ : (j : ℕ) → j < i + 1 → (t : Bool) → eqb j i ≡ t → getD (region (base + SMALL) (copied base w i)) j 0 ≡ getD (region GRAPH-RHS w₀) j 0
         rhs′ j h true e =
-            let z : sizeOf (base + 65536) ≡ 65536 = side-size (base + 65536) (omega arith) (omega arith) in
+            let z : sizeOf (base + SMALL) ≡ SMALL = side-size (base + SMALL) (omega arith) (omega arith) in
             rw (copied-rhs, eqb-true j i e)
-            (getD-set-same (region (base + 65536) w) i _ 0 (omega (arith, length-region (base + 65536) w (rw z (omega arith)), z))
-            ∙ ap (λ (xs : List ℕ). getD xs i 0) (a .same .at 65536 (off-small 65536 (omega arith))))
+            (getD-set-same (region (base + SMALL) w) i _ 0 (omega (arith, length-region (base + SMALL) w (rw z (omega arith)), z))
+            ∙ ap (λ (xs : List ℕ). getD xs i 0) (a .same .at GRAPH-RHS (off-small GRAPH-RHS (omega arith))))
         rhs′ j h false e =
-            rw copied-rhs (getD-set-other (region (base + 65536) w) i j _ 0 (eqb-false j i e) ∙ a .rhs j (omega (arith, eqb-false j i e)))
+            rw copied-rhs (getD-set-other (region (base + SMALL) w) i j _ 0 (eqb-false j i e) ∙ a .rhs j (omega (arith, eqb-false j i e)))
 
 -- ---- the whole
 
@@ -138,30 +136,30 @@ pub record Lowered (n : Netlist) (base : ℕ) (w₀ : List ℕ) (count : ℕ) (n
   pub ready : Ready count w
   pub small : count ≤ 4865
   pub same : Same (λ b. elsewhere b && offSide base b) w₀ w
-  pub ordered : Ordered count (region base w) (region (base + 65536) w)
+  pub ordered : Ordered count (region base w) (region (base + SMALL) w)
   pub graph : (s : List ℕ) → graphAt base count w ≡ fromNetlist (decoded s n) .aig
-  pub nets : (s : List ℕ) → Alike (region 589824 w) (walkOf s n .nets)
-  pub nets-below : (a : ℕ) → netLiteral (region 589824 w) a < count * 2
+  pub nets : (s : List ℕ) → Alike (region NETS w) (walkOf s n .nets)
+  pub nets-below : (a : ℕ) → netLiteral (region NETS w) a < count * 2
   pub next-are : (s : List ℕ) → take (n .«register_count») next ≡ nexts (registersLowered s n .states)
   pub next-below : (k : ℕ) → getD next k 0 < count * 2
   pub variables-are : (s : List ℕ) → take (n .«register_count») variable ≡ variables (registersLowered s n .states)
 
-off-far : (base : ℕ) → 196608 ≤ base → base ≤ 327680 → (x : ℕ) → 458752 ≤ x → offSide base x ≡ true
-off-far base lo hi x h = rw (side-before base lo (omega arith) x (omega arith), side-before (base + 65536) (omega arith) (omega arith) x (omega arith))
+off-far : (base : ℕ) → GOLD-LHS ≤ base → base ≤ GATE-LHS → (x : ℕ) → IMPORTED ≤ x → offSide base x ≡ true
+off-far base lo hi x h = rw (side-before base lo (omega arith) x (omega arith), side-before (base + SMALL) (omega arith) (omega arith) x (omega arith))
 
-module _ (n : Netlist) (base : ℕ) (lo : 196608 ≤ base) (hi : base ≤ 327680) (w₀ w₁ w₂ w₃ w₄ : List ℕ) (c₁ c₂ : ℕ) (next variable : List ℕ)
-    (nodes : n .«node_count» ≤ 1024) (registers : n .«register_count» ≤ 128)
-    (start : Started w₀ w₁) (walk : Walking (n .«node_count») (n .nodes) (n .«register_count») (n .registers) 1 w₁ (n .«node_count») c₁ w₂)
-    (regs : Registering (n .«register_count») (n .registers) c₁ w₂ (n .«register_count») c₂ w₃ next variable) (copy : Copying base w₃ c₂ w₄) (long : 8388608 ≤ length w₄) where
+module _ (n : Netlist) (base : ℕ) (lo : GOLD-LHS ≤ base) (hi : base ≤ GATE-LHS) (w₀ w₁ w₂ w₃ w₄ : List ℕ) (c₁ c₂ : ℕ) (next variable : List ℕ)
+    (sized : Sized n)
+    (start : Started w₀ w₁) (walk : Walking n 1 w₁ (n .«node_count») c₁ w₂)
+    (regs : Registering n c₁ w₂ (n .«register_count») c₂ w₃ next variable) (copy : Copying base w₃ c₂ w₄) (long : LENT ≤ length w₄) where
   walked : (s : List ℕ) → Walked (walkOf s n) (n .«node_count») c₁ w₂
   unfolding decoded
   walked s =
-      rw (take-all (n .«node_count») (nodesIn s (n .«node_count») (n .nodes)) (rw length-map (simp length-take (omega arith)))) at (walk .walked s (start .walked))
+      rw (take-all (n .«node_count») (decoded s n .nodes) (rw length-map (simp length-take (omega arith)))) at (walk .walked s (start .walked))
 
   held : (s : List ℕ) → Held (registersLowered s n) (n .«register_count») c₂ w₃ next variable
   unfolding decoded
   held s =
-      rw (take-all (n .«register_count») (registersOf s (n .«register_count») (n .registers)) (rw length-map (simp length-take (omega arith)))) at (regs .held s (walkOf s n) (n .«node_count») (walked s))
+      rw (take-all (n .«register_count») (decoded s n .registers) (rw length-map (simp length-take (omega arith)))) at (regs .held s (walkOf s n) (n .«node_count») (walked s))
 
   ready-copy : Ready c₂ w₄
   ready-copy =
@@ -169,12 +167,12 @@ module _ (n : Netlist) (base : ℕ) (lo : 196608 ≤ base) (hi : base ≤ 327680
       record {
         positive = regs .netted .ready .positive;
         long = long;
-        indexed = rw (at 0 (off-small base lo hi w₃ 0 (omega arith)), at 65536 (off-small base lo hi w₃ 65536 (omega arith)), at 131072 (off-small base lo hi w₃ 131072 (omega arith)), at 1572864 (off-far base lo hi 1572864 (omega arith)))
+        indexed = rw (at GRAPH-LHS (off-small base lo hi w₃ GRAPH-LHS (omega arith)), at GRAPH-RHS (off-small base lo hi w₃ GRAPH-RHS (omega arith)), at AND-NEXT (off-small base lo hi w₃ AND-NEXT (omega arith)), at AND-HEADS (off-far base lo hi AND-HEADS (omega arith)))
             (regs .netted .ready .indexed);
       }
 
-  nets-copy : region 589824 w₄ ≡ region 589824 w₃
-  nets-copy = copy .same .at 589824 (off-far base lo hi 589824 (omega arith))
+  nets-copy : region NETS w₄ ≡ region NETS w₃
+  nets-copy = copy .same .at NETS (off-far base lo hi NETS (omega arith))
 
   -- the system is the model's
   pub lowered : Lowered n base w₀ c₂ next variable w₄
@@ -182,15 +180,15 @@ module _ (n : Netlist) (base : ℕ) (lo : 196608 ≤ base) (hi : base ≤ 327680
   lowered =
       record {
         ready = ready-copy;
-        small = omega (arith, walk .within, regs .within);
+        small = omega (arith, walk .within, regs .within, sized .nodes, sized .registers);
         same = record {
           at = λ b e.
               let p = and-both (elsewhere b) (offSide base b) e in
               copy .same .at b (p .1) ∙ same-elsewhere (regs .same) .at b (p .0) ∙ walk .same .at b (p .0) ∙ start .same .at b (p .0);
         };
-        ordered = ordered-agree c₂ _ _ (region 0 w₃) (region 65536 w₃) (copy .lhs) (copy .rhs) (regs .netted .ready .indexed .ordered);
-        graph = λ s. nodes-agree c₂ _ _ (region 0 w₃) (region 65536 w₃) (copy .lhs) (copy .rhs) ∙ held s .graph;
-        nets = λ s. rw (nets-copy, regs .same .at 589824 refl) (walked s .nets);
+        ordered = ordered-agree c₂ _ _ (region GRAPH-LHS w₃) (region GRAPH-RHS w₃) (copy .lhs) (copy .rhs) (regs .netted .ready .indexed .ordered);
+        graph = λ s. nodes-agree c₂ _ _ (region GRAPH-LHS w₃) (region GRAPH-RHS w₃) (copy .lhs) (copy .rhs) ∙ held s .graph;
+        nets = λ s. rw (nets-copy, regs .same .at NETS refl) (walked s .nets);
         nets-below = rw nets-copy (regs .netted .nets);
         next-are = λ s. held s .next-are;
         next-below = regs .below;

@@ -2,6 +2,7 @@
 ghost use mathlib.Core.Path.{_≡_};
 ghost use Prim.Native.Nat.{_≤_};
 ghost use lib.ListN.{length};
+ghost use Rattle.words.specs.Layout.{LENT, MOST-NODES, GOLD-LHS, GATE-LHS};
 ghost use Rattle.lowering.specs.System.{copied, Copying};
 use words::GRAPH_LHS;
 use words::GRAPH_RHS;
@@ -11,8 +12,8 @@ use words::stash;
 
 // Copies node i of the proof graph to the side at `base`.
 fn copy_node(words: &mut [u32], base: usize, i: usize)
-    requires { ⌜ (8388608 ≤ length (now words)) × (196608 ≤ base) × (base ≤ 327680) ⌝ }
-    ensures { λ _. ⌜ (now (words .exit) ≡ copied base (now (words .entry)) i) × (8388608 ≤ length (now (words .exit))) ⌝ }
+    requires { ⌜ (LENT ≤ length (now words)) × (GOLD-LHS ≤ base) × (base ≤ GATE-LHS) ⌝ }
+    ensures { λ _. ⌜ (now (words .exit) ≡ copied base (now (words .entry)) i) × (LENT ≤ length (now (words .exit))) ⌝ }
 {
     let lhs = fetch(words, GRAPH_LHS, SMALL, i);
     let rhs = fetch(words, GRAPH_RHS, SMALL, i);
@@ -22,8 +23,8 @@ fn copy_node(words: &mut [u32], base: usize, i: usize)
 
 // Copies the first `count` nodes of the proof graph to the side at `base`.
 pub fn copy_graph(words: &mut [u32], base: usize, count: usize)
-    requires { ⌜ (8388608 ≤ length (now words)) × (196608 ≤ base) × (base ≤ 327680) × (count ≤ 65536) ⌝ }
-    ensures { λ _. ⌜ Copying base (now (words .entry)) count (now (words .exit)) × (8388608 ≤ length (now (words .exit))) ⌝ }
+    requires { ⌜ (LENT ≤ length (now words)) × (GOLD-LHS ≤ base) × (base ≤ GATE-LHS) × (count ≤ MOST-NODES) ⌝ }
+    ensures { λ _. ⌜ Copying base (now (words .entry)) count (now (words .exit)) × (LENT ≤ length (now (words .exit))) ⌝ }
 {
     let mut i: usize = 0;
     while i < count {

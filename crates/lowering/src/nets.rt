@@ -3,6 +3,7 @@ ghost use mathlib.Core.Path.{_≡_};
 ghost use Prim.Native.Nat.{_≤_};
 ghost use lib.ListN.{length};
 ghost use lib.Dec.{eqb};
+ghost use Rattle.words.specs.Layout.{LENT, NETS};
 ghost use Rattle.words.specs.Region.{region};
 ghost use Rattle.model.specs.Literal.{constantLiteral};
 ghost use Rattle.model.specs.Record.{levelOf};
@@ -28,8 +29,8 @@ pub fn widen(x: u8) -> u16
 
 // The literal of a net.
 pub fn net_literal(words: &[u32], net: u16) -> Literal
-    requires { ⌜ 8388608 ≤ length (now words) ⌝ }
-    ensures { λ r. ⌜ r .0 ≡ netLiteral (region 589824 (now (words .entry))) net ⌝ }
+    requires { ⌜ LENT ≤ length (now words) ⌝ }
+    ensures { λ r. ⌜ r .0 ≡ netLiteral (region NETS (now (words .entry))) net ⌝ }
 {
     Literal(fetch(words, NETS, SMALL, index(net)))
 }

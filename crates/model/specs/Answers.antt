@@ -1,4 +1,4 @@
--- What the calls answer, in document 01's numbers. Definitions only.
+-- What the calls answer, in the specification's numbers. Definitions only.
 use Prim.Native.Nat.{ℕ}
 use mathlib.Core.Bool.{Bool}
 

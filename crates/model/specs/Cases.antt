@@ -1,4 +1,4 @@
--- The starred cases of document 01 as one table over bytes, with one theorem, by computation.
+-- The cases of the specification that are proved, as one table over bytes, with one theorem, by computation.
 use Prim.Native.Nat.{ℕ}
 use mathlib.Core.Path.{_≡_, refl}
 use mathlib.Core.Bool.{Bool, true, false}
@@ -7,6 +7,7 @@ use mathlib.Core.Option.{Option, none, some}
 use lib.ListN.{length, drop, replicate}
 use lib.Ieee.{Float}
 use Rattle.model.specs.Answers.{Refusal, ReplayAnswer, CheckAnswer, acceptedAnswer}
+use Rattle.model.specs.Options.{toDepth}
 use Rattle.model.specs.Names.{Name}
 use Rattle.model.specs.Netlist.{Node, Input, Constant, RegisterOutput, Not, Output, And, Rising, High, Reset, Register, Design}
 use Rattle.model.specs.Encode.{recordOf}
@@ -14,7 +15,7 @@ use Rattle.model.specs.Encode as Encode
 use Rattle.model.specs.Validate.{read}
 use Rattle.model.specs.Replay.{replay}
 use Rattle.model.specs.Replay as Replay
-use Rattle.model.specs.Check.{CheckOutcome, checkOutcome, checkAnswer, traceAfter, checkResult, lentOf, learnedLimit, check}
+use Rattle.model.specs.Check.{CheckOutcome, checkOutcome, checkAnswer, traceAfter, checkResult, lentOf, check}
 use Rattle.model.specs.Check as Check
 
 -- ---- designs
@@ -63,7 +64,7 @@ reg n output input reset = record { name = n; output = output; «data» = input;
 unfoldable pub reset0 : Name → ℕ → ℕ → Register
 reset0 n output input = reg n output input (sync 1 false)
 
--- the wire, y = a, as document 01 writes it
+-- the wire, y = a, as the specification writes it
 unfoldable pub wire : List ℕ
 wire = 0x01 ∷ 0x00 ∷ 0x00 ∷ 0x00 ∷ 0x13 ∷ 0x01 ∷ 0x67 ∷ 0x00 ∷ 0x02 ∷ 0x00 ∷ 0x01 ∷ 0x61 ∷ 0x11 ∷ 0x01 ∷ 0x79 ∷ 0x00 ∷ 0x00 ∷ 0x00 ∷ 0x00 ∷ []
 
@@ -133,7 +134,7 @@ replyOf outcome trace = fromCheck (checkAnswer outcome) (traceAfter outcome trac
 unfoldable pub run : Call → Reply
 run (toRead s) = fromRead (read s)
 run (toCheck gold gate D trace words scores) =
-    replyOf (checkOutcome learnedLimit gold gate D (record { trace = length trace; words = words; scores = scores })) trace
+    replyOf (checkOutcome gold gate (toDepth D) (record { trace = length trace; words = words; scores = scores })) trace
 run (toReplay gold gate cycle claim) = fromReplay (replay gold gate cycle claim)
 
 -- for words and scores of these lengths, that is what the call check answers, and its trace
@@ -175,7 +176,7 @@ infix 5 _gives_
 unfoldable pub _gives_ : Call → Reply → Case
 call gives reply = record { call = call; reply = reply }
 
--- the starred cases, in document 01's order
+-- the cases in the specification's order
 unfoldable pub table : List Case
 table =
     (checking wire (recordOf inverter) 1 4 gives saying 1 1 0 (0 ∷ 1 ∷ []) 2)
@@ -200,12 +201,12 @@ unfoldable pub all : Unit {0}
 unfolding design sync reg reset0 wire wireReading inverter toggling toggle unreset constant row holding conjunction lone replyOf run refusal checking saying refusing replaying _gives_ table Encode.all Replay.all Check.all
 all = tt
 
--- document 01's bytes of the wire are the record of its design
+-- the specification's bytes of the wire are the record of its design
 wire-bytes : recordOf (wireReading 0) ≡ wire
 unfolding all
 wire-bytes = refl
 
--- each call answers what document 01 says
+-- each call answers what the specification says
 cases : map (λ (c : Case). run (c .call)) table ≡ map (λ (c : Case). c .reply) table
 unfolding all
 cases = refl

@@ -6,6 +6,7 @@ use mathlib.Core.Bool.{Bool, true, false, cond, _||_, xor}
 use mathlib.Core.List.{List, [], _∷_, List·Memᴰ}
 use mathlib.Core.Option.{Option, none, some}
 use Rattle.model.specs.Answers.{Refusal, Status, Equivalent, NotEquivalent, Inconclusive, GaveUp}
+use Rattle.model.specs.Options.{Options}
 use Rattle.model.specs.Names.{Name, Place, sameName, namesOf}
 use Rattle.model.specs.Netlist.{Design, outputs, registersByName}
 use Rattle.model.specs.Record.{parsed}
@@ -109,10 +110,24 @@ pub data Says (gold gate : Design) (s t : StoredBits) (D : ℕ) : Status → ℕ
 
 -- ---- statements; they are proved where the check is
 
--- same output names, and the same output bits in every cycle on every input sequence, from the initial states
-pub record SameOutputs (gold gate : Design) : Type 0 where
-  pub names : namesOf (outputs gold) ≡ namesOf (outputs gate)
-  pub bits : (ins : InputSequence) (c : ℕ) → outputsAt gold (initialBits gold) ins c ≡ outputsAt gate (initialBits gate) ins c
+-- a design and the bits that its registers start with
+pub record Begun : Type 0 where
+  pub design : Design
+  pub start : StoredBits
+
+-- a design in its initial state
+unfoldable pub initially : Design → Begun
+initially d = record { design = d; start = initialBits d }
+
+-- same output names, and the same output bits in every cycle on every input sequence, each design from its own start bits
+pub record SameOutputs (a b : Begun) : Type 0 where
+  pub names : namesOf (outputs (a .design)) ≡ namesOf (outputs (b .design))
+  pub bits : (ins : InputSequence) (c : ℕ) → outputsAt (a .design) (a .start) ins c ≡ outputsAt (b .design) (b .start) ins c
+
+-- a list of two or more in which each two neighbours are linked
+pub data Chain {A : Type 0} (Link : A → A → Type 0) : List A → Type 0 where
+  two : {a b : A} → Link a b → Chain Link (a ∷ b ∷ [])
+  more : {a b c : A} {rest : List A} → Link a b → Chain Link (b ∷ c ∷ rest) → Chain Link (a ∷ b ∷ c ∷ rest)
 
 -- k-induction is sound: Equivalent at some depth means that no cycle differs
 abbrev pub InductionSound : Type 0
@@ -132,34 +147,29 @@ pub data Verdict : Type 0 where
   answered : Status → ℕ → Verdict
   unfinished : Verdict
 
--- a check of two records to a maximum depth, with buffers of the given lengths
+-- a check of two records under a caller's options, with buffers of the given lengths
 abbrev pub Check : Type 0
-Check = List ℕ → List ℕ → ℕ → Lent → Verdict
+Check = List ℕ → List ℕ → Options → Lent → Verdict
 
 -- a check is answered only where no refusal applies
 abbrev pub Accepts : Check → Type 0
 Accepts check =
-    (a b : List ℕ) (D : ℕ) (lent : Lent) (status : Status) (d : ℕ) → check a b D lent ≡ answered status d → checkRefusal a b D lent ≡ none
+    (a b : List ℕ) (o : Options) (lent : Lent) (status : Status) (d : ℕ) → check a b o lent ≡ answered status d → checkRefusal a b o lent ≡ none
 
 -- a check is refused exactly where a refusal applies, with the first that does
 abbrev pub Refuses : Check → Type 0
-Refuses check = (a b : List ℕ) (D : ℕ) (lent : Lent) (r : Refusal) → (check a b D lent ≡ refused r) ↔ (checkRefusal a b D lent ≡ some r)
+Refuses check = (a b : List ℕ) (o : Options) (lent : Lent) (r : Refusal) → (check a b o lent ≡ refused r) ↔ (checkRefusal a b o lent ≡ some r)
 
 -- a status other than GaveUp is what k-induction says from the initial states
 abbrev pub Sound : Check → Type 0
 Sound check =
-    (a b : List ℕ) (D : ℕ) (lent : Lent) (status : Status) (d : ℕ) → check a b D lent ≡ answered status d → status ≢ GaveUp
-    → (gold gate : Design) → readPair a b ≡ both gold gate → Says gold gate (initialBits gold) (initialBits gate) D status d
+    (a b : List ℕ) (o : Options) (lent : Lent) (status : Status) (d : ℕ) → check a b o lent ≡ answered status d → status ≢ GaveUp
+    → (gold gate : Design) → readPair a b ≡ both gold gate → Says gold gate (initialBits gold) (initialBits gate) (o .depth) status d
 
--- two records were checked with the verdict Equivalent, either of them as gold
+-- two records were checked with the verdict Equivalent, either of them as gold, under options and with memory of the check's own
 pub data Checked (check : Check) (a b : List ℕ) : Type 0 where
-  goldFirst : (D : ℕ) (lent : Lent) (d : ℕ) → check a b D lent ≡ answered Equivalent d → Checked check a b
-  gateFirst : (D : ℕ) (lent : Lent) (d : ℕ) → check b a D lent ≡ answered Equivalent d → Checked check a b
-
--- a list of two or more records in which each two neighbours were so checked
-pub data Chain (check : Check) : List (List ℕ) → Type 0 where
-  two : {a b : List ℕ} → Checked check a b → Chain check (a ∷ b ∷ [])
-  more : {a b c : List ℕ} {rest : List (List ℕ)} → Checked check a b → Chain check (b ∷ c ∷ rest) → Chain check (a ∷ b ∷ c ∷ rest)
+  goldFirst : (o : Options) (lent : Lent) (d : ℕ) → check a b o lent ≡ answered Equivalent d → Checked check a b
+  gateFirst : (o : Options) (lent : Lent) (d : ℕ) → check b a o lent ≡ answered Equivalent d → Checked check a b
 
 -- what holds of any two records of a chain: both are accepted, show the same outputs, and no check says NotEquivalent
 pub record Joined (check : Check) (a b : List ℕ) : Type 0 where
@@ -167,23 +177,23 @@ pub record Joined (check : Check) (a b : List ℕ) : Type 0 where
   pub gate : Design
   pub goldRead : readRecord a ≡ parsed gold
   pub gateRead : readRecord b ≡ parsed gate
-  pub same : SameOutputs gold gate
-  pub never : (D : ℕ) (lent : Lent) (d : ℕ) → check a b D lent ≢ answered NotEquivalent d
+  pub same : SameOutputs (initially gold) (initially gate)
+  pub never : (o : Options) (lent : Lent) (d : ℕ) → check a b o lent ≢ answered NotEquivalent d
 
 -- the chain law, for lists of any length
 abbrev pub ChainLaw : Check → Type 0
-ChainLaw check = (l : List (List ℕ)) → Chain check l → (a b : List ℕ) → List·Memᴰ a l → List·Memᴰ b l → Joined check a b
+ChainLaw check = (l : List (List ℕ)) → Chain (Checked check) l → (a b : List ℕ) → List·Memᴰ a l → List·Memᴰ b l → Joined check a b
 
 -- the swap law: verdict and depth stay where neither check gives up, and one is refused exactly when the other is
 pub record SwapLaw (check : Check) : Type 0 where
-  pub verdict : (a b : List ℕ) (D : ℕ) (lent : Lent) (p q : Status) (d e : ℕ) → check a b D lent ≡ answered p d → check b a D lent ≡ answered q e → p ≢ GaveUp → q ≢ GaveUp → (p ≡ q) × (d ≡ e)
-  pub refusal : (a b : List ℕ) (D : ℕ) (lent : Lent) (r : Refusal) → check a b D lent ≡ refused r → (q : Refusal) × (check b a D lent ≡ refused q)
+  pub verdict : (a b : List ℕ) (o : Options) (lent : Lent) (p q : Status) (d e : ℕ) → check a b o lent ≡ answered p d → check b a o lent ≡ answered q e → p ≢ GaveUp → q ≢ GaveUp → (p ≡ q) × (d ≡ e)
+  pub refusal : (a b : List ℕ) (o : Options) (lent : Lent) (r : Refusal) → check a b o lent ≡ refused r → (q : Refusal) × (check b a o lent ≡ refused q)
 
 -- the self law: a record against itself, not refused, is Equivalent at depth 1
 abbrev pub SelfLaw : Check → Type 0
-SelfLaw check = (a : List ℕ) (D : ℕ) (lent : Lent) (status : Status) (d : ℕ) → check a a D lent ≡ answered status d → (status ≡ Equivalent) × (d ≡ 1)
+SelfLaw check = (a : List ℕ) (o : Options) (lent : Lent) (status : Status) (d : ℕ) → check a a o lent ≡ answered status d → (status ≡ Equivalent) × (d ≡ 1)
 
 -- naming this opens them all
 unfoldable pub all : Unit {0}
-unfolding alikeIf numberOf alikeIn namedAlike storedDiffer namedDifferAt eitherDifferAt
+unfolding alikeIf numberOf alikeIn namedAlike storedDiffer namedDifferAt eitherDifferAt initially
 all = tt

@@ -1,5 +1,7 @@
 pub mod Lists
 pub mod Answers
+pub mod Options
+pub mod Kinds
 pub mod Names
 pub mod Netlist
 pub mod Record

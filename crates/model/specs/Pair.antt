@@ -6,8 +6,8 @@ use mathlib.Core.Option.{Option, none, some}
 use lib.ListN.{length, getElem?}
 use lib.Dec.{eqb, ltb}
 use Rattle.model.specs.Answers.{Refusal}
+use Rattle.model.specs.Options.{Options}
 use Rattle.model.specs.Names.{Name, Place, sameName, sameNames, namesOf}
-use Rattle.model.specs.Names as Names
 use Rattle.model.specs.Netlist.{Node, Edge, Rising, Falling, Reset, Register, Design, inputName, inputs, outputs, registersByName, inputCount, outputCount, nodeCount, registerCount}
 use Rattle.model.specs.Record.{Read, parsed, refusedRecord}
 use Rattle.model.specs.Validate.{_otherwise_, refuseIf, readRecord}
@@ -129,15 +129,15 @@ traceLength d c = suc c * inputCount d + outputCount d
 unfoldable pub tooShort : Design → ℕ → Lent → Bool
 tooShort gold depth lent = ltb (lent .trace) (traceLength gold depth) || ltb (lent .words) 8388608 || ltb (lent .scores) 65536
 
--- the first refusal of 16 to 24, for a check to maximum depth D
-unfoldable pub checkFault : Design → Design → ℕ → Lent → Option Refusal
-checkFault gold gate depth lent =
-    refuseIf 16 0 0 (eqb depth 0)
-    otherwise refuseIf 17 0 0 (ltb 64 depth)
+-- the first refusal of 16 to 24, for a check under its options
+unfoldable pub checkFault : Design → Design → Options → Lent → Option Refusal
+checkFault gold gate options lent =
+    refuseIf 16 0 0 (eqb (options .depth) 0)
+    otherwise refuseIf 17 0 0 (ltb 64 (options .depth))
     otherwise interfaceFault gold gate
     otherwise initialFault gold gate
-    otherwise refuseIf 23 0 0 (ltb 65535 (proofNodes gold gate depth))
-    otherwise refuseIf 24 0 0 (tooShort gold depth lent)
+    otherwise refuseIf 23 0 0 (ltb 65535 (proofNodes gold gate (options .depth)))
+    otherwise refuseIf 24 0 0 (tooShort gold (options .depth) lent)
 
 -- every byte is 0 or 1
 unfoldable pub allBits : List ℕ → Bool
@@ -181,13 +181,13 @@ unfoldable pub readPair : List ℕ → List ℕ → ReadPair
 readPair gold gate = withGold (readRecord gold) gate
 
 -- the first refusal of a check
-unfoldable pub checkRefusalOf : ReadPair → ℕ → Lent → Option Refusal
-checkRefusalOf (refusedPair r) depth lent = some r
-checkRefusalOf (both gold gate) depth lent = checkFault gold gate depth lent
+unfoldable pub checkRefusalOf : ReadPair → Options → Lent → Option Refusal
+checkRefusalOf (refusedPair r) options lent = some r
+checkRefusalOf (both gold gate) options lent = checkFault gold gate options lent
 
 -- the first refusal of a check, from the bytes of both records
-unfoldable pub checkRefusal : List ℕ → List ℕ → ℕ → Lent → Option Refusal
-checkRefusal gold gate depth lent = checkRefusalOf (readPair gold gate) depth lent
+unfoldable pub checkRefusal : List ℕ → List ℕ → Options → Lent → Option Refusal
+checkRefusal gold gate options lent = checkRefusalOf (readPair gold gate) options lent
 
 -- naming this opens them all
 unfoldable pub all : Unit {0}

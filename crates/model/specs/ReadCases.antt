@@ -1,4 +1,4 @@
--- Closed theorems beside the starred cases: refusals 1 to 15 and 22 to 25, replays and runs, each by computation.
+-- Closed theorems beside the cases of `Cases`: refusals 1 to 15 and 22 to 25, replays and runs, each by computation.
 use Prim.Native.Nat.{ℕ, zero, suc, _/_}
 use mathlib.Core.Path.{_≡_, refl}
 use mathlib.Core.Bool.{Bool, true, false}
@@ -6,6 +6,7 @@ use mathlib.Core.List.{List, [], _∷_, _++_, map}
 use mathlib.Core.Option.{Option, none, some}
 use lib.ListN.{length}
 use Rattle.model.specs.Answers.{ReplayAnswer}
+use Rattle.model.specs.Options.{toDepth}
 use Rattle.model.specs.Netlist.{Node, Input, Constant, RegisterOutput, Output, High, Reset, inputNumbers}
 use Rattle.model.specs.Encode.{sized, recordOf}
 use Rattle.model.specs.Record.{parsed, kinds, inputsPerKind, nodeOf}
@@ -154,19 +155,19 @@ clock-net = refl
 unfoldable pub lent : Lent
 lent = record { trace = 4096; words = 8388608; scores = 65536 }
 
-no-reset-gate : checkRefusal (recordOf (toggle q)) (recordOf unreset) 1 lent ≡ some (record { number = 22; side = 1; place = 0 })
+no-reset-gate : checkRefusal (recordOf (toggle q)) (recordOf unreset) (toDepth 1) lent ≡ some (record { number = 22; side = 1; place = 0 })
 unfolding all lent
 no-reset-gate = refl
 
-toggles : checkRefusal (recordOf (toggle q)) (recordOf (toggle p)) 64 lent ≡ none
+toggles : checkRefusal (recordOf (toggle q)) (recordOf (toggle p)) (toDepth 64) lent ≡ none
 unfolding all lent
 toggles = refl
 
-short-words : checkRefusal wire wire 1 (record { trace = 3; words = 8388607; scores = 65536 }) ≡ some (refusal 24 0)
+short-words : checkRefusal wire wire (toDepth 1) (record { trace = 3; words = 8388607; scores = 65536 }) ≡ some (refusal 24 0)
 unfolding all
 short-words = refl
 
-short-trace : checkRefusal wire wire 1 (record { trace = 2; words = 8388608; scores = 65536 }) ≡ some (refusal 24 0)
+short-trace : checkRefusal wire wire (toDepth 1) (record { trace = 2; words = 8388608; scores = 65536 }) ≡ some (refusal 24 0)
 unfolding all
 short-trace = refl
 

@@ -8,6 +8,7 @@ use lib.Dec.{eqb, leb, ltb}
 use Rattle.model.specs.Answers.{Refusal}
 use Rattle.model.specs.Lists.{member}
 use Rattle.model.specs.Lists as Lists
+use Rattle.model.specs.Kinds.{inputKind, constantKind, registerOutputKind, notKind, outputKind, andKind, orKind, xorKind, muxKind, byKind}
 use Rattle.model.specs.Names.{Name}
 use Rattle.model.specs.Names as Names
 use Rattle.model.specs.Netlist as Netlist
@@ -90,7 +91,7 @@ name = do
 
 -- the kind bytes of version 1
 unfoldable pub kinds : List ℕ
-kinds = 0x00 ∷ 0x01 ∷ 0x02 ∷ 0x10 ∷ 0x11 ∷ 0x20 ∷ 0x21 ∷ 0x22 ∷ 0x30 ∷ []
+kinds = inputKind ∷ constantKind ∷ registerOutputKind ∷ notKind ∷ outputKind ∷ andKind ∷ orKind ∷ xorKind ∷ muxKind ∷ []
 
 -- the test of listed kinds
 unfoldable pub listedKind : ℕ → Bool
@@ -106,11 +107,11 @@ inputsPerKind k = getD inputTable k 0
 
 -- the kinds with a name
 unfoldable pub hasName : ℕ → Bool
-hasName k = eqb k 0x00 || eqb k 0x11
+hasName k = eqb k inputKind || eqb k outputKind
 
 -- the kind with a value byte
 unfoldable pub hasValue : ℕ → Bool
-hasValue k = eqb k 0x01
+hasValue k = eqb k constantKind
 
 -- the name, where the kind has one
 unfoldable pub nameIf : Bool → Reader Name
@@ -130,26 +131,19 @@ numbers (suc k) = do
   ns ← numbers k
   pure (n ∷ ns)
 
--- a node of a kind from its name, value and input numbers
+-- a node of a kind from its name, value and input numbers; a byte that is no kind, which is refused before, gives the constant 0
 unfoldable pub nodeOf : ℕ → Name → ℕ → List ℕ → Node
 nodeOf k n v ins =
     let a = getD ins 0 0 in
     let b = getD ins 1 0 in
     let c = getD ins 2 0 in
-    cond (eqb k 0x00) (Input n)
-    (cond (eqb k 0x01) (Constant (eqb v 1))
-    (cond (eqb k 0x02) RegisterOutput
-    (cond (eqb k 0x10) (Not a)
-    (cond (eqb k 0x11) (Output n a)
-    (cond (eqb k 0x20) (And a b)
-    (cond (eqb k 0x21) (Or a b)
-    (cond (eqb k 0x22) (Xor a b) (Mux a b c))))))))
+    byKind k (Input n) (Constant (eqb v 1)) RegisterOutput (Not a) (Output n a) (And a b) (Or a b) (Xor a b) (Mux a b c) (Constant false)
 
 -- among the nodes so far there is room for one more of this kind: at most 64 Inputs and 64 Outputs
 unfoldable pub room : List Node → ℕ → Bool
 room nodes k =
-    not (eqb k 0x00 && leb 64 (length (portsFrom inputName 0 nodes)))
-    && not (eqb k 0x11 && leb 64 (length (portsFrom outputName 0 nodes)))
+    not (eqb k inputKind && leb 64 (length (portsFrom inputName 0 nodes)))
+    && not (eqb k outputKind && leb 64 (length (portsFrom outputName 0 nodes)))
 
 -- a node, after the nodes so far: kind byte, name or value, input numbers
 unfoldable pub node : (ℕ → Bool) → List Node → Reader Node
@@ -275,5 +269,5 @@ parse s = parseSized s (lengthFits s)
 
 -- naming this opens them all
 unfoldable pub all : Unit {0}
-unfolding refuse pure goOn _>>=_ tested guard bytes bigEndian byte number code codeBelow nameByte nameBytes name kinds listedKind inputTable inputsPerKind hasName hasValue nameIf valueIf numbers nodeOf room node nodesFrom nodes edgeOf levelOf bit enableFor resetFor register registersFrom registers end version1 versionOf lengthFits finished parseFields parseSized parse Lists.all Names.all Netlist.all
+unfolding refuse pure goOn _>>=_ tested guard bytes bigEndian byte number code codeBelow nameByte nameBytes name kinds listedKind inputTable inputsPerKind hasName hasValue nameIf valueIf numbers byKind nodeOf room node nodesFrom nodes edgeOf levelOf bit enableFor resetFor register registersFrom registers end version1 versionOf lengthFits finished parseFields parseSized parse Lists.all Names.all Netlist.all
 all = tt

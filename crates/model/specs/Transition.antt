@@ -1,6 +1,6 @@
 -- The transition system of a design that passed validation, as transition.rs builds it. Definitions only.
 use Prim.Native.Nat.{ℕ, suc}
-use mathlib.Core.Bool.{Bool, true, false}
+use mathlib.Core.Bool.{true, false}
 use mathlib.Core.List.{List, [], _∷_}
 use mathlib.Core.Option.{Option, none, some}
 use lib.ListN.{getD}
@@ -12,18 +12,16 @@ use Rattle.model.specs.Names.{Name, sortByName}
 use Rattle.model.specs.Netlist.{Node, Input, Constant, RegisterOutput, Not, Output, And, Or, Xor, Mux, ActiveLevel, High, Low, Enable, Reset, Register, Design}
 use Rattle.model.specs.Names as Names
 use Rattle.model.specs.Validate.{Driver, driver, driverFrom}
-use Rattle.model.specs.Run.{initialBit}
 
 -- a port and its literal
 pub record Port : Type 0 where
   pub name : Name
   pub literal : Literal
 
--- a register: its next-state literal, initial bit, and the number of its variable's node
+-- a register: its next-state literal, and the number of its variable's node; its initial bit is Run's
 pub record StateBit : Type 0 where
   pub name : Name
   pub next : Literal
-  pub initial : Bool
   pub variable : ℕ
 
 -- a graph with inputs, states and outputs in byte order of their names
@@ -151,7 +149,7 @@ unfoldable pub withState : Registers → Register → Literal → Built → Regi
 withState g r state m =
     record {
       aig = m .aig;
-      states = snoc (g .states) (record { name = r .name; next = m .literal; initial = initialBit (r .reset); variable = node state });
+      states = snoc (g .states) (record { name = r .name; next = m .literal; variable = node state });
     }
 
 -- one register: the enable's mux, then the reset's
@@ -184,5 +182,5 @@ fromNetlist d = withRegisters (lowerNodes (d .registers) noNodes 0 (d .nodes)) (
 
 -- naming this in an `unfolding` line opens the definitions of this file and those it uses
 unfoldable pub all : Unit {0}
-unfolding assertedLiteral netLiteral driverReset withNet withLiteral lowerInput lowerOutput resetMux shown lowerShown lowerRegisterOutput lowerNode lowerNodes noNodes enabled resetNext initialBit withState lowerRegister lowerRegisters systemOf withRegisters fromNetlist driver driverFrom Graph.all Names.all
+unfolding assertedLiteral netLiteral driverReset withNet withLiteral lowerInput lowerOutput resetMux shown lowerShown lowerRegisterOutput lowerNode lowerNodes noNodes enabled resetNext withState lowerRegister lowerRegisters systemOf withRegisters fromNetlist driver driverFrom Graph.all Names.all
 all = tt

@@ -1,3 +1,4 @@
-// Names of a record in byte order: two names compared, and the orders by name of a netlist's ports and registers.
+// Names of a record in byte order: two names compared, the orders by name of a netlist's ports and registers, and a netlist with its orders.
+pub mod design;
 pub mod names;
 pub mod order;

@@ -4,7 +4,7 @@ ghost use Prim.Native.Nat.{_≤_};
 ghost use Rattle.model.specs.Names.{memberName};
 ghost use Rattle.model.specs.Lists.{member};
 ghost use Rattle.struo_ir.specs.Decoded.{nameAt};
-ghost use Rattle.netlist_checks.specs.Checks.{namesBefore, numbersBefore};
+ghost use Rattle.netlist_checks.specs.Seen.{namesBefore, numbersBefore};
 use name_order::names::same_name;
 use name_order::names::wide;
 

@@ -1,3 +1,3 @@
-// The checks of a pair of accepted designs: their orders by name, and refusals 18 to 22.
+// A pair of designs: both records read, and the checks of two accepted designs, refusals 18 to 22.
 pub mod checks;
-pub mod orders;
+pub mod reading;

@@ -5,6 +5,7 @@ use Prim.Native.Nat.{ℕ, _*_, _≤_}
 use native.Mathlib.Omega.{arith}
 use lib.ListN.{length}
 use lib.Ieee.{Float}
+use Rattle.words.specs.Layout.{LENT, MOST-NODES, MOST-LEARNED}
 use Rattle.model.specs.Equivalence as Model
 use Rattle.laws.specs.Graph.Operations.{Formed}
 use Rattle.aig.specs.Graph.{graphOf}
@@ -12,7 +13,7 @@ use Rattle.aig.specs.Made.{Ready}
 use Rattle.assignment.specs.State.{Unchanged}
 use Rattle.lowering.specs.Firsts.{firsts, take-firsts, Below}
 use Rattle.sat.specs.State.{solveRegions}
-use Rattle.sat.specs.SolveLaws.{answerOf}
+use Rattle.sat.specs.SolveLaws.{searchAnswer}
 use Rattle.sat.specs.StartLaws.{Solvable, Solves}
 use Rattle.sat.specs.declared.state.Answer.{Answer}
 use Rattle.sat.specs.GraphLaws.{gates-ready, holds-ready}
@@ -20,19 +21,19 @@ use Rattle.sat.specs.GraphLaws.{gates-ready, holds-ready}
 -- What a query asks of the n nodes in the words and its assumptions: a graph of the model, whose literals they are.
 pub record Askable (limit n : ℕ) (w : List ℕ) (x : List Float) (ls : List ℕ) (count : ℕ) : Type 0 where
   pub ready : Ready n w
-  pub small : n ≤ 65536
-  pub scores : 65536 ≤ length x
-  pub limited : limit ≤ 262144
+  pub small : n ≤ MOST-NODES
+  pub scores : MOST-NODES ≤ length x
+  pub limited : limit ≤ MOST-LEARNED
   pub few : count ≤ 128
   pub below : Below (n * 2) count ls
   pub formed : Formed (graphOf n w)
 
 -- The answer is the model's, and only the search's words are changed.
 pub record Asked (limit n : ℕ) (w ls : List ℕ) (count : ℕ) (r : Answer) (w′ : List ℕ) (x′ : List Float) : Type 0 where
-  pub is : (q : Model.Query) → graphOf n w ≡ q .aig → firsts count ls ≡ q .assumptions → answerOf n r w′ ≡ Model.ask limit q
+  pub is : (q : Model.Query) → graphOf n w ≡ q .aig → firsts count ls ≡ q .assumptions → searchAnswer n r w′ ≡ Model.ask limit q
   pub frame : Unchanged solveRegions w w′
-  pub long : 8388608 ≤ length w′
-  pub scores : 65536 ≤ length x′
+  pub long : LENT ≤ length w′
+  pub scores : MOST-NODES ≤ length x′
 
 module _ (limit n : ℕ) (w : List ℕ) (x : List Float) (ls : List ℕ) (count : ℕ) (a : Askable limit n w x ls count) (array : length ls ≡ 128) where
   -- what the search asks

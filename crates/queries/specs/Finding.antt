@@ -7,6 +7,7 @@ use native.Mathlib.Omega.{arith}
 use native.Mathlib.Numerals.{add-one}
 use lib.ListN.{length, replicate}
 use lib.Ieee.{Float}
+use Rattle.words.specs.Layout.{FRAMES}
 use Rattle.words.specs.Region.{region}
 use Rattle.model.specs.Sat as Sat
 use Rattle.model.specs.Equivalence as Model
@@ -14,8 +15,8 @@ use Rattle.model.specs.Equivalence.{FrameComparison, baseCounterexample, firstM
 use Rattle.model.specs.Check.{overwrite}
 use Rattle.equivalence.specs.Frames.{comparisonsOf}
 use Rattle.equivalence.specs.Counterexample.{Compares}
-use Rattle.sat.specs.State.{modelOf}
-use Rattle.sat.specs.SolveLaws.{answerOf}
+use Rattle.assignment.specs.State.{modelOf}
+use Rattle.sat.specs.SolveLaws.{searchAnswer}
 use Rattle.sat.specs.declared.state.Answer.{Answer}
 use Rattle.sat.specs.declared.state.Answer.the-variants as Answers
 use Rattle.trace.specs.Trace.{Traceable, Traced}
@@ -50,15 +51,15 @@ module _ (x : Problem) (limit d : ℕ) (w : List ℕ) (s : List Float) (t : List
   answer = queried x limit d (λ p. baseCounterexample p d) w s c w₁ (replicate 128 m) 1 a stated r w₂ s₂ z
 
   -- the model's answer, by an answer of the search
-  answer-is : (u : Answer) → r ≡ u → (p : Model.Problem) → StandsFor x w p → Model.ask limit (baseCounterexample p d) ≡ answerOf c u w₂
-  answer-is u e p q = sym (z .is (baseCounterexample p d) (stated .graph p q) (stated .assumptions p q)) ∙ ap (λ (y : Answer). answerOf c y w₂) e
+  answer-is : (u : Answer) → r ≡ u → (p : Model.Problem) → StandsFor x w p → Model.ask limit (baseCounterexample p d) ≡ searchAnswer c u w₂
+  answer-is u e p q = sym (z .is (baseCounterexample p d) (stated .graph p q) (stated .assumptions p q)) ∙ ap (λ (y : Answer). searchAnswer c y w₂) e
 
   -- the search leaves the comparisons
-  frames-kept : region 524288 w₂ ≡ region 524288 w₁
-  frames-kept = z .frame .same 524288 refl
+  frames-kept : region FRAMES w₂ ≡ region FRAMES w₁
+  frames-kept = z .frame .same FRAMES refl
 
   comparisons-are : (p : Model.Problem) → StandsFor x w p
-      → comparisonsOf (x .gold .«input_count») (x .gold .«output_count») (d + 1) (region 524288 w₂) ≡ baseCounterexample p d .comparisons
+      → comparisonsOf (x .gold .«input_count») (x .gold .«output_count») (d + 1) (region FRAMES w₂) ≡ baseCounterexample p d .comparisons
   comparisons-are p q = rw frames-kept (ap (λ (y : Model.Query). y .comparisons) (b .is p (q .standing) (started x w p q)))
 
   -- a trace may be written

@@ -4,6 +4,7 @@ use mathlib.Core.List.{List, map}
 use Prim.Native.Nat.{ℕ, suc, _+_, _*_, _≤_}
 use lib.ListN.{length}
 use lib.Ieee.{Float}
+use Rattle.words.specs.Layout.{LENT, MOST-NODES, MOST-LEARNED}
 use Rattle.model.specs.Answers as Answers
 use Rattle.model.specs.Answers.{CheckAnswer, acceptedAnswer, statusNumber}
 use Rattle.model.specs.Literal.{constantLiteral}
@@ -28,28 +29,28 @@ pub record StandsFor (x : Problem) (w : List ℕ) (p : Model.Problem) : Type 0 w
 
 -- What the proof asks: both sides in order, matches and start literals in range, room for every graph, buffers long enough, and a problem that is stood for.
 pub record Provable (x : Problem) (limit D : ℕ) (w : List ℕ) (scores : List Float) (trace : List ℕ) : Type 0 where
-  pub long : 8388608 ≤ length w
-  pub scores-long : 65536 ≤ length scores
+  pub long : LENT ≤ length w
+  pub scores-long : MOST-NODES ≤ length scores
   pub trace-long : suc D * x .gold .«input_count» + x .gold .«output_count» ≤ length trace
-  pub limited : limit ≤ 262144
+  pub limited : limit ≤ MOST-LEARNED
   pub shallow : D ≤ 64
   pub paired : Paired (x .gold) (x .gate) w
   pub gold-matches : Below (x .gate .«state_count» + 1) (x .gold .«state_count») (x .«gold_matches»)
   pub gate-matches : Below (x .gold .«state_count» + 1) (x .gate .«state_count») (x .«gate_matches»)
   pub gold-bits : Below 2 (x .gold .«state_count») (x .«gold_start»)
   pub gate-bits : Below 2 (x .gate .«state_count») (x .«gate_start»)
-  pub room : 1 + (x .gold .«state_count» + x .gate .«state_count») + suc D * cycleCost (x .gold) (x .gate) w ≤ 65536
+  pub room : 1 + (x .gold .«state_count» + x .gate .«state_count») + suc D * cycleCost (x .gold) (x .gate) w ≤ MOST-NODES
   pub problem : Model.Problem
   pub stands : StandsFor x w problem
 
--- a verdict as document 01 answers it
-unfoldable pub answerOf : Verdict → CheckAnswer
-answerOf (Equivalent d) = acceptedAnswer (statusNumber Answers.Equivalent) d 0 0
-answerOf (NotEquivalent d m) = acceptedAnswer (statusNumber Answers.NotEquivalent) d m 0
-answerOf (Inconclusive d) = acceptedAnswer (statusNumber Answers.Inconclusive) d 0 0
-answerOf (GaveUp d q) = acceptedAnswer (statusNumber Answers.GaveUp) d 0 q
+-- a verdict as the specification answers it
+unfoldable pub answerOfVerdict : Verdict → CheckAnswer
+answerOfVerdict (Equivalent d) = acceptedAnswer (statusNumber Answers.Equivalent) d 0 0
+answerOfVerdict (NotEquivalent d m) = acceptedAnswer (statusNumber Answers.NotEquivalent) d m 0
+answerOfVerdict (Inconclusive d) = acceptedAnswer (statusNumber Answers.Inconclusive) d 0 0
+answerOfVerdict (GaveUp d q) = acceptedAnswer (statusNumber Answers.GaveUp) d 0 q
 
 -- The verdict and the trace after it are the model's.
 pub record Proves (x : Problem) (limit D : ℕ) (w trace : List ℕ) (r : Verdict) (trace′ : List ℕ) : Type 0 where
-  pub answer : (p : Model.Problem) → StandsFor x w p → answerOf r ≡ verdictAnswer (proveSequentialEquivalence limit p D .verdict)
+  pub answer : (p : Model.Problem) → StandsFor x w p → answerOfVerdict r ≡ verdictAnswer (proveSequentialEquivalence limit p D .verdict)
   pub traced : (p : Model.Problem) → StandsFor x w p → trace′ ≡ verdictTrace (proveSequentialEquivalence limit p D .verdict) trace

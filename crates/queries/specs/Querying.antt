@@ -7,13 +7,14 @@ use native.Mathlib.Omega.{arith}
 use native.Mathlib.Nat.{mul-le-mul}
 use lib.ListN.{length, getD, replicate}
 use lib.Ieee.{Float}
+use Rattle.words.specs.Layout.{LENT, MOST-NODES, MOST-LEARNED}
 use Rattle.model.specs.Lists.{snoc}
 use Rattle.model.specs.Equivalence as Model
 use Rattle.model.specs.Equivalence.{baseCounterexample, basePreservesNamedState, inductionCloses}
 use Rattle.laws.specs.Graph.Operations.{Formed}
 use Rattle.laws.specs.Queries.Formed as Laws
 use Rattle.aig.specs.Graph.{graphOf}
-use Rattle.aig.specs.Made.{Ready, heads-all}
+use Rattle.aig.specs.Made.{Ready}
 use Rattle.lowering.specs.Firsts.{firsts, Below}
 use Rattle.unrolling.specs.Side.{Untouched, untouched-beyond}
 use Rattle.equivalence.specs.Rows.{untouched-frames}
@@ -22,7 +23,7 @@ use Rattle.equivalence.specs.Inducing.{cycleCost}
 use Rattle.equivalence.specs.FreeState.{Inducible, Induces}
 use Rattle.equivalence.specs.NamedState.{Preservable, Started, Preserves, namedCost}
 use Rattle.equivalence.specs.Counterexample.{Comparable, Compares, comparedCost}
-use Rattle.sat.specs.SolveLaws.{answerOf}
+use Rattle.sat.specs.SolveLaws.{searchAnswer}
 use Rattle.sat.specs.declared.state.Answer.{Answer}
 use Rattle.queries.specs.Problem.{StandsFor, Provable}
 use Rattle.queries.specs.Untouched.{untouched-both, untouched-solve, cycle-cost-kept}
@@ -31,16 +32,16 @@ use Rattle.queries.specs.declared.problem.Problem.{Problem}
 
 -- What each query of depth d asks: as `Provable`, with room for its own graph alone.
 pub record Queryable (x : Problem) (limit d : ℕ) (w : List ℕ) (scores : List Float) : Type 0 where
-  pub long : 8388608 ≤ length w
-  pub scores-long : 65536 ≤ length scores
-  pub limited : limit ≤ 262144
+  pub long : LENT ≤ length w
+  pub scores-long : MOST-NODES ≤ length scores
+  pub limited : limit ≤ MOST-LEARNED
   pub shallow : d ≤ 64
   pub paired : Paired (x .gold) (x .gate) w
   pub gold-matches : Below (x .gate .«state_count» + 1) (x .gold .«state_count») (x .«gold_matches»)
   pub gate-matches : Below (x .gold .«state_count» + 1) (x .gate .«state_count») (x .«gate_matches»)
   pub gold-bits : Below 2 (x .gold .«state_count») (x .«gold_start»)
   pub gate-bits : Below 2 (x .gate .«state_count») (x .«gate_start»)
-  pub room : 1 + (x .gold .«state_count» + x .gate .«state_count») + suc d * cycleCost (x .gold) (x .gate) w ≤ 65536
+  pub room : 1 + (x .gold .«state_count» + x .gate .«state_count») + suc d * cycleCost (x .gold) (x .gate) w ≤ MOST-NODES
   pub problem : Model.Problem
   pub stands : StandsFor x w problem
 
@@ -77,7 +78,7 @@ queryable-at x limit D d w s t a h =
 
 -- and again after what left both sides
 pub queryable-kept : (x : Problem) (limit d : ℕ) (w : List ℕ) (s : List Float) (w′ : List ℕ) (s′ : List Float)
-    → Queryable x limit d w s → Untouched w w′ → 8388608 ≤ length w′ → 65536 ≤ length s′ → Queryable x limit d w′ s′
+    → Queryable x limit d w s → Untouched w w′ → LENT ≤ length w′ → MOST-NODES ≤ length s′ → Queryable x limit d w′ s′
 queryable-kept x limit d w s w′ s′ a k e f =
     record {
       long = e;
@@ -99,7 +100,7 @@ queryable-kept x limit d w s w′ s′ a k e f =
 -- The query of each problem that w stands for is in w₁: c nodes, and the first `count` assumptions of ls.
 pub record Stated (x : Problem) (query : Model.Problem → Model.Query) (w : List ℕ) (c : ℕ) (w₁ ls : List ℕ) (count : ℕ) : Type 0 where
   pub ready : Ready c w₁
-  pub small : c ≤ 65536
+  pub small : c ≤ MOST-NODES
   pub kept : Untouched w w₁
   pub below : Below (c * 2) count ls
   pub few : count ≤ 128
@@ -109,7 +110,7 @@ pub record Stated (x : Problem) (query : Model.Problem → Model.Query) (w : Lis
 -- The query is answered: the answer is the model's, and the next query may be asked.
 pub record Queried (x : Problem) (limit d : ℕ) (query : Model.Problem → Model.Query) (w : List ℕ) (r : Answer) (w′ : List ℕ) (scores′ : List Float) : Type 0 where
   pub nodes : ℕ
-  pub is : (p : Model.Problem) → StandsFor x w p → answerOf nodes r w′ ≡ Model.ask limit (query p)
+  pub is : (p : Model.Problem) → StandsFor x w p → searchAnswer nodes r w′ ≡ Model.ask limit (query p)
   pub kept : Untouched w w′
   pub next : Queryable x limit d w′ scores′
 
@@ -159,15 +160,13 @@ started x w p s = record { gold = s .gold-start; gate = s .gate-start }
 
 module _ (x : Problem) (limit d : ℕ) (w : List ℕ) (s : List Float) (a : Queryable x limit d w s) where
   -- query 2 may be built
-  pub preservable : Preservable (x .gold) (x .gate) (x .«gold_matches») (x .«gold_start») (x .«gate_start») 65536 d w
+  pub preservable : Preservable (x .gold) (x .gate) (x .«gold_matches») (x .«gold_start») (x .«gate_start») d w
   preservable =
       let n = namedCost (x .gold) (x .gate) w in
       let cost = cycleCost (x .gold) (x .gate) w in
       let less : (d + 1) * n ≤ suc d * cost = mul-le-mul {n₁ = d + 1} {m₁ = n} {n₂ = suc d} {m₂ = cost} (omega arith) (omega arith) in
       record {
         long = a .long;
-        used-small = omega arith;
-        heads = heads-all w;
         paired = a .paired;
         matches = a .gold-matches;
         gold-start = a .gold-bits;
@@ -191,15 +190,13 @@ module _ (x : Problem) (limit d : ℕ) (w : List ℕ) (s : List Float) (a : Quer
       }
 
   -- query 1 may be built
-  pub comparable : Comparable (x .gold) (x .gate) (x .«gold_start») (x .«gate_start») 65536 d w
+  pub comparable : Comparable (x .gold) (x .gate) (x .«gold_start») (x .«gate_start») d w
   comparable =
       let n = comparedCost (x .gold) (x .gate) w in
       let cost = cycleCost (x .gold) (x .gate) w in
       let less : suc d * n ≤ suc d * cost = mul-le-mul {n₁ = suc d} {m₁ = n} {n₂ = suc d} {m₂ = cost} (omega arith) (omega arith) in
       record {
         long = a .long;
-        used-small = omega arith;
-        heads = heads-all w;
         paired = a .paired;
         gold-start = a .gold-bits;
         gate-start = a .gate-bits;
@@ -222,12 +219,10 @@ module _ (x : Problem) (limit d : ℕ) (w : List ℕ) (s : List Float) (a : Quer
       }
 
   -- query 3 and 4 may be built
-  pub inducible : Inducible (x .gold) (x .gate) (x .«gold_matches») (x .«gate_matches») 65536 d w
+  pub inducible : Inducible (x .gold) (x .gate) (x .«gold_matches») (x .«gate_matches») d w
   inducible =
       record {
         long = a .long;
-        used-small = omega arith;
-        heads = heads-all w;
         paired = a .paired;
         gold-matches = a .gold-matches;
         gate-matches = a .gate-matches;

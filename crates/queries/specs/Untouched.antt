@@ -5,6 +5,7 @@ use mathlib.Core.List.{List, [], _∷_}
 use Prim.Native.Nat.{ℕ, _≤_}
 use native.Mathlib.Omega.{arith}
 use Rattle.facts.specs.Bools.{both-and}
+use Rattle.words.specs.Layout.{GOLD-LHS, GATE-RHS, IMPORTED}
 use Rattle.words.specs.Region.{apart}
 use Rattle.aig.specs.Side.{side-under}
 use Rattle.assignment.specs.State.{Unchanged, apartFrom}
@@ -25,9 +26,9 @@ untouched-both f g = record { at = λ b lo hi. g .at b lo hi ∙ f .at b lo hi }
 -- regions that lie past both graphs
 abbrev Past : List ℕ → Type 0
 Past [] = Unit {0}
-Past (c ∷ cs) = (458752 ≤ c) × Past cs
+Past (c ∷ cs) = (IMPORTED ≤ c) × Past cs
 
-past-apart : (cs : List ℕ) → Past cs → (b : ℕ) → 196608 ≤ b → b ≤ 393216 → apartFrom cs b ≡ true
+past-apart : (cs : List ℕ) → Past cs → (b : ℕ) → GOLD-LHS ≤ b → b ≤ GATE-RHS → apartFrom cs b ≡ true
 past-apart [] h b lo hi = refl
 past-apart (c ∷ cs) h b lo hi = both-and (apart b c) (apartFrom cs b) (side-under b lo hi c (omega (arith, h .0))) (past-apart cs (h .1) b lo hi)
 

@@ -13,9 +13,6 @@ use equivalence::induction::induction_closes;
 use sat::state::Answer;
 use trace::write_counterexample;
 
-// How many nodes the graph before may have had.
-const USED: u32 = 65536;
-
 // What query 1 finds: a counterexample with its first mismatch, none, or that the search gave up.
 pub enum Counterexample {
     Mismatch(u32),
@@ -39,7 +36,7 @@ pub fn find_counterexample(
     let gate = problem.gate;
     let gold_start = problem.gold_start;
     let gate_start = problem.gate_start;
-    let base = base_counterexample(gold, gate, words, USED, gold_start, gate_start, depth);
+    let base = base_counterexample(gold, gate, words, gold_start, gate_start, depth);
     let aig = base.aig;
     let literal = base.any_mismatch;
     let assumptions = [literal.0; 128];
@@ -77,7 +74,6 @@ pub fn named_state_differs(
         gate,
         &matches,
         words,
-        USED,
         gold_start,
         gate_start,
         depth,
@@ -110,7 +106,6 @@ pub fn induction_fails(
         &gold_matches,
         &gate_matches,
         words,
-        USED,
         include,
         depth,
     );

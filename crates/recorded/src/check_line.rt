@@ -1,4 +1,5 @@
-// A line of the call check: the buffers that it asks for, the answer recorded in it, and what the buffers hold after the call.
+// A line of the call check: `check GOLDHEX GATEHEX D TRACELEN WORDSLEN SCORESLEN = NUMBER SIDE PLACE STATUS DEPTH MISMATCH QUERY TRACEHEX MAXLEARNED`.
+// The buffers that it asks for, the answer recorded in it, and what the buffers hold after the call; its last number is not looked at.
 ghost use Prim.Native.Nat.{_≤_};
 use crate::lent::HELD_WORD;
 use crate::lent::score_fault;
@@ -9,8 +10,10 @@ use crate::outcome::SCORES;
 use crate::outcome::TRACE;
 use crate::outcome::WORDS;
 use crate::outcome::compared;
-use lender::text::Bytes;
-use lender::text::equals;
+use crate::pair::Pair;
+use crate::pair::both_records;
+use crate::refusal::Refusal;
+use crate::refusal::told_refusal;
 use lender::text::hex;
 use lender::text::number;
 use lender::text::space;
@@ -26,14 +29,14 @@ pub struct Asked {
     pub next: usize,
 }
 
-fn asks(line: &[u8], gold: usize, gate: Bytes) -> Asked {
-    let depth = number(line, space(line, gate.next));
+fn asks(line: &[u8], records: Pair) -> Asked {
+    let depth = number(line, space(line, records.next));
     let trace = number(line, space(line, depth.next));
     let words = number(line, space(line, trace.next));
     let scores = number(line, space(line, words.next));
     Asked {
-        gold: gold,
-        gate: gate.count,
+        gold: records.gold,
+        gate: records.gate,
         depth: depth.value,
         trace: trace.value as usize,
         words: words.value as usize,
@@ -42,30 +45,10 @@ fn asks(line: &[u8], gold: usize, gate: Bytes) -> Asked {
     }
 }
 
-// What a line asks for after gold's record; gate's record is put into `gate`.
-pub fn asked_of(line: &[u8], gold: Bytes, gate: &mut [u8]) -> Asked {
-    let second_record = hex(line, space(line, gold.next), gate);
-    asks(line, gold.count, second_record)
-}
-
-// Number, side and place of a recorded answer, and the offset after them.
-pub struct Refusal {
-    pub number: u64,
-    pub side: u64,
-    pub place: u64,
-    pub next: usize,
-}
-
-fn told_refusal(line: &[u8], from: usize) -> Refusal {
-    let told = number(line, equals(line, from));
-    let side = number(line, space(line, told.next));
-    let place = number(line, space(line, side.next));
-    Refusal {
-        number: told.value,
-        side: side.value,
-        place: place.value,
-        next: place.next,
-    }
+// What a line asks for; its records are put into the buffers.
+pub fn asked_of(line: &[u8], gold: &mut [u8], gate: &mut [u8]) -> Asked {
+    let records = both_records(line, 6, gold, gate);
+    asks(line, records)
 }
 
 // Status, depth, mismatch and query of a recorded answer, and the offset after them.

@@ -1,3 +1,2 @@
-pub mod Designs
-pub mod RefusalLaws
 pub mod Refusals
+pub mod RefusalLaws

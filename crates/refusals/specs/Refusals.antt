@@ -3,16 +3,12 @@ use Prim.Native.Nat.{ℕ, suc, _+_, _*_}
 use mathlib.Core.Bool.{Bool, _||_}
 use mathlib.Core.Option.{Option}
 use lib.Dec.{eqb, ltb}
+use Rattle.words.specs.Layout.{LENT, MOST-NODES}
 use Rattle.model.specs.Answers.{Refusal}
 use Rattle.model.specs.Netlist.{Design}
 use Rattle.model.specs.Validate.{_otherwise_, refuseIf}
 use Rattle.model.specs.Pair as Pair
 use Rattle.model.specs.Pair.{interfaceFault, initialFault, proofNodes, tooShort}
-use Rattle.refusals.specs.declared.Lent.{Lent}
-
--- the lengths of the buffers lent
-unfoldable pub lentOf : Lent → Pair.Lent
-lentOf l = record { trace = l .trace; words = l .words; scores = l .scores }
 
 -- F, from the counts of inputs and outputs of one side, and of nodes and registers of both
 unfoldable pub framesBy : (inputs outputs nodes registers : ℕ) → ℕ
@@ -24,7 +20,7 @@ nodesBy inputs outputs nodes registers depth = suc depth * framesBy inputs outpu
 
 -- a lent buffer is too short
 unfoldable pub shortBy : (inputs outputs depth : ℕ) → Pair.Lent → Bool
-shortBy inputs outputs depth lent = ltb (lent .trace) (suc depth * inputs + outputs) || ltb (lent .words) 8388608 || ltb (lent .scores) 65536
+shortBy inputs outputs depth lent = ltb (lent .trace) (suc depth * inputs + outputs) || ltb (lent .words) LENT || ltb (lent .scores) MOST-NODES
 
 -- 16 and 17
 unfoldable pub depthFault : ℕ → Option Refusal
@@ -37,12 +33,12 @@ sizeFault inputs outputs nodes registers depth lent =
     otherwise refuseIf 24 0 0 (shortBy inputs outputs depth lent)
 
 -- 22 to 24
-unfoldable pub laterFault : Design → Design → ℕ → Pair.Lent → Option Refusal
-laterFault gold gate depth lent =
+unfoldable pub initialAndSizeFault : Design → Design → ℕ → Pair.Lent → Option Refusal
+initialAndSizeFault gold gate depth lent =
     initialFault gold gate
     otherwise refuseIf 23 0 0 (ltb 65535 (proofNodes gold gate depth))
     otherwise refuseIf 24 0 0 (tooShort gold depth lent)
 
 -- 18 to 24
 unfoldable pub pairFault : Design → Design → ℕ → Pair.Lent → Option Refusal
-pairFault gold gate depth lent = interfaceFault gold gate otherwise laterFault gold gate depth lent
+pairFault gold gate depth lent = interfaceFault gold gate otherwise initialAndSizeFault gold gate depth lent

@@ -1,26 +1,23 @@
-// The refusals 16 to 24 of a check, in document 01's order. Nothing lent is written before all of them are tested.
+// The refusals 16 to 24 of a check, in the specification's order. Nothing lent is written before all of them are tested.
 ghost use mathlib.Core.Path.{_≡_};
 ghost use mathlib.Core.List.{List};
-ghost use Prim.Native.Nat.{ℕ, _+_, _*_, _≤_};
+ghost use Prim.Native.Nat.{ℕ, _≤_};
 ghost use lib.Dec.{ltb};
 ghost use Rattle.model.specs.Pair.{checkFault};
+ghost use Rattle.calls.specs.Faults.{faultOf};
+ghost use Rattle.calls.specs.Options.{optionsOf, lentOf};
 ghost use Rattle.struo_ir.specs.Decoded.{decoded};
-ghost use Rattle.name_order.specs.Places.{Formed};
-ghost use Rattle.pair.specs.PairChecks.{faultOf};
-ghost use Rattle.refusals.specs.Refusals.{lentOf, framesBy, nodesBy, shortBy, depthFault, sizeFault, laterFault, pairFault};
-ghost use Rattle.refusals.specs.Designs.{Sided};
-use pair::checks::Fault;
+ghost use Rattle.struo_ir.specs.Designs.{Sized, Sided};
+ghost use Rattle.struo_ir.specs.Orders.{Formed};
+ghost use Rattle.refusals.specs.Refusals.{framesBy, nodesBy, shortBy, depthFault, sizeFault, initialAndSizeFault, pairFault};
+use calls::fault::Fault;
+use calls::options::Lent;
+use calls::options::Options;
 use pair::checks::initial_fault;
 use pair::checks::interface_fault;
-use pair::orders::Orders;
-use struo_ir::netlist::Netlist;
-
-// How many trace bytes, words and scores are lent.
-pub struct Lent {
-    pub trace: usize,
-    pub words: usize,
-    pub scores: usize,
-}
+use struo_ir::design::Design;
+use words::LENT;
+use words::MOST_NODES;
 
 // 16 and 17. The depth is tested as it came, before anything is computed from it.
 fn depth_fault(depth: u64) -> Fault
@@ -35,7 +32,7 @@ fn depth_fault(depth: u64) -> Fault
     Fault::Nothing
 }
 
-// Document 01's F: how many nodes a cycle makes at most.
+// The specification's F: how many nodes a cycle makes at most.
 fn nodes_per_cycle(inputs: usize, outputs: usize, nodes: usize, registers: usize) -> usize
     requires { ⌜ (inputs ≤ 128) × (outputs ≤ 128) × (nodes ≤ 2048) × (registers ≤ 256) ⌝ }
     ensures { λ r. ⌜ (r ≡ framesBy inputs outputs nodes registers) × (r ≤ 9345) ⌝ }
@@ -62,10 +59,10 @@ fn too_short(inputs: usize, outputs: usize, depth: usize, lent: Lent) -> bool
     if lent.trace < rows * inputs + outputs {
         return true;
     }
-    if lent.words < 8388608 {
+    if lent.words < LENT {
         return true;
     }
-    lent.scores < 65536
+    lent.scores < MOST_NODES
 }
 
 // 23 and 24, from the counts.
@@ -90,21 +87,27 @@ fn size_fault(
 }
 
 // 22 to 24.
-fn later_fault(x: Netlist, a: Orders, y: Netlist, b: Orders, depth: usize, lent: Lent) -> Fault
-    requires { ⌜ (x .«node_count» ≤ 1024) × (x .«register_count» ≤ 128) × (y .«node_count» ≤ 1024) × (y .«register_count» ≤ 128)
-        × (Formed (a .inputs)) × (Formed (a .outputs)) × (Formed (a .registers)) × (Formed (b .registers)) × (depth ≤ 64) ⌝ }
-    ensures { λ r. ⌜ ((s t : List ℕ) → Sided s x a → Sided t y b → faultOf r ≡ laterFault (decoded s x) (decoded t y) depth (lentOf lent)) ⌝ }
+fn initial_and_size_fault(
+    gold_design: Design,
+    gate_design: Design,
+    depth: usize,
+    lent: Lent,
+) -> Fault
+    requires { ⌜ (Sized («gold_design» .netlist)) × (Sized («gate_design» .netlist)) × (Formed («gold_design» .inputs)) × (Formed («gold_design» .outputs))
+        × (Formed («gold_design» .registers)) × (Formed («gate_design» .registers)) × (depth ≤ 64) ⌝ }
+    ensures { λ r. ⌜ ((s t : List ℕ) → Sided s «gold_design» → Sided t «gate_design»
+        → faultOf r ≡ initialAndSizeFault (decoded s («gold_design» .netlist)) (decoded t («gate_design» .netlist)) depth (lentOf lent)) ⌝ }
 {
-    let p = a.registers;
-    let q = b.registers;
-    let initial = initial_fault(x, p, y, q);
+    let initial = initial_fault(gold_design, gate_design);
     match initial {
         Fault::Refused(number, side, place) => Fault::Refused(number, side, place),
         Fault::Nothing => {
-            let inputs = a.inputs;
-            let outputs = a.outputs;
-            let nodes = x.node_count + y.node_count;
-            let registers = x.register_count + y.register_count;
+            let inputs = gold_design.inputs;
+            let outputs = gold_design.outputs;
+            let gold = gold_design.netlist;
+            let gate = gate_design.netlist;
+            let nodes = gold.node_count + gate.node_count;
+            let registers = gold.register_count + gate.register_count;
             size_fault(inputs.count, outputs.count, nodes, registers, depth, lent)
         }
     }
@@ -113,41 +116,38 @@ fn later_fault(x: Netlist, a: Orders, y: Netlist, b: Orders, depth: usize, lent:
 // 18 to 24.
 fn pair_fault(
     gold: &[u8],
-    x: Netlist,
-    a: Orders,
+    gold_design: Design,
     gate: &[u8],
-    y: Netlist,
-    b: Orders,
+    gate_design: Design,
     depth: usize,
     lent: Lent,
 ) -> Fault
-    requires { ⌜ (Sided (now gold) x a) × (Sided (now gate) y b) × (depth ≤ 64) ⌝ }
-    ensures { λ r. ⌜ faultOf r ≡ pairFault (decoded (now (gold .entry)) x) (decoded (now (gate .entry)) y) depth (lentOf lent) ⌝ }
+    requires { ⌜ (Sided (now gold) «gold_design») × (Sided (now gate) «gate_design») × (depth ≤ 64) ⌝ }
+    ensures { λ r. ⌜ faultOf r ≡ pairFault (decoded (now (gold .entry)) («gold_design» .netlist)) (decoded (now (gate .entry)) («gate_design» .netlist)) depth (lentOf lent) ⌝ }
 {
-    let interface = interface_fault(gold, x, a, gate, y, b);
+    let interface = interface_fault(gold, gold_design, gate, gate_design);
     match interface {
         Fault::Refused(number, side, place) => Fault::Refused(number, side, place),
-        Fault::Nothing => later_fault(x, a, y, b, depth, lent),
+        Fault::Nothing => initial_and_size_fault(gold_design, gate_design, depth, lent),
     }
 }
 
 // The first refusal of 16 to 24.
 pub fn check_fault(
     gold: &[u8],
-    x: Netlist,
-    a: Orders,
+    gold_design: Design,
     gate: &[u8],
-    y: Netlist,
-    b: Orders,
-    depth: u64,
+    gate_design: Design,
+    options: Options,
     lent: Lent,
 ) -> Fault
-    requires { ⌜ (Sided (now gold) x a) × (Sided (now gate) y b) ⌝ }
-    ensures { λ r. ⌜ faultOf r ≡ checkFault (decoded (now (gold .entry)) x) (decoded (now (gate .entry)) y) depth (lentOf lent) ⌝ }
+    requires { ⌜ (Sided (now gold) «gold_design») × (Sided (now gate) «gate_design») ⌝ }
+    ensures { λ r. ⌜ faultOf r ≡ checkFault (decoded (now (gold .entry)) («gold_design» .netlist)) (decoded (now (gate .entry)) («gate_design» .netlist)) (optionsOf options) (lentOf lent) ⌝ }
 {
+    let depth = options.depth;
     let first = depth_fault(depth);
     match first {
         Fault::Refused(number, side, place) => Fault::Refused(number, side, place),
-        Fault::Nothing => pair_fault(gold, x, a, gate, y, b, depth as usize, lent),
+        Fault::Nothing => pair_fault(gold, gold_design, gate, gate_design, depth as usize, lent),
     }
 }

@@ -19,5 +19,5 @@ unfoldable pub claimFault : ℕ → ℕ → ℕ → List ℕ → Option Refusal
 claimFault inputs outputs cycle claim = refuseIf 25 0 0 (claimBad inputs outputs cycle claim)
 
 -- 22 and 25
-unfoldable pub laterFault : Design → Design → ℕ → List ℕ → Option Refusal
-laterFault gold gate cycle claim = initialFault gold gate otherwise refuseIf 25 0 0 (badClaim gold cycle claim)
+unfoldable pub initialAndClaimFault : Design → Design → ℕ → List ℕ → Option Refusal
+initialAndClaimFault gold gate cycle claim = initialFault gold gate otherwise refuseIf 25 0 0 (badClaim gold cycle claim)

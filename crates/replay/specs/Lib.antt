@@ -1,4 +1,3 @@
 pub mod ClaimChecks
 pub mod ClaimLaws
-pub mod ReplayAnswers
 pub mod ReplayRight

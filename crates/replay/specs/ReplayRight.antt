@@ -4,44 +4,37 @@ use mathlib.Core.Path.{_≡_, refl, sym, ap, ap₂, _∙_, subst}
 use mathlib.Core.Bool.{Bool, false, not, _||_}
 use mathlib.Core.List.{List}
 use mathlib.Core.Option.{Option, none, some}
-use native.Mathlib.Omega.{arith}
 use native.Mathlib.Numerals.{add-one}
 use borrow.Author.Tests.{ltb-false}
 use lib.Dec.{eqb, ltb}
 use lib.ListN.{length, take, length-map}
 use Rattle.model.specs.Answers.{Refusal, accepted}
 use Rattle.model.specs.Names.{Place}
-use Rattle.model.specs.Netlist.{Design, Register, inputs, outputs, inputCount, outputCount}
-use Rattle.model.specs.Validate.{_otherwise_, refuseIf, readRecord}
+use Rattle.model.specs.Netlist.{Design, Register, inputs, outputs, inputCount, registerCount}
+use Rattle.model.specs.Validate.{refuseIf}
 use Rattle.model.specs.Run.{StoredBits, initialBit, initialBits}
-use Rattle.model.specs.Pair as Pair
-use Rattle.model.specs.Pair.{onGate, withGate, withGold, readPair, allBits, traceLength, badClaim, replayFault, initialFault, interfaceFault}
+use Rattle.model.specs.Pair.{both, refusedPair, readPair, allBits, traceLength, badClaim, replayFault, initialFault, interfaceFault}
 use Rattle.model.specs.Replay as Replay
 use Rattle.model.specs.Replay.{initialPosition, positionAfter, stepsReplay, replayPair, refusedReplay}
 use Rattle.facts.specs.Bools.{or-left}
 use Rattle.laws.specs.Record.Accepted.{otherwise-none, refuseIf-none}
 use Rattle.laws.specs.Replay.{steps-replay}
+use Rattle.calls.specs.Answers.{replayOf}
 use Rattle.struo_ir.specs.Decoded.{decoded}
-use Rattle.name_order.specs.Places.{Formed, places}
-use Rattle.name_order.specs.PortLaws.{count-places}
+use Rattle.struo_ir.specs.Designs.{Sized, Padded, Ordered}
+use Rattle.struo_ir.specs.Orders.{Formed, places}
 use Rattle.struo_ir.specs.declared.netlist.Netlist.{Netlist}
-use Rattle.struo_ir.specs.Reading.{readOf}
-use Rattle.struo_ir.specs.declared.reader.Answer.the-variants as Reader
-use Rattle.struo_ir.specs.declared.reader.Reading.{Reading}
-use Rattle.name_order.specs.declared.order.Order.{Order}
-use Rattle.pair.specs.PairChecks.{Ordered, refusalOn}
-use Rattle.pair.specs.PairCheckLaws.{refusal}
-use Rattle.pair.specs.ReadingRight.{reading-accepted, reading-refused}
-use Rattle.pair.specs.declared.orders.Orders.{Orders}
+use Rattle.struo_ir.specs.declared.design.Order.{Order}
+use Rattle.struo_ir.specs.declared.design.Design as Travelling
+use Rattle.name_order.specs.PortLaws.{count-places}
+use Rattle.pair.specs.CountLaws.{count-registers, count-inputs, count-outputs}
 use Rattle.run.specs.RunTables.{padded}
-use Rattle.run.specs.RunLaws.{count-registers}
 use Rattle.steps.specs.StepLaws.{padded-taken}
-use Rattle.steps.specs.StepSides.{Sound, Ready, position, stepped, Paired, StepTaken}
+use Rattle.steps.specs.StepSides.{SizedSide, Prepared, position, stepped, Paired, StepTaken}
 use Rattle.steps.specs.declared.step.Side.{Side}
 use Rattle.steps.specs.declared.step.Position.{Position}
 use Rattle.steps.specs.declared.step.Stepped.{Stepped}
-use Rattle.replay.specs.ClaimChecks.{claimBad, claimFault, laterFault}
-use Rattle.replay.specs.ReplayAnswers.{answerOf}
+use Rattle.replay.specs.ClaimChecks.{claimBad, claimFault}
 
 module _ (s t : List ℕ) (gold gate : Side) (cycle : ℕ) (claim : List ℕ) (start : Replay.Position) where
   -- the position after k steps
@@ -70,30 +63,10 @@ replay-steps d e x y cycle claim = steps-replay d e x y cycle claim
 -- ---- the checks
 
 -- the counts of the orders are those of the design
-pub claim-of : (s : List ℕ) (x : Netlist) (a : Orders) (cycle : ℕ) (claim : List ℕ) → Ordered s x a → claimFault (a .inputs .count) (a .outputs .count) cycle claim ≡ refuseIf 25 0 0 (badClaim (decoded s x) cycle claim)
-unfolding claimFault claimBad badClaim traceLength inputCount outputCount
-claim-of s x a cycle claim o =
-    rw (count-places s (a .inputs) (o .formed-inputs), count-places s (a .outputs) (o .formed-outputs), o .inputs-are, o .outputs-are)
-
--- the first check refuses
-pub later-first : (gold gate : Design) (cycle : ℕ) (claim : List ℕ) (r : Refusal) → initialFault gold gate ≡ some r → some r ≡ laterFault gold gate cycle claim
-unfolding laterFault _otherwise_
-later-first gold gate cycle claim r e = rw e
-
--- the second check decides
-pub later-second : (gold gate : Design) (cycle : ℕ) (claim : List ℕ) → initialFault gold gate ≡ none → refuseIf 25 0 0 (badClaim gold cycle claim) ≡ laterFault gold gate cycle claim
-unfolding laterFault _otherwise_
-later-second gold gate cycle claim e = rw e
-
--- the interface's check refuses
-pub replay-first : (gold gate : Design) (cycle : ℕ) (claim : List ℕ) (r : Refusal) → interfaceFault gold gate ≡ some r → some r ≡ replayFault gold gate cycle claim
-unfolding replayFault _otherwise_
-replay-first gold gate cycle claim r e = rw e
-
--- the later checks decide
-pub replay-second : (gold gate : Design) (cycle : ℕ) (claim : List ℕ) → interfaceFault gold gate ≡ none → laterFault gold gate cycle claim ≡ replayFault gold gate cycle claim
-unfolding replayFault laterFault _otherwise_
-replay-second gold gate cycle claim e = rw e
+pub claim-of : (s : List ℕ) (d : Travelling.Design) (cycle : ℕ) (claim : List ℕ) → Ordered s d
+    → claimFault (d .inputs .count) (d .outputs .count) cycle claim ≡ refuseIf 25 0 0 (badClaim (decoded s (d .netlist)) cycle claim)
+unfolding claimFault claimBad badClaim traceLength
+claim-of s d cycle claim o = rw (count-inputs s d o, count-outputs s d o)
 
 -- a claim that is not refused is within 64 cycles
 pub accepted-cycle : (gold gate : Design) (cycle : ℕ) (claim : List ℕ) → replayFault gold gate cycle claim ≡ none → cycle ≤ 64
@@ -104,86 +77,76 @@ accepted-cycle gold gate cycle claim e =
     let c : (ltb 64 cycle || not (eqb (length claim) (traceLength gold cycle)) || not (allBits claim)) ≡ false = refuseIf-none 25 0 0 _ (b .1) in
     ltb-false 64 cycle (or-left (ltb 64 cycle) _ (or-left (ltb 64 cycle || not (eqb (length claim) (traceLength gold cycle))) _ c))
 
--- ---- from the initial bits
+-- ---- from the stored bits in two rows
 
 -- a side is within its limits where its netlist and its outputs are
-pub sound-of : (side : Side) (n : Netlist) (o : Order) → side .netlist ≡ n → side .outputs ≡ o → n .«node_count» ≤ 1024 → n .«register_count» ≤ 128 → Formed o → Sound side
-sound-of side n o e f h l g =
-    record {
-      nodes = omega (arith, ap (λ (m : Netlist). m .«node_count») e);
-      registers = omega (arith, ap (λ (m : Netlist). m .«register_count») e);
-      formed = subst (λ (q : Order). Formed q) (sym f) g;
-    }
+pub sized-of : (side : Side) (n : Netlist) (o : Order) → side .netlist ≡ n → side .outputs ≡ o → Sized n → Formed o → SizedSide side
+sized-of side n o e f h g = record { sized = rw e h; formed = rw f g }
 
--- as many initial bits as registers
-length-initial : (d : Design) → length (initialBits d) ≡ length (d .registers)
-unfolding initialBits
-length-initial d = length-map (d .registers) (λ (r : Register). initialBit (r .reset))
+-- what side_of gives of a design
+abbrev pub SideOf : List ℕ → List ℕ → Order → Travelling.Design → Side → Type 0
+SideOf s t ins d side = (side .netlist ≡ d .netlist) × (side .outputs ≡ d .outputs) × Prepared t (places s ins) side
 
--- a row of initial bits
-initial-taken : (s : List ℕ) (n : Netlist) (row : List Bool) → n .«register_count» ≤ length (n .registers) → row ≡ padded 128 (initialBits (decoded s n)) → take (n .«register_count») row ≡ initialBits (decoded s n)
-initial-taken s n row l e = padded-taken 128 (n .«register_count») row (initialBits (decoded s n)) e (sym (length-initial (decoded s n) ∙ count-registers s n l))
-
-module _ (s t : List ℕ) (x y : Netlist) (a b : Orders) (left right : Side) (o : Ordered s x a) (q : Ordered t y b)
-    (ln : left .netlist ≡ x) (lo : left .outputs ≡ a .outputs) (lr : Ready s (places s (a .inputs)) left) (rn : right .netlist ≡ y) (ro : right .outputs ≡ b .outputs) (rr : Ready t (places s (a .inputs)) right) where
+module _ (s t : List ℕ) (gold gate : Travelling.Design) (left right : Side) (o : Ordered s gold) (q : Ordered t gate)
+    (l : SideOf s s (gold .inputs) gold left) (r : SideOf s t (gold .inputs) gate right) where
   -- the two sides belong together
-  paired : Paired s t (a .inputs .count) left right
+  paired : Paired s t (gold .inputs .count) left right
   paired =
-      let e : places s (a .inputs) ≡ inputs (decoded s (left .netlist)) = o .inputs-are ∙ ap (λ (n : Netlist). inputs (decoded s n)) (sym ln) in
+      let e : places s (gold .inputs) ≡ inputs (decoded s (left .netlist)) = o .inputs-are ∙ ap (λ (n : Netlist). inputs (decoded s n)) (sym (l .0)) in
       record {
-        gold-ready = subst (λ (ins : List Place). Ready s ins left) e lr;
-        gate-ready = subst (λ (ins : List Place). Ready t ins right) e rr;
-        counted = count-places s (a .inputs) (o .formed-inputs) ∙ ap length e ∙ (unfold inputCount in refl);
-        gold-outputs = ap (places s) lo ∙ o .outputs-are ∙ ap (λ (n : Netlist). outputs (decoded s n)) (sym ln);
-        gate-outputs = ap (places t) ro ∙ q .outputs-are ∙ ap (λ (n : Netlist). outputs (decoded t n)) (sym rn);
+        gold-prepared = subst (λ (ins : List Place). Prepared s ins left) e (l .2);
+        gate-prepared = subst (λ (ins : List Place). Prepared t ins right) e (r .2);
+        counted = count-places s (gold .inputs) (o .formed-inputs) ∙ ap length e ∙ (unfold inputCount in refl);
+        gold-outputs = ap (places s) (l .1) ∙ o .outputs-are ∙ ap (λ (n : Netlist). outputs (decoded s n)) (sym (l .0));
+        gate-outputs = ap (places t) (r .1) ∙ q .outputs-are ∙ ap (λ (n : Netlist). outputs (decoded t n)) (sym (r .0));
       }
 
-  -- what the sides replay from rows of initial bits is the replay from the initial bits
-  pub from-reset : (first second : List Bool) (cycle : ℕ) (claim : List ℕ) (r : Bool) → x .«register_count» ≤ length (x .registers) → y .«register_count» ≤ length (y .registers)
-      → first ≡ padded 128 (initialBits (decoded s x)) → second ≡ padded 128 (initialBits (decoded t y))
-      → (Paired s t (a .inputs .count) left right → r ≡ Replay.replays (decoded s (left .netlist)) (decoded t (right .netlist)) (take (left .netlist .«register_count») first) (take (right .netlist .«register_count») second) cycle claim)
-      → r ≡ Replay.replays (decoded s x) (decoded t y) (initialBits (decoded s x)) (initialBits (decoded t y)) cycle claim
-  from-reset first second cycle claim r lx ly f g h =
-      h paired
-      ∙ ap₂ (λ (n m : Netlist). Replay.replays (decoded s n) (decoded t m) (take (n .«register_count») first) (take (m .«register_count») second) cycle claim) ln rn
-      ∙ ap₂ (λ (u v : List Bool). Replay.replays (decoded s x) (decoded t y) u v cycle claim) (initial-taken s x first lx f) (initial-taken t y second ly g)
+  -- what the sides replay from two rows is the replay of the designs
+  pub from-rows : (u v : List Bool) (cycle : ℕ) (claim : List ℕ) (answer : Bool)
+      → (Paired s t (gold .inputs .count) left right → answer ≡ Replay.replays (decoded s (left .netlist)) (decoded t (right .netlist)) (take (left .netlist .«register_count») u) (take (right .netlist .«register_count») v) cycle claim)
+      → answer ≡ Replay.replays (decoded s (gold .netlist)) (decoded t (gate .netlist)) (take (gold .netlist .«register_count») u) (take (gate .netlist .«register_count») v) cycle claim
+  from-rows u v cycle claim answer h =
+      h paired ∙ ap₂ (λ (n m : Netlist). Replay.replays (decoded s n) (decoded t m) (take (n .«register_count») u) (take (m .«register_count») v) cycle claim) (l .0) (r .0)
+
+-- ---- from the initial bits
+
+-- a row of initial bits
+initial-taken : (s : List ℕ) (n : Netlist) (row : List Bool) → Padded n → row ≡ padded 128 (initialBits (decoded s n)) → take (n .«register_count») row ≡ initialBits (decoded s n)
+unfolding initialBits registerCount
+initial-taken s n row p e =
+    padded-taken 128 (n .«register_count») row (initialBits (decoded s n)) e (sym (length-map (decoded s n .registers) (λ (r : Register). initialBit (r .reset)) ∙ count-registers s n p))
+
+-- what is replayed from two rows of initial bits is the replay from the initial bits
+pub from-reset : (s t : List ℕ) (n m : Netlist) (u v : List Bool) (cycle : ℕ) (claim : List ℕ) → Padded n → Padded m
+    → u ≡ padded 128 (initialBits (decoded s n)) → v ≡ padded 128 (initialBits (decoded t m))
+    → Replay.replays (decoded s n) (decoded t m) (take (n .«register_count») u) (take (m .«register_count») v) cycle claim
+    ≡ Replay.replays (decoded s n) (decoded t m) (initialBits (decoded s n)) (initialBits (decoded t m)) cycle claim
+from-reset s t n m u v cycle claim p q f g =
+    ap₂ (λ (x y : List Bool). Replay.replays (decoded s n) (decoded t m) x y cycle claim) (initial-taken s n u p f) (initial-taken t m v q g)
 
 -- ---- the answer
 
--- a refused replay
-pub answer-refused : (gold gate : Design) (cycle : ℕ) (claim : List ℕ) (f : Option Refusal) (number side place : ℕ) → f ≡ refusal number side place
-    → answerOf (record { number = number; side = side; place = place; yes = false }) ≡ replayPair gold gate cycle claim f
-unfolding answerOf replayPair refusedReplay
-answer-refused gold gate cycle claim f number side place e = rw e
+module _ (gold gate : Design) (cycle : ℕ) (claim : List ℕ) (f : Option Refusal) where
+  -- a refused replay
+  pub pair-refused : (r : Refusal) → f ≡ some r → refusedReplay r ≡ replayPair gold gate cycle claim f
+  unfolding replayPair
+  pair-refused r e = rw e
 
--- an accepted one
-pub answer-accepted : (gold gate : Design) (cycle : ℕ) (claim : List ℕ) (f : Option Refusal) (b : Bool) → f ≡ none → b ≡ Replay.replays gold gate (initialBits gold) (initialBits gate) cycle claim
-    → answerOf (record { number = 0; side = 0; place = 0; yes = b }) ≡ replayPair gold gate cycle claim f
-unfolding answerOf replayPair accepted
-answer-accepted gold gate cycle claim f b e g = rw (e, g)
+  -- an accepted one
+  pub pair-replayed : (answer : Bool) → f ≡ none → answer ≡ Replay.replays gold gate (initialBits gold) (initialBits gate) cycle claim
+      → replayOf (record { number = 0; side = 0; place = 0; yes = answer }) ≡ replayPair gold gate cycle claim f
+  unfolding replayOf replayPair accepted
+  pair-replayed answer e g = rw (e, g)
 
 -- ---- from the bytes of both records
 
--- gate's record is refused
-pub gate-refused : (d : Design) (t : List ℕ) (r : Reading) (number place cycle : ℕ) (claim : List ℕ) → readRecord t ≡ readOf t r → r .answer ≡ Reader.Refused number place
-    → refusedReplay (refusalOn 1 number place) ≡ Replay.replayRead (withGate d (readRecord t)) cycle claim
-unfolding withGate onGate Replay.replayRead refusalOn
-gate-refused d t r number place cycle claim e a = rw (reading-refused t r number place e a)
+module _ (s t : List ℕ) (cycle : ℕ) (claim : List ℕ) where
+  -- a record is refused
+  pub read-refused : (r : Refusal) → readPair s t ≡ refusedPair r → refusedReplay r ≡ Replay.replay s t cycle claim
+  unfolding Replay.replay Replay.replayRead
+  read-refused r e = rw e
 
--- gate's record is accepted
-pub gate-accepted : (d : Design) (t : List ℕ) (r : Reading) (cycle : ℕ) (claim : List ℕ) → readRecord t ≡ readOf t r → r .answer ≡ Reader.Accepted
-    → replayPair d (decoded t (r .netlist)) cycle claim (replayFault d (decoded t (r .netlist)) cycle claim) ≡ Replay.replayRead (withGate d (readRecord t)) cycle claim
-unfolding withGate Replay.replayRead
-gate-accepted d t r cycle claim e a = rw (reading-accepted t r e a)
-
--- gold's record is refused
-pub gold-refused : (s t : List ℕ) (r : Reading) (number place cycle : ℕ) (claim : List ℕ) → readRecord s ≡ readOf s r → r .answer ≡ Reader.Refused number place
-    → refusedReplay (refusalOn 0 number place) ≡ Replay.replay s t cycle claim
-unfolding Replay.replay readPair withGold Replay.replayRead
-gold-refused s t r number place cycle claim e a = rw (reading-refused s r number place e a)
-
--- gold's record is accepted
-pub gold-accepted : (s t : List ℕ) (r : Reading) (cycle : ℕ) (claim : List ℕ) → readRecord s ≡ readOf s r → r .answer ≡ Reader.Accepted
-    → Replay.replayRead (withGate (decoded s (r .netlist)) (readRecord t)) cycle claim ≡ Replay.replay s t cycle claim
-unfolding Replay.replay readPair withGold
-gold-accepted s t r cycle claim e a = rw (reading-accepted s r e a)
+  -- both are accepted
+  pub read-accepted : (gold gate : Design) → readPair s t ≡ both gold gate → replayPair gold gate cycle claim (replayFault gold gate cycle claim) ≡ Replay.replay s t cycle claim
+  unfolding Replay.replay Replay.replayRead
+  read-accepted gold gate e = rw e

@@ -2,9 +2,9 @@
 ghost use mathlib.Core.Path.{_≡_};
 ghost use Prim.Native.Nat.{_≤_};
 ghost use Rattle.model.specs.Pair.{allBits};
-ghost use Rattle.pair.specs.PairChecks.{faultOf};
+ghost use Rattle.calls.specs.Faults.{faultOf};
 ghost use Rattle.replay.specs.ClaimChecks.{claimBad, claimFault};
-use pair::checks::Fault;
+use calls::fault::Fault;
 
 // Every byte is 0 or 1.
 fn all_bits(claim: &[u8]) -> bool

@@ -1,5 +1,5 @@
 -- Laws of the rows that a cycle writes: next stored bits, initial bits and outputs. Assumes nothing.
-use Prim.Native.Nat.{ℕ, zero, suc, _+_, _-_, _<_, _≤_}
+use Prim.Native.Nat.{ℕ, zero, suc, _+_, _<_, _≤_}
 use mathlib.Core.Path.{_≡_, refl, sym, ap, _∙_}
 use mathlib.Core.Bool.{Bool, false, cond}
 use mathlib.Core.List.{List, _∷_, _++_, map, append-nil}
@@ -13,14 +13,14 @@ use Rattle.model.specs.Names.{Place}
 use Rattle.model.specs.Netlist.{Register}
 use Rattle.model.specs.Record.{bit, levelOf}
 use Rattle.model.specs.Run.{bitAt, asserted, enabledBit, resetBit, nextBit, nextFrom, initialBit}
-use Rattle.struo_ir.specs.Decoded.{decodedEnable, decodedReset, decodedRegister, decoded}
-use Rattle.name_order.specs.Places.{noCell, noEntry, placeOf, held, places}
+use Rattle.struo_ir.specs.Decoded.{decodedEnable, decodedReset, cellEnable, cellReset, decodedRegister, decoded}
+use Rattle.struo_ir.specs.Orders.{noEntry, placeOf, held, places}
+use Rattle.struo_ir.specs.Registers.{noRegister}
 use Rattle.struo_ir.specs.declared.netlist.RegisterCell.{RegisterCell}
 use Rattle.struo_ir.specs.declared.netlist.Netlist.{Netlist}
-use Rattle.name_order.specs.declared.order.Order.{Order}
-use Rattle.pair.specs.ElementLaws.{decoded-register}
+use Rattle.struo_ir.specs.declared.design.Order.{Order}
 use Rattle.struo_ir.specs.ListLaws.{drop-map-cons}
-use Rattle.run.specs.RunTables.{enableOf, resetOf, nextOf}
+use Rattle.run.specs.RunTables.{nextOf}
 use Rattle.run.specs.RunLaws.{some-reset, written-more}
 
 -- ---- a control signal
@@ -39,33 +39,33 @@ some-enable (suc c) signal n = refl
 
 module _ (values : List Bool) (b input : Bool) (r : RegisterCell) where
   -- no enable
-  pub enabled-none : r .enable ≡ 0 → enabledBit values b input (enableOf r) ≡ input
-  unfolding enableOf enabledBit decodedEnable
+  pub enabled-none : r .enable ≡ 0 → enabledBit values b input (cellEnable r) ≡ input
+  unfolding cellEnable enabledBit decodedEnable
   enabled-none e = rw e
 
   -- an enable
-  pub enabled-some : (r .enable ≡ 0 → ⊥) → enabledBit values b input (enableOf r) ≡ cond (asserted (levelOf (r .enable)) (bitAt values (r .«enable_signal»))) input b
-  unfolding enableOf enabledBit
+  pub enabled-some : (r .enable ≡ 0 → ⊥) → enabledBit values b input (cellEnable r) ≡ cond (asserted (levelOf (r .enable)) (bitAt values (r .«enable_signal»))) input b
+  unfolding cellEnable enabledBit
   enabled-some n = rw (some-enable (r .enable) (r .«enable_signal») n)
 
   -- no reset
-  pub reset-none : r .reset ≡ 0 → resetBit values b (resetOf r) ≡ b
-  unfolding resetOf resetBit decodedReset
+  pub reset-none : r .reset ≡ 0 → resetBit values b (cellReset r) ≡ b
+  unfolding cellReset resetBit decodedReset
   reset-none e = rw e
 
   -- a reset
-  pub reset-some : (r .reset ≡ 0 → ⊥) → resetBit values b (resetOf r) ≡ cond (asserted (levelOf (r .reset)) (bitAt values (r .«reset_signal»))) (eqb (r .«reset_value») 1) b
-  unfolding resetOf resetBit bit
+  pub reset-some : (r .reset ≡ 0 → ⊥) → resetBit values b (cellReset r) ≡ cond (asserted (levelOf (r .reset)) (bitAt values (r .«reset_signal»))) (eqb (r .«reset_value») 1) b
+  unfolding cellReset resetBit bit
   reset-some n = rw (some-reset (r .reset) (r .«reset_signal») (r .«reset_kind») (r .«reset_value») n)
 
 -- the initial bit without a reset
-pub initial-none : (r : RegisterCell) → r .reset ≡ 0 → initialBit (resetOf r) ≡ false
-unfolding resetOf initialBit decodedReset
+pub initial-none : (r : RegisterCell) → r .reset ≡ 0 → initialBit (cellReset r) ≡ false
+unfolding cellReset initialBit decodedReset
 initial-none r e = rw e
 
 -- the initial bit with a reset
-pub initial-some : (r : RegisterCell) → (r .reset ≡ 0 → ⊥) → initialBit (resetOf r) ≡ eqb (r .«reset_value») 1
-unfolding resetOf initialBit bit
+pub initial-some : (r : RegisterCell) → (r .reset ≡ 0 → ⊥) → initialBit (cellReset r) ≡ eqb (r .«reset_value») 1
+unfolding cellReset initialBit bit
 initial-some r n = rw (some-reset (r .reset) (r .«reset_signal») (r .«reset_kind») (r .«reset_value») n)
 
 -- ---- rows, element by element
@@ -88,12 +88,18 @@ kept-more new old k x e =
 
 -- ---- next stored bits
 
+-- the register of a number, in front of those behind it
+register-at : (s : List ℕ) (n : Netlist) (k : ℕ) → k < n .«register_count» → n .«register_count» ≤ length (n .registers)
+    → drop k (decoded s n .registers) ≡ decodedRegister s (getD (n .registers) k noRegister) ∷ drop (suc k) (decoded s n .registers)
+unfolding decoded
+register-at s n k h l = drop-map-cons (decodedRegister s) (n .registers) (n .«register_count») k noRegister h l
+
 stored-at : (old : List Bool) (m k : ℕ) → k < m → bitAt (take m old) k ≡ getD old k false
 unfolding bitAt
 stored-at old m k h = getD-take m old k false h
 
 next-of : (s : List ℕ) (values : List Bool) (b : Bool) (cell : RegisterCell) → nextBit values b (decodedRegister s cell) ≡ nextOf values b cell
-unfolding nextBit decodedRegister nextOf enableOf resetOf
+unfolding nextBit decodedRegister nextOf cellEnable cellReset
 next-of s values b cell = refl
 
 next-cons : (values st : List Bool) (k : ℕ) (r : Register) (rs : List Register) (front : List Bool) (x : Bool) → nextBit values (bitAt st k) r ≡ x
@@ -103,13 +109,13 @@ next-cons values st k r rs front x e = rw e
 
 -- one more next bit
 pub next-more : (s : List ℕ) (n : Netlist) (values old new : List Bool) (k : ℕ) (x : Bool) → k < n .«register_count» → n .«register_count» ≤ length (n .registers) → k < length new
-    → x ≡ nextOf values (getD old k false) (getD (n .registers) k noCell)
+    → x ≡ nextOf values (getD old k false) (getD (n .registers) k noRegister)
     → take k new ++ nextFrom values (take (n .«register_count») old) k (drop k (decoded s n .registers))
     ≡ take (k + 1) (set new k x) ++ nextFrom values (take (n .«register_count») old) (k + 1) (drop (k + 1) (decoded s n .registers))
 next-more s n values old new k x h l w e =
-    let cell = getD (n .registers) k noCell in
+    let cell = getD (n .registers) k noRegister in
     let st = take (n .«register_count») old in
-    let d : drop k (decoded s n .registers) ≡ decodedRegister s cell ∷ drop (suc k) (decoded s n .registers) = decoded-register s n k h l in
+    let d : drop k (decoded s n .registers) ≡ decodedRegister s cell ∷ drop (suc k) (decoded s n .registers) = register-at s n k h l in
     let g : nextBit values (bitAt st k) (decodedRegister s cell) ≡ x = ap (λ (b : Bool). nextBit values b (decodedRegister s cell)) (stored-at old (n .«register_count») k h) ∙ next-of s values (getD old k false) cell ∙ sym e in
     ap (λ (rs : List Register). take k new ++ nextFrom values st k rs) d ∙ next-cons values st k (decodedRegister s cell) (drop (suc k) (decoded s n .registers)) (take k new) x g
     ∙ sym (written-more new k x (nextFrom values st (suc k) (drop (suc k) (decoded s n .registers))) w)
@@ -126,12 +132,12 @@ next-done s n values st new k h =
 
 -- one more initial bit
 pub initial-more : (s : List ℕ) (n : Netlist) (row : List Bool) (k : ℕ) (x : Bool) → k < n .«register_count» → n .«register_count» ≤ length (n .registers) → k < length row
-    → x ≡ initialBit (resetOf (getD (n .registers) k noCell))
+    → x ≡ initialBit (cellReset (getD (n .registers) k noRegister))
     → take k row ++ map (λ (r : Register). initialBit (r .reset)) (drop k (decoded s n .registers))
     ≡ take (k + 1) (set row k x) ++ map (λ (r : Register). initialBit (r .reset)) (drop (k + 1) (decoded s n .registers))
-unfolding resetOf decodedRegister
+unfolding cellReset decodedRegister
 initial-more s n row k x h l w e =
-    mapped-more (λ (r : Register). initialBit (r .reset)) (decoded s n .registers) row k (decodedRegister s (getD (n .registers) k noCell)) x (decoded-register s n k h l) e w
+    mapped-more (λ (r : Register). initialBit (r .reset)) (decoded s n .registers) row k (decodedRegister s (getD (n .registers) k noRegister)) x (register-at s n k h l) e w
 
 -- one more output
 pub output-more : (s : List ℕ) (o : Order) (values row : List Bool) (k : ℕ) (x : Bool) → k < o .count → o .count ≤ length (o .entries) → k < length row

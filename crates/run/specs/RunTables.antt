@@ -3,44 +3,25 @@ use Prim.Native.Nat.{ℕ, zero, suc, _+_, _-_, _<_}
 use mathlib.Core.Path.{_≡_}
 use mathlib.Core.Bool.{Bool, false, cond, not, _&&_, _||_, xor}
 use mathlib.Core.List.{List, _++_}
-use mathlib.Core.Option.{Option}
 use lib.Dec.{eqb}
 use lib.ListN.{length, getD, replicate}
+use Rattle.model.specs.Kinds.{inputKind, byKind}
 use Rattle.model.specs.Names.{Place, rank}
-use Rattle.model.specs.Netlist.{Enable, Reset}
 use Rattle.model.specs.Run.{InputBits, StoredBits, bitAt, shownBit, enabledBit, resetBit}
 use Rattle.model.specs.Replay.{claimBit}
-use Rattle.struo_ir.specs.Decoded.{nameAt, decodedEnable, decodedReset}
-use Rattle.name_order.specs.Places.{noNode}
+use Rattle.struo_ir.specs.Decoded.{nameAt, cellEnable, cellReset}
+use Rattle.struo_ir.specs.Nodes.{noNode}
 use Rattle.struo_ir.specs.declared.netlist.Node.{Node}
 use Rattle.struo_ir.specs.declared.netlist.RegisterCell.{RegisterCell}
 use Rattle.struo_ir.specs.declared.netlist.Netlist.{Netlist}
 
--- the reset that a register's fields say
-unfoldable pub resetOf : RegisterCell → Option Reset
-resetOf r = decodedReset (r .reset) (r .«reset_signal») (r .«reset_kind») (r .«reset_value»)
-
--- the enable that a register's fields say
-unfoldable pub enableOf : RegisterCell → Option Enable
-enableOf r = decodedEnable (r .enable) (r .«enable_signal»)
-
 -- the next stored bit of a register, given its fields
 unfoldable pub nextOf : List Bool → Bool → RegisterCell → Bool
-nextOf values stored r = resetBit values (enabledBit values stored (bitAt values (r .«data»)) (enableOf r)) (resetOf r)
-
--- the value of a node that is neither Input nor Constant nor RegisterOutput, by its kind byte
-unfoldable pub gateOf : ℕ → Bool → Bool → Bool → Bool
-gateOf kind a b c =
-    cond (eqb kind 0x10) (not a)
-    (cond (eqb kind 0x11) a
-    (cond (eqb kind 0x20) (a && b)
-    (cond (eqb kind 0x21) (a || b)
-    (cond (eqb kind 0x22) (xor a b) (cond a b c)))))
+nextOf values stored r = resetBit values (enabledBit values stored (bitAt values (r .«data»)) (cellEnable r)) (cellReset r)
 
 -- the value of a node by its kind byte, from its detail, the input bit of its name, what its register shows, and the values of its inputs
 unfoldable pub valueOf : ℕ → ℕ → Bool → Bool → Bool → Bool → Bool → Bool
-valueOf kind detail input shown a b c =
-    cond (eqb kind 0x00) input (cond (eqb kind 0x01) (eqb detail 1) (cond (eqb kind 0x02) shown (gateOf kind a b c)))
+valueOf kind detail input shown a b c = byKind kind input (eqb detail 1) shown (not a) a (a && b) (a || b) (xor a b) (cond a b c) false
 
 -- the value of a node from the values of the nodes before it
 unfoldable pub nodeBy : List Bool → Node → Bool → Bool → Bool
@@ -50,11 +31,11 @@ nodeBy values n input shown =
 -- what the register of a number shows, the number given plus one, from its fields; false for 0, where there is no register
 unfoldable pub shownBy : List Bool → StoredBits → ℕ → RegisterCell → Bool
 shownBy values stored zero r = false
-shownBy values stored (suc k) r = shownBit values (bitAt stored k) (resetOf r)
+shownBy values stored (suc k) r = shownBit values (bitAt stored k) (cellReset r)
 
 -- the rank of an Input's name among the inputs; 0 for another node
 unfoldable pub inputRank : List ℕ → List Place → Node → ℕ
-inputRank s ins n = cond (eqb (n .kind) 0x00) (rank (nameAt s (n .detail)) ins) 0
+inputRank s ins n = cond (eqb (n .kind) inputKind) (rank (nameAt s (n .detail)) ins) 0
 
 -- a table has the rank of each node
 abbrev pub Ranked : List ℕ → List Place → Netlist → List ℕ → Type 0

@@ -1,8 +1,8 @@
 -- Laws of the table that is made once for a netlist. Assumes nothing.
-use Prim.Native.Nat.{ℕ, _+_, _-_, _<_, _≤_}
+use Prim.Native.Nat.{ℕ, suc, _+_, _<_, _≤_}
 use mathlib.Core.Path.{_≡_, _∙_}
 use mathlib.Core.Bool.{true, false}
-use mathlib.Core.List.{List}
+use mathlib.Core.List.{List, _∷_}
 use mathlib.Core.Logic.{⊎-elim}
 use native.Mathlib.Nat.{eq-or-lt-of-le}
 use native.Mathlib.Omega.{arith}
@@ -11,10 +11,10 @@ use lib.ListN.{length, drop, getD, set, drop-of-length-le}
 use lib.Seq.{getD-set-same, getD-set-other}
 use Rattle.model.specs.Names.{Name, sameName, rank}
 use Rattle.struo_ir.specs.Decoded.{nameAt}
-use Rattle.name_order.specs.Places.{noEntry, placeOf, places, Formed}
+use Rattle.struo_ir.specs.Orders.{noEntry, placeOf, held, places, Formed}
 use Rattle.name_order.specs.PortLaws.{count-places}
-use Rattle.name_order.specs.declared.order.Order.{Order}
-use Rattle.pair.specs.ElementLaws.{place-at}
+use Rattle.struo_ir.specs.declared.design.Order.{Order}
+use Rattle.struo_ir.specs.ListLaws.{drop-map-cons}
 
 -- ---- a table, entry by entry
 
@@ -25,6 +25,11 @@ filled-more row i v f h e g k l =
     ⊎-elim (λ (q : k ≡ i). rw (q, getD-set-same) e) (λ (q : k < i). getD-set-other row i k v 0 (λ (z : k ≡ i). omega arith) ∙ g k q) (eq-or-lt-of-le m)
 
 -- ---- ranks
+
+-- the place of a rank, in front of those behind it
+place-at : (s : List ℕ) (o : Order) (k : ℕ) → k < o .count → Formed o → drop k (places s o) ≡ placeOf s (getD (o .entries) k noEntry) ∷ drop (suc k) (places s o)
+unfolding places held
+place-at s o k h f = drop-map-cons (placeOf s) (o .entries) (o .count) k noEntry h (omega (arith, f .fits, f .long))
 
 module _ (x : Name) (s : List ℕ) (o : Order) (k : ℕ) (f : Formed o) where
   -- another name is passed

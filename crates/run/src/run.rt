@@ -1,20 +1,33 @@
 // One cycle of the run of a decoded design: node values in an array by value, next stored bits, outputs by name.
 ghost use mathlib.Core.Path.{_≡_};
-ghost use mathlib.Core.Bool.{true, false};
 ghost use mathlib.Core.List.{List, map};
-ghost use Prim.Native.Nat.{ℕ, _+_, _<_, _≤_, _%_};
+ghost use Prim.Native.Nat.{ℕ, _+_, _≤_};
 ghost use lib.ListN.{take, drop};
-ghost use Rattle.model.specs.Names.{Place, rank};
+ghost use Rattle.model.specs.Names.{Place};
 ghost use Rattle.model.specs.Record.{levelOf};
 ghost use Rattle.model.specs.Run.{bitAt, shownBit, enabledBit, resetBit, nodeValues, nextStored, initialBits, initialBit};
 ghost use Rattle.model.specs.Run as Run;
 ghost use Rattle.model.specs.Replay.{claimBit};
-ghost use Rattle.netlist_checks.specs.Checks.{Drivers};
-ghost use Rattle.struo_ir.specs.Decoded.{decoded};
-ghost use Rattle.name_order.specs.Places.{Formed, places};
-ghost use Rattle.run.specs.RunTables.{enableOf, resetOf, nextOf, valueOf, gateOf, nodeBy, shownBy, Ranked, rowInputs, padded};
+ghost use Rattle.drivers.specs.Drivers.{Drivers};
+ghost use Rattle.struo_ir.specs.Decoded.{cellEnable, cellReset, decoded};
+ghost use Rattle.struo_ir.specs.Designs.{Sized};
+ghost use Rattle.struo_ir.specs.Orders.{Formed, places};
+ghost use Rattle.run.specs.RunTables.{nextOf, valueOf, nodeBy, shownBy, Ranked, rowInputs, padded};
+use crate::bits::both;
+use crate::bits::differ;
+use crate::bits::either;
+use drivers::register_of;
+use fields::kinds::AND;
+use fields::kinds::CONSTANT;
+use fields::kinds::INPUT;
+use fields::kinds::MUX;
+use fields::kinds::NOT;
+use fields::kinds::OR;
+use fields::kinds::OUTPUT;
+use fields::kinds::REGISTER_OUTPUT;
+use fields::kinds::XOR;
 use name_order::names::wide;
-use name_order::order::Order;
+use struo_ir::design::Order;
 use struo_ir::netlist::Netlist;
 use struo_ir::netlist::Node;
 use struo_ir::netlist::RegisterCell;
@@ -46,7 +59,7 @@ fn asserted(level: u8, signal: bool) -> bool
 
 // What a register shows: the reset value while an asynchronous reset is asserted, else the stored bit.
 fn shown_bit(values: &[bool], stored: bool, cell: RegisterCell) -> bool
-    ensures { λ r. ⌜ r ≡ shownBit (now (values .entry)) stored (resetOf cell) ⌝ }
+    ensures { λ r. ⌜ r ≡ shownBit (now (values .entry)) stored (cellReset cell) ⌝ }
 {
     if cell.reset == 0 {
         return stored;
@@ -72,43 +85,39 @@ fn shown_by(values: &[bool], stored: &[bool], driver: usize, cell: RegisterCell)
     }
 }
 
-// The value of a node by its kind byte, from what it reads.
+// The value of a node by its kind byte, from what it reads; false for a byte that is no kind.
 fn value_of(node: Node, input: bool, shown: bool, a: bool, b: bool, c: bool) -> bool
     ensures { λ r. ⌜ r ≡ valueOf (node .kind) (node .detail) input shown a b c ⌝ }
 {
     let kind = node.kind;
-    if kind == 0x00 {
+    if kind == INPUT {
         return input;
     }
-    if kind == 0x01 {
+    if kind == CONSTANT {
         return node.detail == 1;
     }
-    if kind == 0x02 {
+    if kind == REGISTER_OUTPUT {
         return shown;
     }
-    gate_value(kind, a, b, c)
-}
-
-// The value of a node that is neither Input nor Constant nor RegisterOutput.
-fn gate_value(kind: u8, a: bool, b: bool, c: bool) -> bool
-    ensures { λ r. ⌜ r ≡ gateOf kind a b c ⌝ }
-{
-    if kind == 0x10 {
+    if kind == NOT {
         return !a;
     }
-    if kind == 0x11 {
+    if kind == OUTPUT {
         return a;
     }
-    if kind == 0x20 {
-        return if a { b } else { false };
+    if kind == AND {
+        return both(a, b);
     }
-    if kind == 0x21 {
-        return if a { true } else { b };
+    if kind == OR {
+        return either(a, b);
     }
-    if kind == 0x22 {
-        return if a { !b } else { b };
+    if kind == XOR {
+        return differ(a, b);
     }
-    if a { b } else { c }
+    if kind == MUX {
+        return if a { b } else { c };
+    }
+    false
 }
 
 // The value of a node from the values of the nodes before it.
@@ -119,13 +128,6 @@ fn node_value(values: &[bool], node: Node, input: bool, shown: bool) -> bool
     let b = bit_at(values, wide(node.second));
     let c = bit_at(values, wide(node.third));
     value_of(node, input, shown, a, b, c)
-}
-
-// The register that a driver's entry names: one less than the entry; 127 for 0, which names none.
-fn register_of(driver: u16) -> usize
-    ensures { λ r. ⌜ (r < 128) × (r ≡ (driver + 127) % 128) ⌝ }
-{
-    (driver as usize + 127) % 128
 }
 
 // The bit of a rank in the row of the claim from `at` on.
@@ -145,8 +147,8 @@ pub fn node_values(
     at: usize,
     stored: [bool; 128],
 ) -> [bool; 1024]
-    requires { ⌜ (netlist .«node_count» ≤ 1024) × (netlist .«register_count» ≤ 128) × (at ≤ 65536) ⌝ }
-    ensures { λ r. ⌜ ((s : List ℕ) (ins : List Place) → Ranked s ins netlist ranks → Drivers (netlist .registers) (netlist .«register_count») drivers
+    requires { ⌜ (Sized netlist) × (at ≤ 65536) ⌝ }
+    ensures { λ r. ⌜ ((s : List ℕ) (ins : List Place) → Ranked s ins netlist ranks → Drivers netlist drivers
         → r ≡ padded 1024 (nodeValues (decoded s netlist) (rowInputs (now (claim .entry)) at ins) (take (netlist .«register_count») stored))) ⌝ }
 {
     let count = netlist.node_count;
@@ -167,7 +169,7 @@ pub fn node_values(
 
 // The data bit, or the stored bit where an enable exists and is not asserted.
 fn enabled_bit(values: &[bool], stored: bool, next: bool, cell: RegisterCell) -> bool
-    ensures { λ r. ⌜ r ≡ enabledBit (now (values .entry)) stored next (enableOf cell) ⌝ }
+    ensures { λ r. ⌜ r ≡ enabledBit (now (values .entry)) stored next (cellEnable cell) ⌝ }
 {
     if cell.enable == 0 {
         return next;
@@ -181,7 +183,7 @@ fn enabled_bit(values: &[bool], stored: bool, next: bool, cell: RegisterCell) ->
 
 // The reset value where a reset is asserted, else the bit given.
 fn reset_bit(values: &[bool], bit: bool, cell: RegisterCell) -> bool
-    ensures { λ r. ⌜ r ≡ resetBit (now (values .entry)) bit (resetOf cell) ⌝ }
+    ensures { λ r. ⌜ r ≡ resetBit (now (values .entry)) bit (cellReset cell) ⌝ }
 {
     if cell.reset == 0 {
         return bit;
@@ -210,7 +212,7 @@ pub struct Rows {
 
 // The next stored bits, from the old row, written into the new one; past the register count the new row stays.
 pub fn next_stored(netlist: Netlist, values: &[bool], rows: Rows) -> Rows
-    requires { ⌜ netlist .«register_count» ≤ 128 ⌝ }
+    requires { ⌜ Sized netlist ⌝ }
     ensures { λ r. ⌜ (r .old ≡ rows .old) × (drop (netlist .«register_count») (r .new) ≡ drop (netlist .«register_count») (rows .new))
         × ((s : List ℕ) → take (netlist .«register_count») (r .new) ≡ nextStored (decoded s netlist) (now (values .entry)) (take (netlist .«register_count») (rows .old))) ⌝ }
 {
@@ -237,8 +239,8 @@ pub fn exchange(rows: Rows) -> Rows
 }
 
 // The initial bit of a register: its reset value, or false where it has no reset.
-fn initial_bit(cell: RegisterCell) -> bool
-    ensures { λ r. ⌜ r ≡ initialBit (resetOf cell) ⌝ }
+pub fn initial_bit(cell: RegisterCell) -> bool
+    ensures { λ r. ⌜ r ≡ initialBit (cellReset cell) ⌝ }
 {
     if cell.reset == 0 {
         false
@@ -249,7 +251,7 @@ fn initial_bit(cell: RegisterCell) -> bool
 
 // The row of initial bits, and false past the register count.
 pub fn initial_row(netlist: Netlist) -> [bool; 128]
-    requires { ⌜ netlist .«register_count» ≤ 128 ⌝ }
+    requires { ⌜ Sized netlist ⌝ }
     ensures { λ r. ⌜ ((s : List ℕ) → r ≡ padded 128 (initialBits (decoded s netlist))) ⌝ }
 {
     let count = netlist.register_count;

@@ -1,13 +1,15 @@
 // The table that is made once for a netlist: the rank of each Input's name.
 ghost use mathlib.Core.Path.{_≡_};
-ghost use Prim.Native.Nat.{_<_, _≤_};
+ghost use Prim.Native.Nat.{_≤_};
 ghost use Rattle.model.specs.Names.{rank};
 ghost use Rattle.struo_ir.specs.Decoded.{nameAt};
-ghost use Rattle.name_order.specs.Places.{Formed, places};
+ghost use Rattle.struo_ir.specs.Designs.{Sized};
+ghost use Rattle.struo_ir.specs.Orders.{Formed, places};
 ghost use Rattle.run.specs.RunTables.{inputRank, Ranked};
+use fields::kinds::INPUT;
 use name_order::names::same_name;
 use name_order::names::wide;
-use name_order::order::Order;
+use struo_ir::design::Order;
 use struo_ir::netlist::Netlist;
 use struo_ir::netlist::Node;
 
@@ -33,7 +35,7 @@ fn node_rank(bytes: &[u8], node: Node, other: &[u8], order: Order) -> u16
     requires { ⌜ Formed order ⌝ }
     ensures { λ r. ⌜ r ≡ inputRank (now (bytes .entry)) (places (now (other .entry)) order) node ⌝ }
 {
-    if node.kind == 0x00 {
+    if node.kind == INPUT {
         rank_in(bytes, wide(node.detail), other, order) as u16
     } else {
         0
@@ -42,7 +44,7 @@ fn node_rank(bytes: &[u8], node: Node, other: &[u8], order: Order) -> u16
 
 // The rank of each Input's name among the inputs of gold; 0 elsewhere.
 pub fn input_ranks(bytes: &[u8], netlist: Netlist, gold: &[u8], order: Order) -> [u16; 1024]
-    requires { ⌜ (netlist .«node_count» ≤ 1024) × (Formed order) ⌝ }
+    requires { ⌜ (Sized netlist) × (Formed order) ⌝ }
     ensures { λ r. ⌜ Ranked (now (bytes .entry)) (places (now (gold .entry)) order) netlist r ⌝ }
 {
     let count = netlist.node_count;

@@ -6,6 +6,7 @@ use mathlib.Core.List.{List, [], _∷_}
 use Prim.Native.Nat.{ℕ, zero, suc, _-_, _*_, _<_, _≤_}
 use native.Mathlib.Omega.{arith}
 use lib.ListN.{length, getD}
+use Rattle.words.specs.Layout.{MOST-NODES}
 use Rattle.model.specs.Literal.{Literal, node, negate}
 use Rattle.model.specs.Sat as Sat
 use Rattle.laws.specs.Graph.Values.{node-negate}
@@ -26,7 +27,7 @@ few n ls r d =
     (λ p q a h e. distinct-at ls d p q a h (omega (arith, e, all-at (Range n) ls r p (omega arith) .0, all-at (Range n) ls r q h .0)))
 
 -- an analysis that ended fits
-pub analysis-fits : (n : ℕ) (cs : List Sat.Clause) (t : Sat.Assignment) (r : Sat.Resolution) → n ≤ 65536 → AnalysisEnded n cs t r → Bounded r
+pub analysis-fits : (n : ℕ) (cs : List Sat.Clause) (t : Sat.Assignment) (r : Sat.Resolution) → n ≤ MOST-NODES → AnalysisEnded n cs t r → Bounded r
 analysis-fits n cs t (Sat.resolving a i id v) h e = e
 analysis-fits n cs t (Sat.resolved a p) h e = omega (arith, few n (a .learned) (e .ranges) (e .apart))
 

@@ -9,17 +9,18 @@ use lib.Dec.{ltb}
 use lib.ListN.{length}
 use lib.Seq.{length-take-le}
 use lib.Ieee.{Float}
+use Rattle.words.specs.Layout.{LEARNED}
 use Rattle.words.specs.Region.{region, length-region}
 use Rattle.model.specs.Literal.{negate}
 use Rattle.model.specs.Sat as Sat
 use Rattle.laws.specs.Search.Analysis.{Analyzed, AnalysisEnded}
 use Rattle.laws.specs.Search.Step.{analysis-ends}
-use Rattle.assignment.specs.State.{column, Ready, Unchanged}
+use Rattle.assignment.specs.State.{column, TrailReady, Unchanged}
 use Rattle.assignment.specs.Scores.{scoresOf, Fixed, Others, Decays}
 use Rattle.assignment.specs.StateLaws.{unchanged-none, unchanged-both, unchanged-within, level-is}
 use Rattle.assignment.specs.declared.state.Activity.{Activity}
 use Rattle.clauses.specs.Clauses.{length-clauses}
-use Rattle.clauses.specs.State.{solverOf, Sound}
+use Rattle.clauses.specs.State.{solverOf, SoundStore}
 use Rattle.analysis.specs.Analysis.{analysisOf, analysisRegions, viewOf, Bounded, Analyzes}
 use Rattle.analysis.specs.declared.state.Analyzed as Answers
 use Rattle.assignment.specs.ScoreLaws.{others-none, others-both}
@@ -80,7 +81,7 @@ module _ (limit : ℕ) (s : State) (w : List ℕ) (x : List Float) (id : ℕ) (h
     viewed = analysis-of (baseOf s x) (s .store) (s .trail) (s .activity) w x refl id
 
     -- what `analyze` asks
-    pub analyze-asked : Ready (s .trail) w × (s .trail .variables ≤ length x) × Fixed (s .activity) × Bounded (Sat.analyze (viewOf (s .store .clauses) (s .trail) (s .activity) w x) id)
+    pub analyze-asked : TrailReady (s .trail) w × (s .trail .variables ≤ length x) × Fixed (s .activity) × Bounded (Sat.analyze (viewOf (s .store .clauses) (s .trail) (s .activity) w x) id)
     analyze-asked = (
       h .fits .sound .formed .ready,
       h .fits .scores,
@@ -102,12 +103,12 @@ module _ (limit : ℕ) (s : State) (w : List ℕ) (x : List Float) (id : ℕ) (h
       facts : Analyzed (s .trail .variables) (S .clauses) (S .assignment) A (r .pivot)
       facts = subst (AnalysisEnded (s .trail .variables) (S .clauses) (S .assignment)) analyzed ended
 
-      learned-are : A .learned ≡ column count 1114112 w₁
+      learned-are : A .learned ≡ column count LEARNED w₁
       unfolding analysisOf
       learned-are = refl
 
-      learned-length : length (column count 1114112 w₁) ≡ count
-      learned-length = length-take-le count (region 1114112 w₁) (omega (arith, z .room, length-region 1114112 w₁ (omega (arith, z .words))))
+      learned-length : length (column count LEARNED w₁) ≡ count
+      learned-length = length-take-le count (region LEARNED w₁) (omega (arith, z .room, length-region LEARNED w₁ (omega (arith, z .words))))
 
       length-is : length (A .learned) ≡ count
       length-is = ap length learned-are ∙ learned-length
@@ -136,15 +137,15 @@ module _ (limit : ℕ) (s : State) (w : List ℕ) (x : List Float) (id : ℕ) (h
       module _ (long : length w₁ ≡ length w) (within : s .learned + count + 1 ≤ limit) (activity : Activity) (d : Decays (r .analysis .activity) activity) where
         -- the state with the decayed increment
         abbrev decayed : State
-        decayed = record { store = s .store; trail = s .trail; activity = activity; inconsistent = s .inconsistent; learned = s .learned }
+        decayed = record { store = s .store; trail = s .trail; activity = activity; learned = s .learned }
 
-        sound₁ : Sound (s .store) (s .trail) w₁ []
+        sound₁ : SoundStore (s .store) (s .trail) w₁ []
         sound₁ = sound-analysis (s .store) (s .trail) w w₁ [] (h .fits .sound) (z .frame) long
 
         levels : 0 < length (S .assignment .trailLimits)
         levels = omega (arith, top)
 
-        sorted-length : length (Sat.sortLiterals (negate (r .pivot) ∷ column count 1114112 w₁)) ≡ suc count
+        sorted-length : length (Sat.sortLiterals (negate (r .pivot) ∷ column count LEARNED w₁)) ≡ suc count
         sorted-length = ap (λ ls. length (Sat.sortLiterals (negate (r .pivot) ∷ ls))) (sym learned-are)
             ∙ clause-length (s .trail .variables) (h .original) S (h .stuck) levels A (r .pivot) facts ∙ ap suc length-is
 
@@ -179,18 +180,18 @@ module _ (limit : ℕ) (s : State) (w : List ℕ) (x : List Float) (id : ℕ) (h
             }
 
         -- learning is the same before and after the analysis
-        learn-same : Sat.learn (stateOf decayed w₁ x₁) (stateOf decayed w₁ x₁ .scores) (negate (r .pivot)) (column count 1114112 w₁)
+        learn-same : Sat.learn (stateOf decayed w₁ x₁) (stateOf decayed w₁ x₁ .scores) (negate (r .pivot)) (column count LEARNED w₁)
             ≡ Sat.learn S (Sat.decayActivity (A .scores)) (negate (r .pivot)) (A .learned)
         unfolding stateOf baseOf solverOf analysisOf Sat.learn
         learn-same =
-            ap (λ (u : Sat.Solver). Sat.learn u (scoresOf (s .trail .variables) activity x₁) (negate (r .pivot)) (column count 1114112 w₁)) (solver-analysis (baseOf decayed x₁) (s .store) (s .trail) w w₁ (z .frame))
-            ∙ ap (λ (u : Sat.Scores). Sat.learn S u (negate (r .pivot)) (column count 1114112 w₁)) (d .is (s .trail .variables) x₁)
+            ap (λ (u : Sat.Solver). Sat.learn u (scoresOf (s .trail .variables) activity x₁) (negate (r .pivot)) (column count LEARNED w₁)) (solver-analysis (baseOf decayed x₁) (s .store) (s .trail) w w₁ (z .frame))
+            ∙ ap (λ (u : Sat.Scores). Sat.learn S u (negate (r .pivot)) (column count LEARNED w₁)) (d .is (s .trail .variables) x₁)
 
         clause-count : s .store .clauses ≡ length (S .clauses)
         unfolding stateOf solverOf
         clause-count = sym (length-clauses (s .store .clauses) w)
 
-        goal-same : Sat.assertLearned (s .store .clauses) (negate (r .pivot)) (Sat.learn (stateOf decayed w₁ x₁) (stateOf decayed w₁ x₁ .scores) (negate (r .pivot)) (column count 1114112 w₁))
+        goal-same : Sat.assertLearned (s .store .clauses) (negate (r .pivot)) (Sat.learn (stateOf decayed w₁ x₁) (stateOf decayed w₁ x₁ .scores) (negate (r .pivot)) (column count LEARNED w₁))
             ≡ Sat.afterConflict limit S id (Sat.decisionLevel (S .assignment))
         unfolding Sat.learnUnless
         goal-same =
@@ -199,6 +200,6 @@ module _ (limit : ℕ) (s : State) (w : List ℕ) (x : List Float) (id : ℕ) (h
             ∙ sym (outcome false (le-ltb limit (s .learned + suc (length (A .learned))) (omega (arith, length-is))))
 
         pub conflict-learns : (q : Step) (w′ : List ℕ) (x′ : List Float)
-            → Results limit (s .trail .variables) w₁ x₁ (Sat.assertLearned (s .store .clauses) (negate (r .pivot)) (Sat.learn (stateOf decayed w₁ x₁) (stateOf decayed w₁ x₁ .scores) (negate (r .pivot)) (column count 1114112 w₁))) q w′ x′
+            → Results limit (s .trail .variables) w₁ x₁ (Sat.assertLearned (s .store .clauses) (negate (r .pivot)) (Sat.learn (stateOf decayed w₁ x₁) (stateOf decayed w₁ x₁ .scores) (negate (r .pivot)) (column count LEARNED w₁))) q w′ x′
             → Results limit (s .trail .variables) w x (Sat.afterConflict limit S id (Sat.decisionLevel (S .assignment))) q w′ x′
         conflict-learns q w′ x′ y = results-after frame₁ (z .others) goal-same y

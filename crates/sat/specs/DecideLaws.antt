@@ -6,15 +6,16 @@ use native.Mathlib.Omega.{arith}
 use lib.ListN.{length, take, drop, getD}
 use lib.Seq.{getD-drop}
 use lib.Ieee.{Float}
+use Rattle.words.specs.Layout.{SMALL, MOST-NODES}
 use Rattle.model.specs.Sat as Sat
 use Rattle.laws.specs.Search.Choice.{ChoiceOk, from-ok}
-use Rattle.assignment.specs.State.{assignmentOf, assignmentRegions, Unchanged, Ready, Becomes, decided}
+use Rattle.assignment.specs.State.{assignmentOf, assignmentRegions, Unchanged, TrailReady, Becomes, decided}
 use Rattle.assignment.specs.StateLaws.{unchanged-none}
 use Rattle.assignment.specs.Scores.{choiceOf, Chooses}
 use Rattle.assignment.specs.declared.state.Trail.{Trail}
 use Rattle.assignment.specs.declared.state.Choice.{Choice}
 use Rattle.assignment.specs.declared.state.Choice.the-variants as Choices
-use Rattle.clauses.specs.State.{solverOf, scored, Sound}
+use Rattle.clauses.specs.State.{solverOf, scored, SoundStore}
 use Rattle.clauses.specs.declared.state.Store.{Store}
 use Rattle.sat.specs.SoundLaws.{decide-fits, sound-decide, solver-becomes}
 use Rattle.sat.specs.declared.state.Decided.{Decided}
@@ -33,7 +34,7 @@ Outcome s after (Outcomes.Deeper r) = Sat.decide s (Sat.chooseVariable s) ≡ Sa
 -- of `decide`
 pub record Decides (m : Store) (t : Trail) (w : List ℕ) (x : List Float) (r : Decided) (w′ : List ℕ) : Type 0 where
   pub is : (s : Sat.Solver) → Outcome (solverOf (scored s (t .variables) x) m t w) (solverOf (scored s (t .variables) x) m (trailAfter t r) w′) r
-  pub sound : Sound m (trailAfter t r) w′ []
+  pub sound : SoundStore m (trailAfter t r) w′ []
   pub variables : trailAfter t r .variables ≡ t .variables
   pub frame : Unchanged assignmentRegions w w′
 
@@ -55,7 +56,7 @@ choice-open s =
     (λ i h e. sym (getD-drop 1 (s .assignment .assignments) i Sat.Unassigned) ∙ e) tt
 
 module _ (m : Store) (t : Trail) (w : List ℕ) (x : List Float) where
-  pub decides-nothing : Sound m t w [] → (c : Choice) → Chooses t w x c → c ≡ Choices.Nothing → Decides m t w x Outcomes.Nothing w
+  pub decides-nothing : SoundStore m t w [] → (c : Choice) → Chooses t w x c → c ≡ Choices.Nothing → Decides m t w x Outcomes.Nothing w
   unfolding choiceOf
   decides-nothing s c h e =
       record {
@@ -79,12 +80,12 @@ module _ (m : Store) (t : Trail) (w : List ℕ) (x : List Float) where
         z
 
     -- what the assignment's part asks
-    pub decide-asked : Sound m t w [] → t .level < 65536 → Ready t w × (t .length < 65536) × (t .level < 65536) × (v < 65536)
+    pub decide-asked : SoundStore m t w [] → t .level < SMALL → TrailReady t w × (t .length < SMALL) × (t .level < SMALL) × (v < MOST-NODES)
     decide-asked s l =
         let r = s .formed .ready in
         (r, omega (arith, decide-fits m t w v (s .formed) (chosen-here .below) (free (Sat.new 0)), r .variables), l, omega (arith, chosen-here .below, r .variables))
 
-    pub decides : Sound m t w [] → (r : Trail) (w′ : List ℕ) → Becomes t w (decided (assignmentOf t w) v) r w′ → Decides m t w x (Outcomes.Deeper r) w′
+    pub decides : SoundStore m t w [] → (r : Trail) (w′ : List ℕ) → Becomes t w (decided (assignmentOf t w) v) r w′ → Decides m t w x (Outcomes.Deeper r) w′
     unfolding choiceOf Sat.decide decided solverOf
     decides s r w′ b =
         record {

@@ -8,6 +8,7 @@ use borrow.Author.Tests.{eqb-true, eqb-false}
 use mathlib.Core.Bool.{Bool, true, false}
 use lib.ListN.{getD, List·getD-append}
 use lib.Seq.{getD-at}
+use Rattle.words.specs.Layout.{GRAPH-LHS, GRAPH-RHS}
 use Rattle.words.specs.Region.{region}
 use Rattle.model.specs.Lists.{snoc}
 use Rattle.model.specs.Aig.{Constant}
@@ -41,7 +42,7 @@ unfolding graphAt
 holds-ready n w =
     record {
       size = length-graph n w;
-      at = λ i h k. rw (node-at n (region 0 w) (region 65536 w) i k) (node-same i (getD (region 0 w) i 0) (getD (region 65536 w) i 0) h);
+      at = λ i h k. rw (node-at n (region GRAPH-LHS w) (region GRAPH-RHS w) i k) (node-same i (getD (region GRAPH-LHS w) i 0) (getD (region GRAPH-RHS w) i 0) h);
     }
 
 -- and its conjunctions are gates whose operands ascend

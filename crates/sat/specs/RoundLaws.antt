@@ -9,6 +9,7 @@ use native.Mathlib.Numerals.{add-one}
 use lib.ListN.{length}
 use lib.Seq.{length-take-le}
 use lib.Ieee.{Float}
+use Rattle.words.specs.Layout.{LEARNED}
 use Rattle.words.specs.Region.{region, length-region}
 use Rattle.model.specs.Sat as Sat
 use Rattle.assignment.specs.State.{assignmentOf, assignmentRegions, column, enqueued, wordReason, Unchanged}
@@ -16,8 +17,9 @@ use Rattle.assignment.specs.Scores.{scoresOf}
 use Rattle.assignment.specs.StateLaws.{unchanged-both, unchanged-within}
 use Rattle.assignment.specs.declared.state.Enqueued.{Enqueued}
 use Rattle.clauses.specs.Clauses.{watchesOf}
-use Rattle.clauses.specs.State.{solverOf, scored, UnitStep}
+use Rattle.clauses.specs.State.{solverOf, scored}
 use Rattle.clauses.specs.StepLaws.{assigned-clauses, assigned-queues}
+use Rattle.watches.specs.State.{UnitStep}
 use Rattle.sat.specs.LearnLaws.{learnedClause, learnRegions, Learns, counted, learn-of}
 use Rattle.sat.specs.State.{baseOf, stateOf, Fits, solveRegions, Results, Assertable}
 use Rattle.sat.specs.declared.state.Learned.{Learned}
@@ -38,10 +40,10 @@ module _ (limit : ℕ) (s : State) (w : List ℕ) (x : List Float) (asserting co
     (total : ℕ) (total-is : total ≡ s .learned + count + 1) where
   -- the literals learned beside the asserting one
   abbrev others : List ℕ
-  others = column count 1114112 w
+  others = column count LEARNED w
 
   others-length : length others ≡ count
-  others-length = length-take-le count (region 1114112 w) (omega (arith, a .able .few, length-region 1114112 w (omega (arith, a .fits .sound .formed .ready .words))))
+  others-length = length-take-le count (region LEARNED w) (omega (arith, a .able .few, length-region LEARNED w (omega (arith, a .fits .sound .formed .ready .words))))
 
   -- the solver's part that is in no lent word, once the clause is counted
   abbrev base₁ : Sat.Solver
@@ -84,13 +86,13 @@ module _ (limit : ℕ) (s : State) (w : List ℕ) (x : List Float) (asserting co
 
   -- the state after
   abbrev after : State
-  after = record { store = l .store; trail = e .trail; activity = s .activity; inconsistent = s .inconsistent; learned = total }
+  after = record { store = l .store; trail = e .trail; activity = s .activity; learned = total }
 
   after-is : stateOf after w₂ x₁ ≡ Sat.withAssignment (solverOf base₁ (l .store) (l .trail) w₁) (assignmentOf (e .trail) w₂)
   unfolding stateOf baseOf scoresOf solverOf scored counted
   after-is =
-      ap (λ n. solverOf (record { clauses = []; watches = []; assignment = Sat.new 0 .assignment; scores = scoresOf n (s .activity) x₁; inconsistent = s .inconsistent; learned = total }) (l .store) (e .trail) w₂) (u .variables ∙ L .variables)
-      ∙ ap (λ n. solverOf (record { clauses = []; watches = []; assignment = Sat.new 0 .assignment; scores = scoresOf (s .trail .variables) (s .activity) x₁; inconsistent = s .inconsistent; learned = n }) (l .store) (e .trail) w₂) (sym total-counted)
+      ap (λ n. solverOf (record { clauses = []; watches = []; assignment = Sat.new 0 .assignment; scores = scoresOf n (s .activity) x₁; inconsistent = false; learned = total }) (l .store) (e .trail) w₂) (u .variables ∙ L .variables)
+      ∙ ap (λ n. solverOf (record { clauses = []; watches = []; assignment = Sat.new 0 .assignment; scores = scoresOf (s .trail .variables) (s .activity) x₁; inconsistent = false; learned = n }) (l .store) (e .trail) w₂) (sym total-counted)
       ∙ solver-unit base₁ s l e w₁ w₂ u
 
   after-fits : length (learnedClause asserting count w) ≡ suc count → Fits limit after w₂ x₁

@@ -9,12 +9,12 @@ use Rattle.model.specs.Sat as Sat
 use Rattle.laws.specs.Search.State.{Idle}
 use Rattle.laws.specs.Search.Loop.{Keeps}
 use Rattle.laws.specs.Search.Step.{AnswerOk, step-keeps}
-use Rattle.assignment.specs.State.{Unchanged}
+use Rattle.assignment.specs.State.{Unchanged, modelOf}
 use Rattle.assignment.specs.Scores.{Others}
 use Rattle.assignment.specs.StateLaws.{unchanged-none, unchanged-both}
 use Rattle.laws.specs.Search.Adding.{search-answered}
 use Rattle.assignment.specs.ScoreLaws.{others-none, others-both}
-use Rattle.sat.specs.State.{stateOf, stepOf, modelOf, Going, solveRegions, Results}
+use Rattle.sat.specs.State.{stateOf, stepOf, Going, solveRegions, Results}
 use Rattle.sat.specs.declared.state.State.{State}
 use Rattle.sat.specs.declared.state.Step.{Step}
 use Rattle.sat.specs.declared.state.Step.the-variants as Steps
@@ -22,10 +22,10 @@ use Rattle.sat.specs.declared.state.Answer.{Answer}
 use Rattle.sat.specs.declared.state.Answer.the-variants as Answers
 
 -- the definition's answer, with the values of n variables
-abbrev pub answerOf : ℕ → Answer → List ℕ → Sat.Answer
-answerOf n (Answers.Model k) w = Sat.model (modelOf n w) k
-answerOf n (Answers.NoModel k) w = Sat.noModel k
-answerOf n (Answers.GaveUp k) w = Sat.gaveUp k
+abbrev pub searchAnswer : ℕ → Answer → List ℕ → Sat.Answer
+searchAnswer n (Answers.Model k) w = Sat.model (modelOf n w) k
+searchAnswer n (Answers.NoModel k) w = Sat.noModel k
+searchAnswer n (Answers.GaveUp k) w = Sat.gaveUp k
 
 -- the definition's answer after so many rounds
 abbrev pub ranFrom : ℕ → ℕ → State → List ℕ → List Float → Sat.Answer
@@ -38,7 +38,7 @@ pub record Searchable (limit : ℕ) (s : State) (w : List ℕ) (x : List Float) 
 
 -- of `search`
 pub record Searches (limit : ℕ) (s : State) (w : List ℕ) (x : List Float) (rounds : ℕ) (r : Answer) (w′ : List ℕ) (x′ : List Float) : Type 0 where
-  pub is : answerOf (s .trail .variables) r w′ ≡ ranFrom limit rounds s w x
+  pub is : searchAnswer (s .trail .variables) r w′ ≡ ranFrom limit rounds s w x
   pub others : Others (s .trail .variables) x x′
   pub frame : Unchanged solveRegions w w′
 
@@ -108,7 +108,7 @@ module _ (limit : ℕ) (s₀ : State) (w₀ : List ℕ) (x₀ : List Float) (rou
       answered-same : (a : Sat.Answer) → stepOf (s .trail .variables) r w′ x′ ≡ Sat.answered a → a ≡ ranFrom limit rounds s₀ w₀ x₀
       answered-same a e = sym (sym (i .same) ∙ one-done ∙ ap (Sat.searchRounds limit (left - 1)) e ∙ search-answered limit (left - 1) a)
 
-      finished : (a : Answer) → answerOf (s₀ .trail .variables) a w′ ≡ ranFrom limit rounds s₀ w₀ x₀ → Searches limit s₀ w₀ x₀ rounds a w′ x′
+      finished : (a : Answer) → searchAnswer (s₀ .trail .variables) a w′ ≡ ranFrom limit rounds s₀ w₀ x₀ → Searches limit s₀ w₀ x₀ rounds a w′ x′
       finished a e = record { is = e; others = others-so-far; frame = frame-so-far }
 
       pub rounds-model : (k : ℕ) → r ≡ Steps.Model k → Searches limit s₀ w₀ x₀ rounds (Answers.Model k) w′ x′

@@ -6,6 +6,7 @@ use Prim.Native.Nat.{ℕ, zero, suc, _+_, _*_, _/_, _<_, _≤_}
 use native.Mathlib.Omega.{arith}
 use lib.Dec.{leb}
 use lib.ListN.{length, take, drop, set, getD, length-take, length-drop, length-append}
+use Rattle.words.specs.Layout.{WATCH-HEADS, WATCH-TAILS, WATCH-COUNTS, CLAUSE-STARTS, WATCHED, LINKS, LITERALS}
 use Rattle.model.specs.Literal.{node, inverted}
 use Rattle.model.specs.Lists as Lists
 use Rattle.model.specs.Sat as Sat
@@ -13,7 +14,7 @@ use Rattle.assignment.specs.State.{assignmentOf, Unchanged, Becomes, decided}
 use Rattle.assignment.specs.StateLaws.{assignment-kept, trail-length, variables-are}
 use Rattle.assignment.specs.declared.state.Trail.{Trail}
 use Rattle.clauses.specs.Clauses.{watchesOf, same-clauses, same-queues}
-use Rattle.clauses.specs.State.{solverOf, unassigned, Formed, Sound}
+use Rattle.clauses.specs.State.{solverOf, unassigned, Formed, SoundStore}
 use Rattle.clauses.specs.StepLaws.{formed-kept, assigned-clauses, assigned-queues, one-fewer}
 use Rattle.clauses.specs.declared.state.Store.{Store}
 use Rattle.analysis.specs.Analysis.{analysisRegions}
@@ -68,8 +69,8 @@ back-room t level = go (leb (Sat.decisionLevel t) level)
 -- ---- soundness
 
 -- another assignment that leaves as much room is sound
-sound-becomes : (m : Store) (t r : Trail) (w w′ : List ℕ) (a : Sat.Assignment) → Sound m t w [] → Becomes t w a r w′
-    → unassigned (a .assignments) + length (a .trail) ≤ unassigned (assignmentOf t w .assignments) + length (assignmentOf t w .trail) → Sound m r w′ []
+sound-becomes : (m : Store) (t r : Trail) (w w′ : List ℕ) (a : Sat.Assignment) → SoundStore m t w [] → Becomes t w a r w′
+    → unassigned (a .assignments) + length (a .trail) ≤ unassigned (assignmentOf t w .assignments) + length (assignmentOf t w .trail) → SoundStore m r w′ []
 sound-becomes m t r w w′ a s b k =
     let f = s .formed in
     record {
@@ -79,9 +80,9 @@ sound-becomes m t r w w′ a s b k =
             some = omega (arith, f .some, b .variables);
             clauses = f .clauses;
             literals = f .literals;
-            last = rw (b .frame .same 2097152 refl) (f .last);
-            within = rw (b .frame .same 2097152 refl) (f .within);
-            range = rw (b .frame .same 4718592 refl, b .variables) (f .range);
+            last = rw (b .frame .same CLAUSE-STARTS refl) (f .last);
+            within = rw (b .frame .same CLAUSE-STARTS refl) (f .within);
+            range = rw (b .frame .same LITERALS refl, b .variables) (f .range);
             room =
                 omega (
                   arith,
@@ -98,7 +99,7 @@ sound-becomes m t r w w′ a s b k =
     }
 
 -- after backtracking all is sound
-pub sound-back : (m : Store) (t r : Trail) (w w′ : List ℕ) (level : ℕ) → Sound m t w [] → Becomes t w (Sat.backtrack (assignmentOf t w) level) r w′ → Sound m r w′ []
+pub sound-back : (m : Store) (t r : Trail) (w w′ : List ℕ) (level : ℕ) → SoundStore m t w [] → Becomes t w (Sat.backtrack (assignmentOf t w) level) r w′ → SoundStore m r w′ []
 sound-back m t r w w′ level s b = sound-becomes m t r w w′ (Sat.backtrack (assignmentOf t w) level) s b (back-room (assignmentOf t w) level)
 
 -- the solver with another assignment
@@ -132,8 +133,8 @@ decide-fits m t w v f h e =
     omega (arith, f .room, one-fewer (assignmentOf t w .assignments) v true (omega (arith, variables-are t w (f .ready))) e)
 
 -- after a decision all is sound
-pub sound-decide : (m : Store) (t r : Trail) (w w′ : List ℕ) (v : ℕ) → Sound m t w [] → v < t .variables → getD (assignmentOf t w .assignments) v Sat.Unassigned ≡ Sat.Unassigned
-    → Becomes t w (decided (assignmentOf t w) v) r w′ → Sound m r w′ []
+pub sound-decide : (m : Store) (t r : Trail) (w w′ : List ℕ) (v : ℕ) → SoundStore m t w [] → v < t .variables → getD (assignmentOf t w .assignments) v Sat.Unassigned ≡ Sat.Unassigned
+    → Becomes t w (decided (assignmentOf t w) v) r w′ → SoundStore m r w′ []
 sound-decide m t r w w′ v s h e b =
     sound-becomes m t r w w′ (decided (assignmentOf t w) v) s b
     (omega (arith, decide-room (assignmentOf t w) v (omega (arith, variables-are t w (s .formed .ready))) e))
@@ -141,18 +142,18 @@ sound-decide m t r w w′ v s h e b =
 -- ---- an analysis
 
 -- an analysis touches nothing of it
-pub sound-analysis : (m : Store) (t : Trail) (w w′ : List ℕ) (p : List ℕ) → Sound m t w p → Unchanged analysisRegions w w′ → length w′ ≡ length w → Sound m t w′ p
+pub sound-analysis : (m : Store) (t : Trail) (w w′ : List ℕ) (p : List ℕ) → SoundStore m t w p → Unchanged analysisRegions w w′ → length w′ ≡ length w → SoundStore m t w′ p
 sound-analysis m t w w′ p s f l =
     record {
-      formed = formed-kept m t w w′ (s .formed) (f .same 2097152 refl) (f .same 4718592 refl) (assignment-kept analysisRegions t refl f) l;
-      queues = rw (same-queues w′ w (f .same 1703936 refl) (f .same 1835008 refl) (f .same 1966080 refl) (f .same 3670016 refl)) (s .queues);
+      formed = formed-kept m t w w′ (s .formed) (f .same CLAUSE-STARTS refl) (f .same LITERALS refl) (assignment-kept analysisRegions t refl f) l;
+      queues = rw (same-queues w′ w (f .same WATCH-HEADS refl) (f .same WATCH-TAILS refl) (f .same WATCH-COUNTS refl) (f .same LINKS refl)) (s .queues);
     }
 
 pub solver-analysis : (s : Sat.Solver) (m : Store) (t : Trail) (w w′ : List ℕ) → Unchanged analysisRegions w w′ → solverOf s m t w′ ≡ solverOf s m t w
 unfolding solverOf watchesOf
 solver-analysis s m t w w′ f =
     rw (
-      same-clauses (m .clauses) w′ w (f .same 2097152 refl) (f .same 2621440 refl) (f .same 4718592 refl),
-      same-queues w′ w (f .same 1703936 refl) (f .same 1835008 refl) (f .same 1966080 refl) (f .same 3670016 refl),
+      same-clauses (m .clauses) w′ w (f .same CLAUSE-STARTS refl) (f .same WATCHED refl) (f .same LITERALS refl),
+      same-queues w′ w (f .same WATCH-HEADS refl) (f .same WATCH-TAILS refl) (f .same WATCH-COUNTS refl) (f .same LINKS refl),
       assignment-kept analysisRegions t refl f,
     )

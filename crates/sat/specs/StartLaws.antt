@@ -9,6 +9,7 @@ use native.Mathlib.Nat.{mul-le-mul}
 use lib.ListN.{length, take}
 use lib.Seq.{getD-take, length-take-le}
 use lib.Ieee.{Float}
+use Rattle.words.specs.Layout.{MOST-NODES, MOST-LEARNED}
 use Rattle.model.specs.Aig.{Node}
 use Rattle.model.specs.Literal.{Literal, node}
 use Rattle.model.specs.Sat as Sat
@@ -23,13 +24,14 @@ use Rattle.assignment.specs.StateLaws.{unchanged-both, unchanged-within}
 use Rattle.assignment.specs.declared.state.Activity.{Activity}
 use Rattle.assignment.specs.declared.state.Enqueued.{Enqueued}
 use Rattle.clauses.specs.Clauses.{clausesOf, watchesOf}
-use Rattle.clauses.specs.State.{solverOf, scored, flagged, encodedOf, Encodable, Encodes, Holds, UnitStep, searchRegions}
+use Rattle.clauses.specs.State.{solverOf, scored, flagged, encodedOf, Encodable, Encodes, Holds, searchRegions}
 use Rattle.clauses.specs.StepLaws.{assigned-clauses, assigned-queues}
 use Rattle.clauses.specs.declared.state.Encoded.{Encoded}
+use Rattle.watches.specs.State.{UnitStep}
 use Rattle.laws.specs.Search.Adding.{search-answered}
 use Rattle.assignment.specs.ScoreLaws.{others-both}
 use Rattle.sat.specs.State.{baseOf, stateOf, Fits, solveRegions}
-use Rattle.sat.specs.SolveLaws.{answerOf, ranFrom, Searchable, Searches}
+use Rattle.sat.specs.SolveLaws.{searchAnswer, ranFrom, Searchable, Searches}
 use Rattle.sat.specs.declared.state.State.{State}
 use Rattle.sat.specs.declared.state.Answer.{Answer}
 use Rattle.sat.specs.declared.state.Answer.the-variants as Answers
@@ -37,21 +39,21 @@ use Rattle.sat.specs.declared.state.Answer.the-variants as Answers
 -- what `solve` asks of a graph of n nodes and its assumptions
 pub record Solvable (limit n : ℕ) (w : List ℕ) (x : List Float) (ls : List ℕ) (count : ℕ) : Type 0 where
   pub encodable : Encodable n w x ls count
-  pub few : count ≤ 65535
-  pub limited : limit ≤ 262144
+  pub few : count < MOST-NODES
+  pub limited : limit ≤ MOST-LEARNED
   pub graph : List Node
   pub holds : Holds n w graph
   pub formed : Formed graph
 
 -- of `solve`: the answer is the definition's, for every graph that the words hold
 pub record Solves (limit n : ℕ) (w : List ℕ) (x : List Float) (ls : List ℕ) (count : ℕ) (r : Answer) (w′ : List ℕ) (x′ : List Float) : Type 0 where
-  pub is : (g : List Node) → Holds n w g → answerOf n r w′ ≡ Sat.solve limit g (take count ls)
+  pub is : (g : List Node) → Holds n w g → searchAnswer n r w′ ≡ Sat.solve limit g (take count ls)
   pub others : Others n x x′
   pub frame : Unchanged solveRegions w w′
 
 -- the rounds fit a word
-pub rounds-fit : (limit n : ℕ) → limit ≤ 262144 → n ≤ 65536 → (limit + 2) * (n + 2) ≤ 17180524548
-rounds-fit limit n a b = mul-le-mul {n₁ = limit + 2} {m₁ = n + 2} {n₂ = 262146} {m₂ = 65538} (omega arith) (omega arith)
+pub rounds-fit : (limit n : ℕ) → limit ≤ MOST-LEARNED → n ≤ MOST-NODES → (limit + 2) * (n + 2) ≤ (MOST-LEARNED + 2) * (MOST-NODES + 2)
+rounds-fit limit n a b = mul-le-mul {n₁ = limit + 2} {m₁ = n + 2} {n₂ = MOST-LEARNED + 2} {m₂ = MOST-NODES + 2} (omega arith) (omega arith)
 
 module _ (limit n : ℕ) (w : List ℕ) (x : List Float) (ls : List ℕ) (count : ℕ) (h : Solvable limit n w x ls count) (r : Encoded) (w₁ : List ℕ) (x₁ : List Float) (E : Encodes n w x ls count r w₁ x₁) where
   -- the assumptions
@@ -103,7 +105,7 @@ module _ (limit n : ℕ) (w : List ℕ) (x : List Float) (ls : List ℕ) (count 
     module _ (ok : u .ok ≡ true) (a : Activity) (A : Starts a) where
       -- the state before the first round
       abbrev first : State
-      first = record { store = r .encoding .store; trail = u .trail; activity = a; inconsistent = false; learned = 0 }
+      first = record { store = r .encoding .store; trail = u .trail; activity = a; learned = 0 }
 
       variables-are : u .trail .variables ≡ n
       variables-are = U .variables ∙ E .variables
@@ -161,7 +163,7 @@ module _ (limit n : ℕ) (w : List ℕ) (x : List Float) (ls : List ℕ) (count 
       pub solved : (z : Answer) (w′ : List ℕ) (x′ : List Float) → Searches limit first w₂ x₁ ((limit + 2) * (n + 2)) z w′ x′ → Solves limit n w x ls count z w′ x′
       solved z w′ x′ s =
           record {
-            is = λ g k. ap (λ (m : ℕ). answerOf m z w′) (sym variables-are) ∙ s .is ∙ sym (same-run g k);
+            is = λ g k. ap (λ (m : ℕ). searchAnswer m z w′) (sym variables-are) ∙ s .is ∙ sym (same-run g k);
             others = others-both n (E .others) (rw variables-are at (s .others));
             frame = unchanged-both solveRegions frame₂ (s .frame);
           }

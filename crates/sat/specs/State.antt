@@ -1,17 +1,18 @@
 -- What a search's state and words stand for: the definition's solver and search; what holds between rounds; and what the functions of a round promise. Definitions only.
 use mathlib.Core.Path.{_≡_}
-use mathlib.Core.Bool.{Bool}
-use mathlib.Core.List.{List, [], _∷_, map}
+use mathlib.Core.Bool.{false}
+use mathlib.Core.List.{List, [], _∷_}
 use Prim.Native.Nat.{ℕ, suc, _+_, _*_, _<_, _≤_}
 use lib.ListN.{length}
 use lib.Ieee.{Float}
+use Rattle.words.specs.Layout.{MOST-NODES, MOST-LEARNED, SEEN, LEARNED}
 use Rattle.model.specs.Literal.{Literal}
 use Rattle.model.specs.Aig.{Aig}
 use Rattle.model.specs.Sat as Sat
 use Rattle.laws.specs.Search.State.{Idle, Stuck, Conflicting}
-use Rattle.assignment.specs.State.{wordValue, column, Unchanged}
+use Rattle.assignment.specs.State.{modelOf, Unchanged}
 use Rattle.assignment.specs.Scores.{scoresOf, Fixed, Others}
-use Rattle.clauses.specs.State.{solverOf, Sound, searchRegions}
+use Rattle.clauses.specs.State.{solverOf, SoundStore, searchRegions}
 use Rattle.sat.specs.LearnLaws.{learnedClause, Learnable}
 use Rattle.sat.specs.declared.state.State.{State}
 use Rattle.sat.specs.declared.state.Step.{Step}
@@ -27,17 +28,13 @@ baseOf s x =
       watches = [];
       assignment = Sat.new 0 .assignment;
       scores = scoresOf (s .trail .variables) (s .activity) x;
-      inconsistent = s .inconsistent;
+      inconsistent = false;
       learned = s .learned;
     }
 
 -- the definition's solver
 unfoldable pub stateOf : State → List ℕ → List Float → Sat.Solver
 stateOf s w x = solverOf (baseOf s x) (s .store) (s .trail) w
-
--- the model that the values of n variables are
-abbrev pub modelOf : ℕ → List ℕ → List Bool
-modelOf n w = map Sat.isTrue (map wordValue (column n 655360 w))
 
 -- the definition's search after a round
 abbrev pub stepOf : ℕ → Step → List ℕ → List Float → Sat.Search
@@ -48,15 +45,15 @@ stepOf n (Steps.GaveUp k) w x = Sat.answered (Sat.gaveUp k)
 
 -- ---- what holds throughout
 
--- the words and the scores are sound, and what may still be learned within the limit fits the layout
+-- the words and the scores are sound, and what may still be learned within the limit fits the layout; a node gives at most 3 clauses of 7 literals together, an assumption one of one
 pub record Fits (limit : ℕ) (s : State) (w : List ℕ) (x : List Float) : Type 0 where
-  pub sound : Sound (s .store) (s .trail) w []
+  pub sound : SoundStore (s .store) (s .trail) w []
   pub scores : s .trail .variables ≤ length x
   pub fixed : Fixed (s .activity)
-  pub limited : limit ≤ 262144
+  pub limited : limit ≤ MOST-LEARNED
   pub total : s .learned ≤ limit
-  pub clauses : s .store .clauses ≤ 262143 + s .learned
-  pub literals : s .store .literals ≤ 524288 + s .learned
+  pub clauses : s .store .clauses < 4 * MOST-NODES + s .learned
+  pub literals : s .store .literals ≤ 8 * MOST-NODES + s .learned
 
 -- between rounds: the invariant of the search of a graph and its assumptions
 pub record Going (limit : ℕ) (s : State) (w : List ℕ) (x : List Float) : Type 0 where
@@ -77,7 +74,7 @@ pub record Stopped (limit : ℕ) (s : State) (w : List ℕ) (x : List Float) (id
 
 -- the regions that a search writes
 abbrev pub solveRegions : List ℕ
-solveRegions = 917504 ∷ 1114112 ∷ searchRegions
+solveRegions = SEEN ∷ LEARNED ∷ searchRegions
 
 -- a search that goes on is sound, with the same variables
 abbrev pub Next : ℕ → ℕ → Step → List ℕ → List Float → Type 0

@@ -5,21 +5,23 @@ use Prim.Native.Nat.{ℕ, _<_, _≤_}
 use native.Mathlib.Omega.{arith}
 use lib.ListN.{length}
 use lib.Ieee.{Float}
+use Rattle.words.specs.Layout.{SMALL}
 use Rattle.model.specs.Sat as Sat
 use Rattle.laws.specs.Search.State.{Done, RoundOk}
 use Rattle.laws.specs.Search.Propagation.{propagate-keeps}
 use Rattle.laws.specs.Search.Rounds.{Ended, propagate-ends}
 use Rattle.laws.specs.Search.Reachable.{Reachable, core-reachable}
-use Rattle.assignment.specs.State.{assignmentOf, assignmentRegions, Unchanged}
+use Rattle.assignment.specs.State.{assignmentOf, assignmentRegions, Unchanged, modelOf}
 use Rattle.assignment.specs.Scores.{scoresOf}
 use Rattle.assignment.specs.StateLaws.{unchanged-both, unchanged-within, level-is}
 use Rattle.assignment.specs.declared.state.Trail.{Trail}
-use Rattle.clauses.specs.State.{solverOf, scored, Sound, trailOf, propagationOf, Propagates, searchRegions}
-use Rattle.clauses.specs.declared.state.Propagation.{Propagation}
-use Rattle.clauses.specs.declared.state.Propagation.the-variants as Propagations
+use Rattle.clauses.specs.State.{solverOf, scored, SoundStore, searchRegions}
+use Rattle.watches.specs.declared.state.Propagation.{Propagation}
+use Rattle.watches.specs.declared.state.Propagation.the-variants as Propagations
+use Rattle.watches.specs.State.{trailOf, propagationOf, Propagates}
 use Rattle.assignment.specs.ScoreLaws.{others-none}
 use Rattle.sat.specs.DecideLaws.{Decides}
-use Rattle.sat.specs.State.{baseOf, stateOf, modelOf, Fits, Going, Stopped, solveRegions, Results}
+use Rattle.sat.specs.State.{baseOf, stateOf, Fits, Going, Stopped, solveRegions, Results}
 use Rattle.sat.specs.ConflictLaws.{results-after}
 use Rattle.sat.specs.declared.state.Decided.the-variants as Outcomes
 use Rattle.sat.specs.declared.state.State.{State}
@@ -28,7 +30,7 @@ use Rattle.sat.specs.declared.state.Step.the-variants as Steps
 
 -- the state with another trail
 abbrev pub moved : State → Trail → State
-moved s t = record { store = s .store; trail = t; activity = s .activity; inconsistent = s .inconsistent; learned = s .learned }
+moved s t = record { store = s .store; trail = t; activity = s .activity; learned = s .learned }
 
 -- it stands for the solver over the same part that is in no lent word
 moved-is : (s : State) (t : Trail) (w : List ℕ) (x : List Float) → t .variables ≡ s .trail .variables → stateOf (moved s t) w x ≡ solverOf (baseOf s x) (s .store) t w
@@ -131,7 +133,7 @@ module _ (limit : ℕ) (s : State) (w : List ℕ) (x : List Float) (g : Going li
     facts =
         core-reachable limit (g .graph) (g .assumptions) T (omega (arith, g .size, g .fits .sound .formed .some)) (done .idle .core) (unfold solverOf baseOf in g .fits .total)
 
-    level-low : t .level < 65536
+    level-low : t .level < SMALL
     level-low =
         omega (
           arith,
@@ -143,7 +145,7 @@ module _ (limit : ℕ) (s : State) (w : List ℕ) (x : List Float) (g : Going li
         )
 
     -- what `decide` asks
-    pub decide-needs : Sound (s .store) t w₁ [] × (t .variables ≤ length x) × (t .level < 65536)
+    pub decide-needs : SoundStore (s .store) t w₁ [] × (t .variables ≤ length x) × (t .level < SMALL)
     decide-needs = (fits .sound, fits .scores, level-low)
 
     decide-goal : Sat.step limit S ≡ Sat.decide T (Sat.chooseVariable T)

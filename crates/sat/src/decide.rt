@@ -2,7 +2,8 @@
 ghost use mathlib.Core.List.{[]};
 ghost use Prim.Native.Nat.{_<_, _≤_};
 ghost use lib.ListN.{length};
-ghost use Rattle.clauses.specs.State.{Sound};
+ghost use Rattle.words.specs.Layout.{SMALL};
+ghost use Rattle.clauses.specs.State.{SoundStore};
 ghost use Rattle.sat.specs.DecideLaws.{Decides};
 use crate::state::Decided;
 use assignment::scores::choose_variable;
@@ -13,7 +14,7 @@ use clauses::state::Store;
 
 // A decision, or nothing where every variable is assigned.
 pub fn decide(words: &mut [u32], scores: &[f64], store: Store, t: Trail) -> Decided
-    requires { ⌜ Sound store t (now words) [] × (t .variables ≤ length (now scores)) × (t .level < 65536) ⌝ }
+    requires { ⌜ SoundStore store t (now words) [] × (t .variables ≤ length (now scores)) × (t .level < SMALL) ⌝ }
     ensures { λ r. ⌜ Decides store t (now (words .entry)) (now (scores .entry)) r (now (words .exit)) ⌝ }
 {
     match choose_variable(words, scores, t) {

@@ -4,8 +4,9 @@ ghost use mathlib.Core.Bool.{true};
 ghost use mathlib.Core.List.{[]};
 ghost use Prim.Native.Nat.{_+_, _*_, _<_, _≤_};
 ghost use lib.ListN.{length};
+ghost use Rattle.words.specs.Layout.{SMALL, STARTS, POOL, LEARNED};
 ghost use Rattle.words.specs.Region.{region};
-ghost use Rattle.clauses.specs.State.{Sound, AllBelow, AddedList, clean};
+ghost use Rattle.clauses.specs.State.{SoundStore, AllBelow, AddedList, clean};
 ghost use Rattle.analysis.specs.SortLaws.{part};
 ghost use Rattle.sat.specs.LearnLaws.{Pushes, Learnable, Learns};
 use crate::state::Learned;
@@ -22,7 +23,7 @@ use words::fetch;
 
 // `count` learned literals, from `start` on, put into the pool after those of the clauses.
 fn push_learned(words: &mut [u32], store: Store, t: Trail, start: usize, count: usize)
-    requires { ⌜ Sound store t (now words) [] × (store .literals + count ≤ 786432) × (start + count ≤ 65536) ⌝ }
+    requires { ⌜ SoundStore store t (now words) [] × (store .literals + count ≤ POOL) × (start + count ≤ SMALL) ⌝ }
     ensures { λ _. ⌜ Pushes store t start count (now (words .entry)) (now (words .exit)) ⌝ }
 {
     let mut i: usize = 0;
@@ -42,9 +43,9 @@ pub fn add_learned(
     start: usize,
     count: usize,
 ) -> Store
-    requires { ⌜ Sound store t (now words) [] × (store .literals + count ≤ 786432) × (start + count ≤ 65536) × (store .clauses + 1 < 524288) × (0 < count) × (t .variables ≤ length (now scores))
-        × AllBelow (t .variables * 2) (part count start (region 1114112 (now words))) × (clean (part count start (region 1114112 (now words))) ≡ true) ⌝ }
-    ensures { λ r. ⌜ AddedList store t (now (words .entry)) (now (scores .entry)) (part count start (region 1114112 (now (words .entry)))) r (now (words .exit)) (now (scores .exit)) ⌝ }
+    requires { ⌜ SoundStore store t (now words) [] × (store .literals + count ≤ POOL) × (start + count ≤ SMALL) × (store .clauses + 1 < STARTS) × (0 < count) × (t .variables ≤ length (now scores))
+        × AllBelow (t .variables * 2) (part count start (region LEARNED (now words))) × (clean (part count start (region LEARNED (now words))) ≡ true) ⌝ }
+    ensures { λ r. ⌜ AddedList store t (now (words .entry)) (now (scores .entry)) (part count start (region LEARNED (now (words .entry)))) r (now (words .exit)) (now (scores .exit)) ⌝ }
 {
     push_learned(words, store, t, start, count);
     add_clause(words, scores, store, t, count)

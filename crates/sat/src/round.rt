@@ -1,4 +1,5 @@
 // One round of the search: propagation, then the clause that a conflict teaches, or a decision.
+ghost use Rattle.words.specs.Layout.{LEARNED};
 ghost use Rattle.model.specs.Sat as Sat;
 ghost use Rattle.assignment.specs.State.{column};
 ghost use Rattle.sat.specs.State.{stateOf, Assertable, Going, Stopped, Results};
@@ -10,8 +11,8 @@ use crate::state::Step;
 use analysis::resolve::analyze;
 use assignment::scores::decay_activity;
 use clauses::clause::negate;
-use clauses::state::Propagation;
 use watches::propagate::propagate;
+use watches::state::Propagation;
 use watches::units::enqueue;
 
 // The clause of the asserting literal and the `count` learned ones added, and the asserting one made true by it.
@@ -25,7 +26,7 @@ fn assert_learned(
 ) -> Step
     requires { ⌜ Assertable limit s (now words) (now scores) asserting count ⌝ }
     ensures { λ r. ⌜ Results limit (s .trail .variables) (now (words .entry)) (now (scores .entry))
-        (Sat.assertLearned (s .store .clauses) asserting (Sat.learn (stateOf s (now (words .entry)) (now (scores .entry))) (stateOf s (now (words .entry)) (now (scores .entry)) .scores) asserting (column count 1114112 (now (words .entry)))))
+        (Sat.assertLearned (s .store .clauses) asserting (Sat.learn (stateOf s (now (words .entry)) (now (scores .entry))) (stateOf s (now (words .entry)) (now (scores .entry)) .scores) asserting (column count LEARNED (now (words .entry)))))
         r (now (words .exit)) (now (scores .exit)) ⌝ }
 {
     let before = s.store;
@@ -45,7 +46,6 @@ fn assert_learned(
         store,
         trail,
         activity,
-        inconsistent: s.inconsistent,
         learned: total,
     })
 }
@@ -81,7 +81,6 @@ fn after_conflict(
         store,
         trail,
         activity,
-        inconsistent: s.inconsistent,
         learned,
     };
     assert_learned(words, scores, next, negate(r.pivot), count, limit)
@@ -96,7 +95,6 @@ pub fn step(words: &mut [u32], scores: &mut [f64], s: State, limit: usize) -> St
 {
     let store = s.store;
     let activity = s.activity;
-    let inconsistent = s.inconsistent;
     let learned = s.learned;
     match propagate(words, store, s.trail) {
         Propagation::Propagating(_) => Step::NoModel(learned),
@@ -106,7 +104,6 @@ pub fn step(words: &mut [u32], scores: &mut [f64], s: State, limit: usize) -> St
                 store,
                 trail,
                 activity,
-                inconsistent,
                 learned,
             }),
         },
@@ -115,7 +112,6 @@ pub fn step(words: &mut [u32], scores: &mut [f64], s: State, limit: usize) -> St
                 store,
                 trail,
                 activity,
-                inconsistent,
                 learned,
             };
             after_conflict(words, scores, next, id, limit)

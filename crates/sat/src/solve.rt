@@ -70,7 +70,6 @@ pub fn solve(
         store,
         trail,
         activity,
-        inconsistent: false,
         learned: 0,
     };
     search(words, scores, first, limit, (limit + 2) * (variables + 2))

@@ -20,7 +20,6 @@ pub struct State {
     pub store: Store,
     pub trail: Trail,
     pub activity: Activity,
-    pub inconsistent: bool,
     pub learned: usize,
 }
 

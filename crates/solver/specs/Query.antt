@@ -7,13 +7,14 @@ use Prim.Native.Nat.{ℕ, zero, suc, _+_, _*_, _/_, _%_, _≤_, _<_}
 use lib.ListN.{length, getD}
 use lib.Dec.{eqb, leb, ltb}
 use lib.Ieee.{Float}
+use Rattle.words.specs.Layout.{LENT, MOST-NODES, MOST-LEARNED}
 use Rattle.model.specs.Aig.{Aig, new, variable, and}
 use Rattle.model.specs.Sat as Sat
 use Rattle.laws.specs.Graph.Operations.{Formed}
 use Rattle.aig.specs.Graph.{graphOf}
 use Rattle.aig.specs.Made.{Ready}
-use Rattle.sat.specs.State.{modelOf}
-use Rattle.sat.specs.SolveLaws.{answerOf}
+use Rattle.assignment.specs.State.{modelOf}
+use Rattle.sat.specs.SolveLaws.{searchAnswer}
 use Rattle.sat.specs.declared.state.Answer.{Answer}
 use Rattle.solver.specs.declared.SolveAnswer.{SolveAnswer}
 use Rattle.solver.specs.declared.Rebuilt.{Rebuilt}
@@ -43,16 +44,16 @@ allBelow b (l ∷ ls) = ltb l b && allBelow b ls
 -- whether the list of nodes is even, and the lengths and the limit are within what the search takes
 unfoldable pub within : ℕ → ℕ → ℕ → ℕ → ℕ → Bool
 within nodes assumptions limit words scores =
-    eqb (nodes % 2) 0 && (leb nodes 131070 && (leb assumptions 65535 && (leb limit 262144 && (leb 8388608 words && leb 65536 scores))))
+    eqb (nodes % 2) 0 && (leb nodes 131070 && (leb assumptions 65535 && (leb limit MOST-LEARNED && (leb LENT words && leb MOST-NODES scores))))
 
 -- the same as facts
 pub record Fits (nodes assumptions limit words scores : ℕ) : Type 0 where
   pub even : nodes % 2 ≡ 0
   pub nodes-few : nodes ≤ 131070
   pub assumptions-few : assumptions ≤ 65535
-  pub limited : limit ≤ 262144
-  pub words-long : 8388608 ≤ words
-  pub scores-long : 65536 ≤ scores
+  pub limited : limit ≤ MOST-LEARNED
+  pub words-long : LENT ≤ words
+  pub scores-long : MOST-NODES ≤ scores
 
 -- the search of a graph whose assumptions are its literals
 unfoldable pub searched : ℕ → List ℕ → Option Aig → Option Sat.Answer
@@ -71,7 +72,7 @@ sizeOf (some g) = length g
 
 -- the size of a list's graph
 unfoldable pub size : List ℕ → ℕ → ℕ
-size nodes words = cond (within (length nodes) 0 0 words 65536) (sizeOf (rebuilt (length nodes / 2) nodes)) 0
+size nodes words = cond (within (length nodes) 0 0 words MOST-NODES) (sizeOf (rebuilt (length nodes / 2) nodes)) 0
 
 -- ---- what is answered
 
@@ -96,7 +97,7 @@ pub record Standing (n : ℕ) (w : List ℕ) : Type 0 where
 -- what `with_node` asks
 pub record Extendable (n : ℕ) (w : List ℕ) (l r : ℕ) : Type 0 where
   pub standing : Standing n w
-  pub room : n + 1 ≤ 65536
+  pub room : n + 1 ≤ MOST-NODES
   pub lhs : l < n * 2
   pub rhs : r < n * 2
 
@@ -105,7 +106,7 @@ pub record Extends (n : ℕ) (w : List ℕ) (l r n′ : ℕ) (w′ : List ℕ) :
   pub is : graphOf n′ w′ ≡ withNode (graphOf n w) l r
   pub standing : Standing n′ w′
   pub few : n′ ≤ n + 1
-  pub long : 8388608 ≤ length w′
+  pub long : LENT ≤ length w′
 
 -- the graph that was rebuilt
 abbrev pub rebuiltOf : Rebuilt → List ℕ → Option Aig
@@ -114,23 +115,23 @@ rebuiltOf Rebuilds.Refused w = none
 
 -- it stands in the words
 abbrev pub StandingIn : Rebuilt → List ℕ → Type 0
-StandingIn (Rebuilds.Graph a) w = Standing (a .count) w × (a .count ≤ 65536)
+StandingIn (Rebuilds.Graph a) w = Standing (a .count) w × (a .count ≤ MOST-NODES)
 StandingIn Rebuilds.Refused w = Unit {0}
 
 -- of `rebuild`
 pub record Rebuilding (count : ℕ) (ls : List ℕ) (r : Rebuilt) (w′ : List ℕ) : Type 0 where
   pub is : rebuiltOf r w′ ≡ rebuilt count ls
   pub standing : StandingIn r w′
-  pub long : 8388608 ≤ length w′
+  pub long : LENT ≤ length w′
 
 -- what `search_graph` asks
 pub record Searchable (limit n : ℕ) (w : List ℕ) (x : List Float) (assumptions : List ℕ) : Type 0 where
   pub standing : Standing n w
-  pub few : n ≤ 65536
-  pub scores : 65536 ≤ length x
+  pub few : n ≤ MOST-NODES
+  pub scores : MOST-NODES ≤ length x
   pub assumed : length assumptions ≤ 65535
-  pub limited : limit ≤ 262144
+  pub limited : limit ≤ MOST-LEARNED
 
 -- of `numbers`
 pub record Numbered (a : Answer) (n : ℕ) (r : SolveAnswer) : Type 0 where
-  pub is : (w : List ℕ) → answered r w ≡ some (answerOf n a w)
+  pub is : (w : List ℕ) → answered r w ≡ some (searchAnswer n a w)

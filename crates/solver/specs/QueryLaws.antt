@@ -12,6 +12,7 @@ use lib.Seq.{drop-cons, take-length}
 use lib.Ieee.{Float}
 use lib.Dec.{eqb, leb, ltb}
 use borrow.Author.Tests.{lt-ltb, le-ltb, ltb-true, eqb-true, eqb-false, leb-true, leb-false}
+use Rattle.words.specs.Layout.{LENT, MOST-NODES, MOST-LEARNED}
 use Rattle.model.specs.Literal.{node}
 use Rattle.model.specs.Aig.{Aig, Built, new, variable, and}
 use Rattle.model.specs.Sat as Sat
@@ -127,11 +128,11 @@ partly-refused ls i n w p l r a b h count k =
     sym (ap (λ (j : ℕ). rebuilt j ls) m ∙ none-stays ls (suc i) (count - suc i) e)
 
 -- the list is refused
-pub refused : {count : ℕ} {ls w : List ℕ} → none ≡ rebuilt count ls → 8388608 ≤ length w → Rebuilding count ls Rebuilds.Refused w
+pub refused : {count : ℕ} {ls w : List ℕ} → none ≡ rebuilt count ls → LENT ≤ length w → Rebuilding count ls Rebuilds.Refused w
 refused e h = record { is = e; standing = tt; long = h }
 
 -- all pairs are passed
-pub rebuilt-all : (ls : List ℕ) (i count : ℕ) (a : Counted) (w : List ℕ) → Partly ls i (a .count) w → i ≡ count → a .count ≤ 65536 → Rebuilding count ls (Rebuilds.Graph a) w
+pub rebuilt-all : (ls : List ℕ) (i count : ℕ) (a : Counted) (w : List ℕ) → Partly ls i (a .count) w → i ≡ count → a .count ≤ MOST-NODES → Rebuilding count ls (Rebuilds.Graph a) w
 rebuilt-all ls i count a w p e h =
     record { is = p .is ∙ ap (λ (k : ℕ). rebuilt k ls) e; standing = (p .standing, h); long = p .standing .ready .long }
 
@@ -148,25 +149,25 @@ module _ (n a l w x : ℕ) where
   -- the tests are the facts
   by-tests : (P : Bool → Type 0) → (Fits n a l w x → P true) → ((Fits n a l w x → ⊥) → P false) → P (within n a l w x)
   unfolding within
-  by-tests P all not-all = go (eqb (n % 2) 0) (leb n 131070) (leb a 65535) (leb l 262144) (leb 8388608 w) (leb 65536 x) refl refl refl refl refl refl
+  by-tests P all not-all = go (eqb (n % 2) 0) (leb n 131070) (leb a 65535) (leb l MOST-LEARNED) (leb LENT w) (leb MOST-NODES x) refl refl refl refl refl refl
     where
-      go : (q r s t u v : Bool) → eqb (n % 2) 0 ≡ q → leb n 131070 ≡ r → leb a 65535 ≡ s → leb l 262144 ≡ t → leb 8388608 w ≡ u → leb 65536 x ≡ v
+      go : (q r s t u v : Bool) → eqb (n % 2) 0 ≡ q → leb n 131070 ≡ r → leb a 65535 ≡ s → leb l MOST-LEARNED ≡ t → leb LENT w ≡ u → leb MOST-NODES x ≡ v
           → P (q && (r && (s && (t && (u && v)))))
       go false r s t u v d e f g h i = not-all (λ k. eqb-false (n % 2) 0 d (k .even))
       go true false s t u v d e f g h i = not-all (λ k. omega (arith, leb-false n 131070 e, k .nodes-few))
       go true true false t u v d e f g h i = not-all (λ k. omega (arith, leb-false a 65535 f, k .assumptions-few))
-      go true true true false u v d e f g h i = not-all (λ k. omega (arith, leb-false l 262144 g, k .limited))
-      go true true true true false v d e f g h i = not-all (λ k. omega (arith, leb-false 8388608 w h, k .words-long))
-      go true true true true true false d e f g h i = not-all (λ k. omega (arith, leb-false 65536 x i, k .scores-long))
+      go true true true false u v d e f g h i = not-all (λ k. omega (arith, leb-false l MOST-LEARNED g, k .limited))
+      go true true true true false v d e f g h i = not-all (λ k. omega (arith, leb-false LENT w h, k .words-long))
+      go true true true true true false d e f g h i = not-all (λ k. omega (arith, leb-false MOST-NODES x i, k .scores-long))
       go true true true true true true d e f g h i =
           all
           (record {
             even = eqb-true (n % 2) 0 d;
             nodes-few = leb-true n 131070 e;
             assumptions-few = leb-true a 65535 f;
-            limited = leb-true l 262144 g;
-            words-long = leb-true 8388608 w h;
-            scores-long = leb-true 65536 x i;
+            limited = leb-true l MOST-LEARNED g;
+            words-long = leb-true LENT w h;
+            scores-long = leb-true MOST-NODES x i;
           })
 
   pub fits-not : (Fits n a l w x → ⊥) → false ≡ within n a l w x
@@ -237,7 +238,7 @@ module _ (limit n : ℕ) (w : List ℕ) (x : List Float) (given : List ℕ) wher
                 few = omega (arith, h .assumed);
                 range = below-at bound given e;
               };
-          few = h .assumed;
+          few = omega (arith, h .assumed);
           limited = h .limited;
           graph = graphOf n w;
           holds = holds-ready n w;
@@ -280,11 +281,11 @@ module _ (limit : ℕ) (ls given : List ℕ) (words scores : ℕ) where
 -- ---- the size alone
 
 module _ (ls : List ℕ) (words : ℕ) where
-  pub size-is : (t : Bool) → within (length ls) 0 0 words 65536 ≡ t → cond t (sizeOf (rebuilt (length ls / 2) ls)) 0 ≡ size ls words
+  pub size-is : (t : Bool) → within (length ls) 0 0 words MOST-NODES ≡ t → cond t (sizeOf (rebuilt (length ls / 2) ls)) 0 ≡ size ls words
   unfolding size
   size-is t e = rw e
 
-  module _ (e : within (length ls) 0 0 words 65536 ≡ true) where
+  module _ (e : within (length ls) 0 0 words MOST-NODES ≡ true) where
     pub size-unbuilt : none ≡ rebuilt (length ls / 2) ls → 0 ≡ size ls words
     size-unbuilt b = ap sizeOf b ∙ size-is true e
 

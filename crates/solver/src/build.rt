@@ -2,25 +2,27 @@
 ghost use mathlib.Core.Path.{_≡_};
 ghost use Prim.Native.Nat.{_≤_};
 ghost use lib.ListN.{length};
+ghost use Rattle.words.specs.Layout.{LENT};
 ghost use Rattle.model.specs.Validate.{readRecord};
+ghost use Rattle.struo_ir.specs.Designs.{Sized};
 ghost use Rattle.solver.specs.Built.{Built, sizeRead};
+use calls::fault::Fault;
 use lowering::lowering::from_netlist;
 use netlist_checks::record::read_record;
 use struo_ir::netlist::Netlist;
-use struo_ir::reader::Answer;
 use words::GOLD_LHS;
 use words::LENT;
 
 // The nodes of a design's transition graph, built once and `again` times more.
 fn build(words: &mut [u32], netlist: Netlist, again: u32) -> u32
-    requires { ⌜ (8388608 ≤ length (now words)) × (netlist .«node_count» ≤ 1024) × (netlist .«register_count» ≤ 128) ⌝ }
+    requires { ⌜ (LENT ≤ length (now words)) × Sized netlist ⌝ }
     ensures { λ r. ⌜ Built netlist r (now (words .exit)) ⌝ }
 {
-    let first = from_netlist(words, netlist, GOLD_LHS, 65536);
+    let first = from_netlist(words, netlist, GOLD_LHS);
     let mut count = first.count;
     let mut i: u32 = 0;
     while i < again {
-        let next = from_netlist(words, netlist, GOLD_LHS, count);
+        let next = from_netlist(words, netlist, GOLD_LHS);
         count = next.count;
         i += 1;
     }
@@ -37,10 +39,10 @@ pub extern "C" fn struo_build(record: &[u8], again: u32, words: &mut [u32]) -> u
         return 0;
     }
     let reading = read_record(record);
-    let answer = reading.answer;
+    let fault = reading.fault;
     let netlist = reading.netlist;
-    match answer {
-        Answer::Refused(_, _) => 0,
-        Answer::Accepted => build(words, netlist, again),
+    match fault {
+        Fault::Refused(_, _, _) => 0,
+        Fault::Nothing => build(words, netlist, again),
     }
 }

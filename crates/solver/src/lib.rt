@@ -4,6 +4,7 @@ pub mod build;
 ghost use mathlib.Core.Path.{_≡_};
 ghost use Prim.Native.Nat.{_*_, _≤_};
 ghost use lib.ListN.{length};
+ghost use Rattle.words.specs.Layout.{LENT};
 ghost use Rattle.solver.specs.Query.{Extendable, Extends, Rebuilding, Searchable, Numbered, within, allBelow, searched, answer, answered, size};
 ghost use mathlib.Core.Option.{some};
 ghost use Rattle.aig.specs.Graph.{graphOf};
@@ -11,6 +12,12 @@ use aig::Aig;
 use aig::Literal;
 use sat::solve::solve;
 use sat::state::Answer;
+use words::LENT;
+use words::MOST_LEARNED;
+use words::MOST_NODES;
+
+// The largest limit of learned literals.
+const LIMIT: u64 = MOST_LEARNED as u64;
 
 // What a search answers: status 0 with a model, whose values stand in the words, 1 with none, 2 where it gave up, 3 where the call is
 // refused; the nodes of the graph, and the total of learned literals.
@@ -42,10 +49,10 @@ fn with_node(aig: Aig, words: &mut [u32], lhs: u32, rhs: u32) -> Aig
 
 // The graph of the first `count` pairs of literals, refused where a literal is of no earlier node.
 fn rebuild(words: &mut [u32], nodes: &[u32], count: usize) -> Rebuilt
-    requires { ⌜ (8388608 ≤ length (now words)) × (count * 2 ≤ length (now nodes)) × (count ≤ 65535) ⌝ }
+    requires { ⌜ (LENT ≤ length (now words)) × (count * 2 ≤ length (now nodes)) × (count ≤ 65535) ⌝ }
     ensures { λ r. ⌜ Rebuilding count (now (nodes .entry)) r (now (words .exit)) ⌝ }
 {
-    let mut aig = Aig::new(words, 65536);
+    let mut aig = Aig::new(words);
     let mut i: usize = 0;
     while i < count {
         let lhs = nodes[i * 2];
@@ -76,13 +83,13 @@ fn fits(nodes: usize, assumptions: usize, limit: u64, words: usize, scores: usiz
     if assumptions > 65535 {
         return false;
     }
-    if limit > 262144 {
+    if limit > LIMIT {
         return false;
     }
-    if words < 8388608 {
+    if words < LENT {
         return false;
     }
-    if scores < 65536 {
+    if scores < MOST_NODES {
         return false;
     }
     true
@@ -189,7 +196,7 @@ pub extern "C" fn struo_solve(
 pub extern "C" fn struo_rebuild(nodes: &[u32], words: &mut [u32]) -> u32
     ensures { λ r. ⌜ r ≡ size (now (nodes .entry)) (length (now (words .entry))) ⌝ }
 {
-    if !fits(nodes.len(), 0, 0, words.len(), 65536) {
+    if !fits(nodes.len(), 0, 0, words.len(), MOST_NODES) {
         return 0;
     }
     match rebuild(words, nodes, nodes.len() / 2) {

@@ -124,11 +124,11 @@ pub inputs-right : (d : Design) (claim : List ℕ) (at c count : ℕ) → at ≡
 unfolding rowInputs claimInputs
 inputs-right d claim at c count e f = rw (e, f)
 
-module _ (d e : Design) (cycle : ℕ) (claim : List ℕ) (p : Position) (inp : InputBits) (xs ys new other : List Bool) (differ marked : Bool) (q : inp ≡ claimInputs d claim (p .cycle)) where
+module _ (gold gate : Design) (cycle : ℕ) (claim : List ℕ) (p : Position) (inp : InputBits) (gold-outputs gate-outputs gold-next gate-next : List Bool) (differ marked : Bool) (q : inp ≡ claimInputs gold claim (p .cycle)) where
   -- the parts of a step are the definition's
-  pub advance-right : xs ≡ outputBits d (nodeValues d inp (p .gold)) → ys ≡ outputBits e (nodeValues e inp (p .gate)) → differ ≡ bitsDiffer xs ys
-      → marked ≡ differAsMarked claim (suc cycle * inputCount d) xs ys → new ≡ nextStored d (nodeValues d inp (p .gold)) (p .gold) → other ≡ nextStored e (nodeValues e inp (p .gate)) (p .gate)
-      → _≡_ {A = Stepped} (record { position = record { cycle = p .cycle + 1; agreed = p .agreed && not differ; gold = new; gate = other }; yes = eqb (p .cycle) cycle && (p .agreed && (differ && marked)) })
-      (advance d e cycle claim p)
+  pub advance-right : gold-outputs ≡ outputBits gold (nodeValues gold inp (p .gold)) → gate-outputs ≡ outputBits gate (nodeValues gate inp (p .gate)) → differ ≡ bitsDiffer gold-outputs gate-outputs
+      → marked ≡ differAsMarked claim (suc cycle * inputCount gold) gold-outputs gate-outputs → gold-next ≡ nextStored gold (nodeValues gold inp (p .gold)) (p .gold) → gate-next ≡ nextStored gate (nodeValues gate inp (p .gate)) (p .gate)
+      → _≡_ {A = Stepped} (record { position = record { cycle = p .cycle + 1; agreed = p .agreed && not differ; gold = gold-next; gate = gate-next }; yes = eqb (p .cycle) cycle && (p .agreed && (differ && marked)) })
+      (advance gold gate cycle claim p)
   unfolding advance differAsClaimed
   advance-right f g h k l m = rw (add-one, k, h, l, m, f, g, q)

@@ -12,18 +12,18 @@ use Rattle.model.specs.Run.{nodeValues, outputBits}
 use Rattle.model.specs.Replay as Replay
 use Rattle.model.specs.Replay.{bitsDiffer, differAsMarked, stepIf}
 use Rattle.struo_ir.specs.Decoded.{decoded}
-use Rattle.name_order.specs.Places.{places}
+use Rattle.struo_ir.specs.Orders.{places}
 use Rattle.name_order.specs.PortLaws.{count-places}
 use Rattle.run.specs.RunTables.{rowInputs}
 use Rattle.run.specs.declared.run.Rows.{Rows}
-use Rattle.steps.specs.StepSides.{Sound, Cycled, Kept, position, stepped, outcomeOf, Paired, Advanced, StepTaken}
+use Rattle.steps.specs.StepSides.{SizedSide, Cycled, Kept, position, stepped, outcomeOf, Paired, Advanced, StepTaken}
 use Rattle.steps.specs.StepLaws.{padded-taken, length-outputBits, inputs-right, advance-right}
 use Rattle.steps.specs.declared.step.Side.{Side}
 use Rattle.steps.specs.declared.step.Position.{Position}
 use Rattle.steps.specs.declared.step.Stepped.{Stepped}
 
 -- a row's first bits are a side's outputs
-shown-taken : (s : List ℕ) (ins : List Place) (side : Side) (claim : List ℕ) (at : ℕ) (rows : Rows) (out : List Bool) (after : Rows) → Sound side → places s (side .outputs) ≡ outputs (decoded s (side .netlist))
+shown-taken : (s : List ℕ) (ins : List Place) (side : Side) (claim : List ℕ) (at : ℕ) (rows : Rows) (out : List Bool) (after : Rows) → SizedSide side → places s (side .outputs) ≡ outputs (decoded s (side .netlist))
     → Cycled s ins side claim at rows out after
     → take (side .outputs .count) out ≡ outputBits (decoded s (side .netlist)) (nodeValues (decoded s (side .netlist)) (rowInputs claim at ins) (take (side .netlist .«register_count») (rows .old)))
 shown-taken s ins side claim at rows out after f e c =
@@ -34,7 +34,7 @@ cycle-kept : (s : List ℕ) (ins : List Place) (side : Side) (claim : List ℕ) 
 cycle-kept s ins side claim at rows out after c =
     record { old = λ e. c .kept ∙ e; new = λ e. ap (drop (side .netlist .«register_count»)) (c .exchanged) }
 
-module _ (s t : List ℕ) (count : ℕ) (gold gate : Side) (cycle : ℕ) (claim : List ℕ) (p : Position) (f : Sound gold) (g : Sound gate) (q : Paired s t count gold gate) where
+module _ (s t : List ℕ) (count : ℕ) (gold gate : Side) (cycle : ℕ) (claim : List ℕ) (p : Position) (f : SizedSide gold) (g : SizedSide gate) (q : Paired s t count gold gate) where
   -- the parts of a step, put together
   pub advanced : (at place : ℕ) (out out′ : List Bool) (left right : Rows) (differ marked : Bool) (r : Stepped) → at ≡ p .cycle * count → place ≡ (cycle + 1) * count
       → Cycled s (inputs (decoded s (gold .netlist))) gold claim at (p .gold) out left → Cycled t (inputs (decoded s (gold .netlist))) gate claim at (p .gate) out′ right

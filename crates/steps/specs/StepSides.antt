@@ -1,5 +1,5 @@
 -- What a side of a replay holds, and the position that rows by value stand for. Definitions only.
-use Prim.Native.Nat.{ℕ, _+_, _≤_}
+use Prim.Native.Nat.{ℕ, _+_}
 use mathlib.Core.Path.{_≡_}
 use mathlib.Core.Bool.{Bool, not, _&&_}
 use lib.Dec.{eqb}
@@ -9,25 +9,25 @@ use Rattle.model.specs.Names.{Place}
 use Rattle.model.specs.Netlist.{inputs, outputs, inputCount}
 use Rattle.model.specs.Run.{nodeValues, nextStored, outputBits}
 use Rattle.model.specs.Replay as Replay
-use Rattle.netlist_checks.specs.Checks.{Drivers}
+use Rattle.drivers.specs.Drivers.{Drivers}
 use Rattle.struo_ir.specs.Decoded.{decoded}
-use Rattle.name_order.specs.Places.{Formed, places}
+use Rattle.struo_ir.specs.Designs.{Sized}
+use Rattle.struo_ir.specs.Orders.{Formed, places}
 use Rattle.run.specs.RunTables.{Ranked, rowInputs, padded}
 use Rattle.run.specs.declared.run.Rows.{Rows}
 use Rattle.steps.specs.declared.step.Side.{Side}
 use Rattle.steps.specs.declared.step.Position.{Position}
 use Rattle.steps.specs.declared.step.Stepped.{Stepped}
 
--- the counts of a side are within document 01's limits
-pub record Sound (side : Side) : Type 0 where
-  pub nodes : side .netlist .«node_count» ≤ 1024
-  pub registers : side .netlist .«register_count» ≤ 128
+-- the counts of a side are within the specification's limits
+pub record SizedSide (side : Side) : Type 0 where
+  pub sized : Sized (side .netlist)
   pub formed : Formed (side .outputs)
 
 -- the tables of a side are those of its record, with ranks among the given inputs
-pub record Ready (s : List ℕ) (ins : List Place) (side : Side) : Type 0 where
+pub record Prepared (s : List ℕ) (ins : List Place) (side : Side) : Type 0 where
   pub ranked : Ranked s ins (side .netlist) (side .ranks)
-  pub driven : Drivers (side .netlist .registers) (side .netlist .«register_count») (side .drivers)
+  pub driven : Drivers (side .netlist) (side .drivers)
 
 -- what a cycle of a side gives: outputs by name, and the rows exchanged: the one written has the next stored bits, and past the register count it is as it was
 pub record Cycled (s : List ℕ) (ins : List Place) (side : Side) (claim : List ℕ) (at : ℕ) (rows : Rows) (out : List Bool) (after : Rows) : Type 0 where
@@ -67,8 +67,8 @@ outcomeOf p cycle differ marked gold gate =
 
 -- two sides of a replay: ranks are those of gold's inputs, counted, and outputs are by name
 pub record Paired (s t : List ℕ) (count : ℕ) (gold gate : Side) : Type 0 where
-  pub gold-ready : Ready s (inputs (decoded s (gold .netlist))) gold
-  pub gate-ready : Ready t (inputs (decoded s (gold .netlist))) gate
+  pub gold-prepared : Prepared s (inputs (decoded s (gold .netlist))) gold
+  pub gate-prepared : Prepared t (inputs (decoded s (gold .netlist))) gate
   pub counted : count ≡ inputCount (decoded s (gold .netlist))
   pub gold-outputs : places s (gold .outputs) ≡ outputs (decoded s (gold .netlist))
   pub gate-outputs : places t (gate .outputs) ≡ outputs (decoded t (gate .netlist))

@@ -1,16 +1,17 @@
 // One step of a replay: both sides, one cycle, from any stored bits.
 ghost use mathlib.Core.Path.{_≡_};
-ghost use mathlib.Core.Bool.{_&&_, xor};
+ghost use mathlib.Core.Bool.{xor};
 ghost use mathlib.Core.List.{List};
-ghost use Prim.Native.Nat.{ℕ, _+_, _*_, _<_, _≤_};
+ghost use Prim.Native.Nat.{ℕ, _≤_};
 ghost use lib.ListN.{take};
 ghost use Rattle.model.specs.Names.{Place};
-ghost use Rattle.model.specs.Netlist.{inputs};
 ghost use Rattle.model.specs.Replay.{bitsDiffer, differAsMarked};
-ghost use Rattle.name_order.specs.Places.{Formed, places};
-ghost use Rattle.steps.specs.StepSides.{Sound, Ready, Cycled, outcomeOf, Paired, Advanced, StepTaken};
-use name_order::order::Order;
-use netlist_checks::validate::drivers;
+ghost use Rattle.struo_ir.specs.Designs.{Sized};
+ghost use Rattle.struo_ir.specs.Orders.{Formed, places};
+ghost use Rattle.steps.specs.StepSides.{SizedSide, Prepared, Cycled, outcomeOf, Paired, Advanced, StepTaken};
+use drivers::drivers;
+use run::bits::both;
+use run::bits::differ;
 use run::run::Rows;
 use run::run::claim_bit;
 use run::run::exchange;
@@ -18,6 +19,8 @@ use run::run::next_stored;
 use run::run::node_values;
 use run::run::output_row;
 use run::tables::input_ranks;
+use struo_ir::design::Design;
+use struo_ir::design::Order;
 use struo_ir::netlist::Netlist;
 
 // A side of a replay, ready to run: its netlist, the rank of each Input among gold's inputs, the register of each node, and its outputs by name.
@@ -54,14 +57,15 @@ struct Comparison {
     marked: bool,
 }
 
-// A side made ready: ranks are those of gold's inputs.
-pub fn side_of(bytes: &[u8], netlist: Netlist, outputs: Order, gold: &[u8], inputs: Order) -> Side
-    requires { ⌜ (netlist .«node_count» ≤ 1024) × (netlist .«register_count» ≤ 128) × (Formed outputs) × (Formed inputs) ⌝ }
-    ensures { λ r. ⌜ (r .netlist ≡ netlist) × (r .outputs ≡ outputs) × (Ready (now (bytes .entry)) (places (now (gold .entry)) inputs) r) ⌝ }
+// A design made ready to run: ranks are those of gold's inputs.
+pub fn side_of(bytes: &[u8], design: Design, gold: &[u8], inputs: Order) -> Side
+    requires { ⌜ (Sized (design .netlist)) × (Formed (design .outputs)) × (Formed inputs) ⌝ }
+    ensures { λ r. ⌜ (r .netlist ≡ design .netlist) × (r .outputs ≡ design .outputs) × (Prepared (now (bytes .entry)) (places (now (gold .entry)) inputs) r) ⌝ }
 {
+    let netlist = design.netlist;
+    let outputs = design.outputs;
     let ranks = input_ranks(bytes, netlist, gold, inputs);
-    let registers = netlist.registers;
-    let table = drivers(registers, netlist.register_count);
+    let table = drivers(netlist);
     Side {
         netlist,
         ranks,
@@ -72,8 +76,8 @@ pub fn side_of(bytes: &[u8], netlist: Netlist, outputs: Order, gold: &[u8], inpu
 
 // One cycle of a side: the old row gives node values, outputs and the new row; then the two rows are exchanged.
 fn cycle_of(side: Side, claim: &[u8], at: usize, rows: Rows) -> Cycle
-    requires { ⌜ (Sound side) × (at ≤ 65536) ⌝ }
-    ensures { λ r. ⌜ ((s : List ℕ) (ins : List Place) → Ready s ins side → Cycled s ins side (now (claim .entry)) at rows (r .outputs) (r .rows)) ⌝ }
+    requires { ⌜ (SizedSide side) × (at ≤ 65536) ⌝ }
+    ensures { λ r. ⌜ ((s : List ℕ) (ins : List Place) → Prepared s ins side → Cycled s ins side (now (claim .entry)) at rows (r .outputs) (r .rows)) ⌝ }
 {
     let netlist = side.netlist;
     let ranks = side.ranks;
@@ -85,13 +89,6 @@ fn cycle_of(side: Side, claim: &[u8], at: usize, rows: Rows) -> Cycle
     let written = next_stored(netlist, &values, rows);
     let rows = exchange(written);
     Cycle { outputs, rows }
-}
-
-// The exclusive or of two bits.
-fn differ(a: bool, b: bool) -> bool
-    ensures { λ r. ⌜ r ≡ xor a b ⌝ }
-{
-    if a { !b } else { b }
 }
 
 // Two bits are not marked as they differ.
@@ -137,28 +134,21 @@ fn as_marked(claim: &[u8], place: usize, xs: &[bool], ys: &[bool]) -> bool
     true
 }
 
-// The outputs of both sides compared.
+// The outputs of both sides compared: the first bits of two rows, as many as each side has outputs.
 fn compare(
     claim: &[u8],
     place: usize,
-    a: [bool; 128],
-    n: usize,
-    b: [bool; 128],
-    m: usize,
+    gold: [bool; 128],
+    gold_count: usize,
+    gate: [bool; 128],
+    gate_count: usize,
 ) -> Comparison
-    requires { ⌜ (place ≤ 65536) × (n ≤ 128) × (m ≤ 128) ⌝ }
-    ensures { λ r. ⌜ (r .differ ≡ bitsDiffer (take n a) (take m b)) × (r .marked ≡ differAsMarked (now (claim .entry)) place (take n a) (take m b)) ⌝ }
+    requires { ⌜ (place ≤ 65536) × («gold_count» ≤ 128) × («gate_count» ≤ 128) ⌝ }
+    ensures { λ r. ⌜ (r .differ ≡ bitsDiffer (take «gold_count» gold) (take «gate_count» gate)) × (r .marked ≡ differAsMarked (now (claim .entry)) place (take «gold_count» gold) (take «gate_count» gate)) ⌝ }
 {
-    let differ = bits_differ(&a[..n], &b[..m]);
-    let marked = as_marked(claim, place, &a[..n], &b[..m]);
+    let differ = bits_differ(&gold[..gold_count], &gate[..gate_count]);
+    let marked = as_marked(claim, place, &gold[..gold_count], &gate[..gate_count]);
     Comparison { differ, marked }
-}
-
-// Both bits are set.
-fn both(a: bool, b: bool) -> bool
-    ensures { λ r. ⌜ r ≡ (a && b) ⌝ }
-{
-    if a { b } else { false }
 }
 
 // The step's outcome from a cycle's comparison and the rows after it.
@@ -188,23 +178,30 @@ pub fn advance(
     claim: &[u8],
     p: Position,
 ) -> Stepped
-    requires { ⌜ (Sound gold) × (Sound gate) × (inputs ≤ 128) × (cycle ≤ 64) × (p .cycle ≤ 64) ⌝ }
+    requires { ⌜ (SizedSide gold) × (SizedSide gate) × (inputs ≤ 128) × (cycle ≤ 64) × (p .cycle ≤ 64) ⌝ }
     ensures { λ r. ⌜ ((s t : List ℕ) → Paired s t inputs gold gate → Advanced s t gold gate cycle (now (claim .entry)) p r) ⌝ }
 {
     let at = p.cycle * inputs;
     let place = (cycle + 1) * inputs;
     let rows = p.gold;
-    let a = cycle_of(gold, claim, at, rows);
+    let gold_cycle = cycle_of(gold, claim, at, rows);
     let rows = p.gate;
-    let b = cycle_of(gate, claim, at, rows);
-    let first = gold.outputs;
-    let second = gate.outputs;
-    let xs = a.outputs;
-    let ys = b.outputs;
-    let c = compare(claim, place, xs, first.count, ys, second.count);
-    let left = a.rows;
-    let right = b.rows;
-    outcome(p, cycle, c, left, right)
+    let gate_cycle = cycle_of(gate, claim, at, rows);
+    let gold_order = gold.outputs;
+    let gate_order = gate.outputs;
+    let gold_outputs = gold_cycle.outputs;
+    let gate_outputs = gate_cycle.outputs;
+    let c = compare(
+        claim,
+        place,
+        gold_outputs,
+        gold_order.count,
+        gate_outputs,
+        gate_order.count,
+    );
+    let gold_rows = gold_cycle.rows;
+    let gate_rows = gate_cycle.rows;
+    outcome(p, cycle, c, gold_rows, gate_rows)
 }
 
 // One step of a replay from a position: past the claimed cycle nothing changes and the answer is no.
@@ -216,7 +213,7 @@ pub fn step(
     claim: &[u8],
     p: Position,
 ) -> Stepped
-    requires { ⌜ (Sound gold) × (Sound gate) × (inputs ≤ 128) × (cycle ≤ 64) ⌝ }
+    requires { ⌜ (SizedSide gold) × (SizedSide gate) × (inputs ≤ 128) × (cycle ≤ 64) ⌝ }
     ensures { λ r. ⌜ ((s t : List ℕ) → Paired s t inputs gold gate → StepTaken s t gold gate cycle (now (claim .entry)) p r) ⌝ }
 {
     if p.cycle > cycle {

@@ -30,6 +30,14 @@ decodedReset zero signal kind value = none
 decodedReset (suc c) signal kind value =
     some (record { signal = signal; active = levelOf (suc c); asynchronous = bit kind; value = bit value })
 
+-- the enable that a register's fields say
+unfoldable pub cellEnable : RegisterCell → Option Enable
+cellEnable r = decodedEnable (r .enable) (r .«enable_signal»)
+
+-- the reset that a register's fields say
+unfoldable pub cellReset : RegisterCell → Option Reset
+cellReset r = decodedReset (r .reset) (r .«reset_signal») (r .«reset_kind») (r .«reset_value»)
+
 -- the register that the fields say
 unfoldable pub decodedRegister : List ℕ → RegisterCell → Register
 decodedRegister s r =

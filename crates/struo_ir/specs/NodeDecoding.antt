@@ -8,6 +8,7 @@ use lib.ListN.{length}
 use lib.Dec.{eqb}
 use borrow.Author.Tests.{eqb-true}
 use Rattle.facts.specs.Bools.{or-both}
+use Rattle.model.specs.Kinds.{inputKind, constantKind, outputKind, byKind}
 use Rattle.model.specs.Names.{Name}
 use Rattle.model.specs.Netlist as Model
 use Rattle.model.specs.Netlist.{inputName, outputName, portsFrom}
@@ -22,20 +23,20 @@ use Rattle.struo_ir.specs.StepLaws.{bind-map, bind-last, name-at}
 -- ---- what a kind has no use for
 
 name-unused : (k : ℕ) (n m : Name) (v : ℕ) (ins : List ℕ) → hasName k ≡ false → nodeOf k n v ins ≡ nodeOf k m v ins
-unfolding nodeOf hasName
-name-unused k n m v ins h = let u = or-both (eqb k 0x00) (eqb k 0x11) h in rw (u .0, u .1)
+unfolding byKind nodeOf hasName
+name-unused k n m v ins h = let u = or-both (eqb k inputKind) (eqb k outputKind) h in rw (u .0, u .1)
 
 value-unused : (k : ℕ) (n : Name) (v w : ℕ) (ins : List ℕ) → hasValue k ≡ false → nodeOf k n v ins ≡ nodeOf k n w ins
-unfolding nodeOf hasValue
+unfolding byKind nodeOf hasValue
 value-unused k n v w ins h = rw h
 
 named-valueless : (k : ℕ) → hasName k ≡ true → hasValue k ≡ false
 unfolding hasName hasValue
-named-valueless k h = go (eqb k 0x01) refl
+named-valueless k h = go (eqb k constantKind) refl
   where
-    go : (b : Bool) → eqb k 0x01 ≡ b → eqb k 0x01 ≡ false
+    go : (b : Bool) → eqb k constantKind ≡ b → eqb k constantKind ≡ false
     go false e = e
-    go true e = absurd (let f : k ≡ 1 = eqb-true k 1 e in let g : (eqb 1 0x00 || eqb 1 0x11) ≡ true = rw f at h in let z : _≡_ {A = ℕ} 0 1 = cc in omega arith)
+    go true e = absurd (let f : k ≡ 1 = eqb-true k 1 e in let g : (eqb 1 inputKind || eqb 1 outputKind) ≡ true = rw f at h in let z : _≡_ {A = ℕ} 0 1 = cc in omega arith)
 
 -- ---- a node
 
@@ -70,10 +71,10 @@ module _ (s : List ℕ) where
 
 -- ---- the ports among the nodes
 
-pub inputs-more : (s : List ℕ) (ns : List Model.Node) (n : Node) → length (portsFrom inputName 0 (ns ++ (decodedNode s n ∷ []))) ≡ length (portsFrom inputName 0 ns) + cond (eqb (n .kind) 0x00) 1 0
+pub inputs-more : (s : List ℕ) (ns : List Model.Node) (n : Node) → length (portsFrom inputName 0 (ns ++ (decodedNode s n ∷ []))) ≡ length (portsFrom inputName 0 ns) + cond (eqb (n .kind) inputKind) 1 0
 unfolding decodedNode
 inputs-more s ns n = inputs-append (n .kind) _ _ _ 0 ns
 
-pub outputs-more : (s : List ℕ) (ns : List Model.Node) (n : Node) → length (portsFrom outputName 0 (ns ++ (decodedNode s n ∷ []))) ≡ length (portsFrom outputName 0 ns) + cond (eqb (n .kind) 0x11) 1 0
+pub outputs-more : (s : List ℕ) (ns : List Model.Node) (n : Node) → length (portsFrom outputName 0 (ns ++ (decodedNode s n ∷ []))) ≡ length (portsFrom outputName 0 ns) + cond (eqb (n .kind) outputKind) 1 0
 unfolding decodedNode
 outputs-more s ns n = outputs-append (n .kind) _ _ _ 0 ns

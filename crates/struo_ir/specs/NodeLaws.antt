@@ -6,6 +6,7 @@ use mathlib.Core.List.{List, [], _∷_}
 use native.Mathlib.Omega.{arith}
 use borrow.Author.Tests.{ne-eqb}
 use Rattle.model.specs.Answers.{Refusal}
+use Rattle.model.specs.Kinds.{inputKind, outputKind}
 use Rattle.model.specs.Record.{Step, got, refused, pure, goOn, _>>=_, number, numbers, hasName}
 use Rattle.fields.specs.Fields.{mapStep}
 
@@ -34,14 +35,14 @@ module _ (f : List ℕ → List ℕ) (s : List ℕ) (i : ℕ) where
 
 -- ---- kinds
 
-pub named-input : (k : ℕ) → k ≡ 0x00 → hasName k ≡ true
+pub named-input : (k : ℕ) → k ≡ inputKind → hasName k ≡ true
 unfolding hasName
 named-input k e = rw e
 
-pub named-output : (k : ℕ) → k ≡ 0x11 → hasName k ≡ true
+pub named-output : (k : ℕ) → k ≡ outputKind → hasName k ≡ true
 unfolding hasName
 named-output k e = rw e
 
-pub unnamed : (k : ℕ) → (k ≡ 0x00 → ⊥) → (k ≡ 0x11 → ⊥) → hasName k ≡ false
+pub unnamed : (k : ℕ) → (k ≡ inputKind → ⊥) → (k ≡ outputKind → ⊥) → hasName k ≡ false
 unfolding hasName
-unnamed k x y = rw (ne-eqb k 0x00 x, ne-eqb k 0x11 y)
+unnamed k x y = rw (ne-eqb k inputKind x, ne-eqb k outputKind y)

@@ -72,7 +72,7 @@ unfoldable pub cellAt : ℕ → ℕ → Reader Node
 cellAt inputs outputs = _>>=_ (kindAt inputs outputs) cellDetail
 
 -- a node of zeros
-unfoldable pub noNode : Node
+abbrev pub noNode : Node
 noNode = record { kind = 0; detail = 0; first = 0; second = 0; third = 0 }
 
 -- the step of the nodes: as many as the count says, decoded

@@ -10,6 +10,7 @@ use lib.Dec.{eqb}
 use Rattle.facts.specs.Lists.{getD-replicate, set-any}
 use Rattle.facts.specs.Numbers.{cond-le}
 use Rattle.model.specs.Answers.{Refusal}
+use Rattle.model.specs.Kinds.{inputKind, outputKind}
 use Rattle.model.specs.Netlist.{portsFrom}
 use Rattle.model.specs.Record.{got, refused, refuse, pure, goOn, _>>=_, kinds, listedKind, node, nodesFrom}
 use Rattle.model.specs.Lists.{member}
@@ -23,7 +24,7 @@ use Rattle.struo_ir.specs.ListLaws.{map-take-set}
 use Rattle.struo_ir.specs.StepLaws.{cell-listed}
 
 pub nodes-start : (s : List ℕ) (count at : ℕ) → NodesSoFar s count at (replicate 1024 noNode) 0 0 at 0
-unfolding nodesTo portsFrom noNode listedKind kinds member
+unfolding nodesTo portsFrom listedKind kinds member
 nodes-start s count at =
     record {
       bound = omega arith;
@@ -66,12 +67,12 @@ module _ (s : List ℕ) (count at : ℕ) (nodes : List Node) (inputs outputs nex
         goal : count - i ≡ suc (count - (i + 1)) → nodesFrom listedKind (count - (i + 1)) (nodesTo s nodes i ++ (decodedNode s n ∷ [])) s end ≡ nodesFrom listedKind (count - i) (nodesTo s nodes i) s next
         goal d = rw (d, ← here-got n end e)
 
-    pub nodes-more : NodesSoFar s count at (set nodes i n) (inputs + cond (eqb (n .kind) 0x00) 1 0) (outputs + cond (eqb (n .kind) 0x11) 1 0) end (i + 1)
+    pub nodes-more : NodesSoFar s count at (set nodes i n) (inputs + cond (eqb (n .kind) inputKind) 1 0) (outputs + cond (eqb (n .kind) outputKind) 1 0) end (i + 1)
     nodes-more =
         record {
           bound = omega arith;
-          few-inputs = omega (arith, so .few-inputs, cond-le (eqb (n .kind) 0x00));
-          few-outputs = omega (arith, so .few-outputs, cond-le (eqb (n .kind) 0x11));
+          few-inputs = omega (arith, so .few-inputs, cond-le (eqb (n .kind) inputKind));
+          few-outputs = omega (arith, so .few-outputs, cond-le (eqb (n .kind) outputKind));
           size = length-set nodes i n ∙ so .size;
           inputs-are = rw (stored, inputs-more s (nodesTo s nodes i) n, ← so .inputs-are);
           outputs-are = rw (stored, outputs-more s (nodesTo s nodes i) n, ← so .outputs-are);

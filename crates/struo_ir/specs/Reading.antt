@@ -1,9 +1,7 @@
 -- What a reading stands for: the definition's outcome, the design by its decoded netlist. Definitions only.
-use Prim.Native.Nat.{ℕ, _≤_}
+use Prim.Native.Nat.{ℕ}
 use mathlib.Core.Path.{_≡_}
-use mathlib.Core.Bool.{true}
 use mathlib.Core.List.{List}
-use lib.ListN.{length, getD}
 use Rattle.model.specs.Netlist as Model
 use Rattle.model.specs.Record.{Reader, pure, _>>=_, nodes, registers, register, listedKind, end, Read, parsed, refusedRecord, finished}
 use Rattle.struo_ir.specs.declared.netlist.Node.{Node}
@@ -11,43 +9,27 @@ use Rattle.struo_ir.specs.declared.netlist.RegisterCell.{RegisterCell}
 use Rattle.struo_ir.specs.declared.netlist.Netlist.{Netlist}
 use Rattle.fields.specs.declared.Number.{Number}
 use Rattle.fields.specs.declared.Number.the-variants as Number
-use Rattle.struo_ir.specs.declared.reader.Answer.{Answer}
-use Rattle.struo_ir.specs.declared.reader.Answer.the-variants as Answer
+use Rattle.calls.specs.Faults.{refusal}
+use Rattle.calls.specs.declared.fault.Fault.{Fault}
+use Rattle.calls.specs.declared.fault.Fault.the-variants as Fault
 use Rattle.struo_ir.specs.declared.reader.Reading.{Reading}
 use Rattle.struo_ir.specs.Decoded.{nameAt, decoded}
-use Rattle.struo_ir.specs.Nodes.{nodesOf, noNode}
-use Rattle.struo_ir.specs.Registers.{registersOf, noRegister}
+use Rattle.struo_ir.specs.Designs.{NodesPadded, RegistersPadded}
+use Rattle.struo_ir.specs.Nodes.{nodesOf}
+use Rattle.struo_ir.specs.Registers.{registersOf}
 
 -- refusal n of a record at a place
 unfoldable pub refusedAt : ℕ → ℕ → Read
-refusedAt n place = refusedRecord (record { number = n; side = 0; place = place })
+refusedAt n place = refusedRecord (refusal n 0 place)
 
--- the outcome by its answer: the design of the netlist, or the refusal
-unfoldable pub readBy : List ℕ → Netlist → Answer → Read
-readBy s n Answer.Accepted = parsed (decoded s n)
-readBy s n (Answer.Refused number place) = refusedAt number place
+-- the outcome by what was found: the design of the netlist, or the refusal
+unfoldable pub readBy : List ℕ → Netlist → Fault → Read
+readBy s n Fault.Nothing = parsed (decoded s n)
+readBy s n (Fault.Refused number side place) = refusedRecord (refusal number side place)
 
 -- the outcome of a reading
 unfoldable pub readOf : List ℕ → Reading → Read
-readOf s r = readBy s (r .netlist) (r .answer)
-
--- an array of nodes of listed kinds with at most 1,024 of them, zeros from the count on
-pub record NodesPadded (count : ℕ) (nodes : List Node) : Type 0 where
-  pub size : length nodes ≡ 1024
-  pub fits : count ≤ 1024
-  pub past : (k : ℕ) → count ≤ k → getD nodes k noNode ≡ noNode
-  pub listed : (k : ℕ) → listedKind (getD nodes k noNode .kind) ≡ true
-
--- an array of registers with at most 128 of them, zeros from the count on
-pub record RegistersPadded (count : ℕ) (registers : List RegisterCell) : Type 0 where
-  pub size : length registers ≡ 128
-  pub fits : count ≤ 128
-  pub past : (k : ℕ) → count ≤ k → getD registers k noRegister ≡ noRegister
-
--- a netlist within the limits, with zeros past its counts
-pub record Padded (n : Netlist) : Type 0 where
-  pub nodes-padded : NodesPadded (n .«node_count») (n .nodes)
-  pub registers-padded : RegistersPadded (n .«register_count») (n .registers)
+readOf s r = readBy s (r .netlist) (r .fault)
 
 -- the nodes with their count, as the definition reads them
 pub record NodesCounted (s : List ℕ) (at : ℕ) (field : Number) (cells : List Node) : Type 0 where

@@ -17,27 +17,29 @@ use Rattle.struo_ir.specs.declared.netlist.Node.{Node}
 use Rattle.struo_ir.specs.declared.netlist.RegisterCell.{RegisterCell}
 use Rattle.fields.specs.declared.Number.{Number}
 use Rattle.fields.specs.declared.Number.the-variants as Number
-use Rattle.struo_ir.specs.declared.reader.Answer.the-variants as Answer
+use Rattle.calls.specs.Faults.{refusal}
+use Rattle.calls.specs.declared.fault.Fault.the-variants as Fault
 use Rattle.struo_ir.specs.declared.reader.Reading.{Reading}
 use Rattle.struo_ir.specs.Decoded.{nameAt}
 use Rattle.fields.specs.Fields.{mapStep, placed}
 use Rattle.fields.specs.FieldLaws.{bind-refused, bind-got, guard-passed}
 use Rattle.struo_ir.specs.Nodes.{nodesTo, nodesOf, noNode, countOf, NodesRead}
-use Rattle.struo_ir.specs.Reading.{refusedAt, readBy, readOf, NodesPadded, RegistersPadded, NodesCounted, RegistersCounted, designOf, fromRegisters, fromNodes}
+use Rattle.struo_ir.specs.Designs.{NodesPadded, RegistersPadded}
+use Rattle.struo_ir.specs.Reading.{refusedAt, readBy, readOf, NodesCounted, RegistersCounted, designOf, fromRegisters, fromNodes}
 use Rattle.struo_ir.specs.Registers.{registersTo, registersOf, noRegister, RegistersRead}
 use Rattle.struo_ir.specs.StepLaws.{name-at}
 
 -- ---- empty arrays, refused readings
 
 pub no-nodes-padded : NodesPadded 0 (replicate 1024 noNode)
-unfolding noNode listedKind kinds member
+unfolding listedKind kinds member
 no-nodes-padded = record { size = length-replicate 1024 noNode; fits = omega arith; past = λ k h. getD-replicate 1024 k noNode; listed = λ k. rw (getD-replicate 1024 k noNode) }
 
 pub no-registers-padded : RegistersPadded 0 (replicate 128 noRegister)
 no-registers-padded = record { size = length-replicate 128 noRegister; fits = omega arith; past = λ k h. getD-replicate 128 k noRegister }
 
-pub read-refused : (s : List ℕ) (r : Reading) (n place : ℕ) → r .answer ≡ Answer.Refused n place → readOf s r ≡ refusedAt n place
-unfolding readOf readBy
+pub read-refused : (s : List ℕ) (r : Reading) (n place : ℕ) → r .fault ≡ Fault.Refused n 0 place → readOf s r ≡ refusedAt n place
+unfolding readOf readBy refusedAt
 read-refused s r n place e = ap (readBy s (r .netlist)) e
 
 -- ---- counts
@@ -81,7 +83,7 @@ module _ (s : List ℕ) (at : ℕ) (field : Number) where
 
 module _ (ns : List Model.Node) (s : List ℕ) (at : ℕ) (field : Number) (cells : List RegisterCell) (r : RegistersCounted s at field cells) where
   pub rest-refused : (n place : ℕ) → field ≡ Number.Refused n place → refusedAt n place ≡ fromRegisters ns s at
-  unfolding fromRegisters refusedAt finished registersOf refuse
+  unfolding fromRegisters refusal refusedAt finished registersOf refuse
   rest-refused n place e = ap finished (bind-refused (registers register) (designOf s ns) s at _ (ap (registersOf s cells) (sym e) ∙ r .step))
 
   module _ (n after : ℕ) (e : field ≡ Number.Got n after) where
@@ -91,7 +93,7 @@ module _ (ns : List Model.Node) (s : List ℕ) (at : ℕ) (field : Number) (cell
     read-registers = bind-got (registers register) (designOf s ns) s at (registersTo s cells n) after (ap (registersOf s cells) (sym e) ∙ r .step)
 
     pub rest-left : after < length s → refusedAt 3 after ≡ fromRegisters ns s at
-    unfolding fromRegisters refusedAt designOf _>>=_ end goOn finished refuse
+    unfolding fromRegisters refusal refusedAt designOf _>>=_ end goOn finished refuse
     rest-left l = left l ∙ ap finished read-registers
       where
         left : after < length s → refusedRecord (record { number = 3; side = 0; place = after }) ≡ finished (designOf s ns (registersTo s cells n) s after)
@@ -108,7 +110,7 @@ module _ (ns : List Model.Node) (s : List ℕ) (at : ℕ) (field : Number) (cell
 
 module _ (s : List ℕ) (at : ℕ) (field : Number) (cells : List Node) (r : NodesCounted s at field cells) where
   pub nodes-refused-at : (n place : ℕ) → field ≡ Number.Refused n place → refusedAt n place ≡ fromNodes s at
-  unfolding fromNodes refusedAt finished nodesOf refuse
+  unfolding fromNodes refusal refusedAt finished nodesOf refuse
   nodes-refused-at n place e = ap finished (bind-refused (nodes listedKind) (λ ns. _>>=_ (registers register) (designOf s ns)) s at _ (ap (nodesOf s cells) (sym e) ∙ r .step))
 
   pub nodes-then : (n after : ℕ) → field ≡ Number.Got n after → fromRegisters (nodesTo s cells n) s after ≡ fromNodes s at
@@ -127,7 +129,7 @@ after-name n = do
 
 module _ (s : List ℕ) where
   pub design-refused : (n place : ℕ) → refuse n place ≡ placed 5 (name s 5) → refusedAt n place ≡ finished (version1 s 5)
-  unfolding version1 _>>=_ after-name placed mapStep goOn refuse refusedAt finished
+  unfolding version1 _>>=_ after-name placed mapStep goOn refuse refusal refusedAt finished
   design-refused n place e = go (name s 5) e
     where
       go : (x : Step Name) → refuse {A = ℕ} n place ≡ mapStep (λ m. 5) x → refusedAt n place ≡ finished (goOn after-name s x)
@@ -171,11 +173,11 @@ module _ (s : List ℕ) where
   fitting h = let u = and-both (leb 5 (length s) && leb (length s) 65535) _ h in let v = and-both (leb 5 (length s)) (leb (length s) 65535) (u .0) in (leb-true 5 (length s) (v .0), leb-true (length s) 65535 (v .1))
 
   pub unsized : lengthFits s ≡ false → refusedAt 1 0 ≡ parse s
-  unfolding parse parseSized finished refuse refusedAt
+  unfolding parse parseSized finished refuse refusal refusedAt
   unsized h = rw h
 
   pub unversioned : lengthFits s ≡ true → (getD s 0 0 ≡ 1 → ⊥) → refusedAt 2 0 ≡ parse s
-  unfolding parse parseSized versionOf parseFields finished refuse refusedAt
+  unfolding parse parseSized versionOf parseFields finished refuse refusal refusedAt
   unversioned h v = rw (h, ne-eqb (getD s 0 0) 1 v)
 
   pub versioned : lengthFits s ≡ true → getD s 0 0 ≡ 1 → finished (version1 s 5) ≡ parse s

@@ -93,7 +93,7 @@ unfoldable pub registerAt : Reader RegisterCell
 registerAt = _>>=_ placeAt registerNets
 
 -- a register of zeros
-unfoldable pub noRegister : RegisterCell
+abbrev pub noRegister : RegisterCell
 noRegister = record { name = 0; output = 0; «data» = 0; clock = 0; edge = 0; enable = 0; «enable_signal» = 0; reset = 0; «reset_signal» = 0; «reset_kind» = 0; «reset_value» = 0 }
 
 -- the definition's registers among the first i

@@ -3,6 +3,9 @@ use crate::netlist::Node;
 use fields::Code;
 use fields::Number;
 use fields::inputs_per_kind;
+use fields::kinds::CONSTANT;
+use fields::kinds::INPUT;
+use fields::kinds::OUTPUT;
 use fields::read_code_below;
 use fields::read_kind;
 use fields::read_name;
@@ -82,13 +85,13 @@ fn read_detail(bytes: &[u8], kind: u8, at: u32) -> Number
     requires { ⌜ length (now bytes) ≤ 65535 ⌝ }
     ensures { λ r. ⌜ numberOf r ≡ detailAt kind (now (bytes .entry)) at ⌝ }
 {
-    if kind == 0x00 {
+    if kind == INPUT {
         return read_name(bytes, at);
     }
-    if kind == 0x11 {
+    if kind == OUTPUT {
         return read_name(bytes, at);
     }
-    if kind == 0x01 {
+    if kind == CONSTANT {
         return match read_code_below(bytes, 2, at) {
             Code::Refused(number, place) => Number::Refused(number, place),
             Code::Got(b, next) => Number::Got(wide(b), next),
@@ -154,8 +157,8 @@ pub fn read_nodes(bytes: &[u8], count: u16, at: u32) -> Nodes
                 let kind = node.kind;
                 let k = i as usize;
                 nodes[k] = node;
-                inputs = counted(inputs, kind, 0x00);
-                outputs = counted(outputs, kind, 0x11);
+                inputs = counted(inputs, kind, INPUT);
+                outputs = counted(outputs, kind, OUTPUT);
                 next = end;
             }
         }

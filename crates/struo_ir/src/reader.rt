@@ -6,6 +6,7 @@ use crate::nodes::Nodes;
 use crate::nodes::read_nodes;
 use crate::registers::Registers;
 use crate::registers::read_registers;
+use calls::fault::Fault;
 use fields::Number;
 use fields::read_name;
 use fields::read_number;
@@ -13,24 +14,20 @@ ghost use mathlib.Core.Path.{_≡_};
 ghost use Prim.Native.Nat.{_+_, _≤_};
 ghost use lib.ListN.{length, take, drop};
 ghost use Rattle.model.specs.Record as Record;
-ghost use Rattle.struo_ir.specs.Reading.{readOf, Padded, NodesCounted, RegistersCounted, NodesPadded, fromRegisters};
+ghost use Rattle.calls.specs.declared.fault.Fault.the-variants as Fault;
+ghost use Rattle.struo_ir.specs.Designs.{Padded, NodesPadded};
+ghost use Rattle.struo_ir.specs.Reading.{readOf, NodesCounted, RegistersCounted, fromRegisters};
 ghost use Rattle.struo_ir.specs.Nodes.{nodesTo};
 
-// What reading a record answers: it is accepted, or it is refused with the refusal's number and place.
-pub enum Answer {
-    Accepted,
-    Refused(u8, u32),
-}
-
-// The answer, and the netlist of an accepted record; the netlist of a refused one is empty.
+// What reading a record finds, and the netlist of an accepted record; of a refused one the netlist says nothing.
 pub struct Reading {
-    pub answer: Answer,
+    pub fault: Fault,
     pub netlist: Netlist,
 }
 
 // A refusal, with the empty netlist.
 pub fn refusal(number: u8, place: u32) -> Reading
-    ensures { λ r. ⌜ (r .answer ≡ Answer.Refused number place) × Padded (r .netlist) ⌝ }
+    ensures { λ r. ⌜ (r .fault ≡ Fault.Refused number 0 place) × Padded (r .netlist) ⌝ }
 {
     let node = Node::NONE;
     let register = RegisterCell::NONE;
@@ -43,7 +40,7 @@ pub fn refusal(number: u8, place: u32) -> Reading
         registers,
     };
     Reading {
-        answer: Answer::Refused(number, place),
+        fault: Fault::Refused(number as u32, 0, place),
         netlist,
     }
 }
@@ -121,7 +118,7 @@ fn read_rest(bytes: &[u8], nodes: [Node; 1024], count: u16, at: u32) -> Reading
                 refusal(3, end)
             } else {
                 Reading {
-                    answer: Answer::Accepted,
+                    fault: Fault::Nothing,
                     netlist: Netlist {
                         node_count: count as usize,
                         register_count: register_count as usize,

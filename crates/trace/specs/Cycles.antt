@@ -11,6 +11,7 @@ use lib.Dec.{eqb}
 use borrow.Author.Tests.{eqb-true, eqb-false}
 use lib.ListN.{length, getD, take, drop, length-append, length-drop, length-map}
 use lib.Seq.{take-append-le, take-all, drop-append-le, drop-length}
+use Rattle.words.specs.Layout.{FRAMES, ROW, GOLD-OUTPUTS, GATE-OUTPUTS, MISMATCH}
 use Rattle.words.specs.Region.{region}
 use Rattle.model.specs.Lists.{snoc, position, nextPlace, concat}
 use Rattle.model.specs.Literal.{Literal}
@@ -19,7 +20,8 @@ use Rattle.model.specs.Equivalence.{FrameComparison, byte, firstMismatch, input
 use Rattle.lowering.specs.Firsts.{map-snoc}
 use Rattle.equivalence.specs.Frames.{wordsFrom, pairsFrom, comparisonAt, comparisonsOf}
 use Rattle.model.specs.Check.{overwrite}
-use Rattle.trace.specs.Trace.{modelOf, FirstMismatch, Traced}
+use Rattle.assignment.specs.State.{modelOf}
+use Rattle.trace.specs.Trace.{FirstMismatch, Traced}
 use Rattle.trace.specs.Writing.{Wrote, wrote-all}
 
 -- ---- the first mismatch
@@ -51,16 +53,16 @@ length-comparisons I O (suc n) fs = simp length-append (omega (arith, length-com
 
 -- The first n cycles have no mismatch.
 pub record Equal (values : List Bool) (n : ℕ) (fs : List ℕ) : Type 0 where
-  pub at : (c : ℕ) → c < n → evaluate values (getD fs (512 * c + 384) 0) ≡ false
+  pub at : (c : ℕ) → c < n → evaluate values (getD fs (ROW * c + MISMATCH) 0) ≡ false
 
 pub equal-none : (values : List Bool) (fs : List ℕ) → Equal values 0 fs
 equal-none values fs = record { at = λ c h. absurd (omega arith) }
 
 -- one cycle more
-pub equal-more : (values : List Bool) (n : ℕ) (fs : List ℕ) → evaluate values (getD fs (512 * n + 384) 0) ≡ false → Equal values n fs → Equal values (n + 1) fs
+pub equal-more : (values : List Bool) (n : ℕ) (fs : List ℕ) → evaluate values (getD fs (ROW * n + MISMATCH) 0) ≡ false → Equal values n fs → Equal values (n + 1) fs
 equal-more values n fs e k = record { at = λ c h. go c h (eqb c n) refl }
   where
-    go : (c : ℕ) → c < n + 1 → (t : Bool) → eqb c n ≡ t → evaluate values (getD fs (512 * c + 384) 0) ≡ false
+    go : (c : ℕ) → c < n + 1 → (t : Bool) → eqb c n ≡ t → evaluate values (getD fs (ROW * c + MISMATCH) 0) ≡ false
     go c h true q = rw (eqb-true c n q) e
     go c h false q = k .at c (omega (arith, eqb-false c n q))
 
@@ -76,13 +78,13 @@ module _ (values : List Bool) (I O : ℕ) (fs : List ℕ) where
       place-snoc differs (comparisonsOf I O n fs) (comparisonAt I O fs n)
       ∙ rw (equal-position n (record { at = λ c h. k .at c (omega arith) }), k .at n (omega arith))
 
-  first-position : (i n : ℕ) → i < n → Equal values i fs → evaluate values (getD fs (512 * i + 384) 0) ≡ true → position differs (comparisonsOf I O n fs) ≡ some i
+  first-position : (i n : ℕ) → i < n → Equal values i fs → evaluate values (getD fs (ROW * i + MISMATCH) 0) ≡ true → position differs (comparisonsOf I O n fs) ≡ some i
   unfolding comparisonsOf comparisonAt
   first-position i zero h k e = absurd (omega arith)
   first-position i (suc n) h k e = place-snoc differs (comparisonsOf I O n fs) (comparisonAt I O fs n) ∙ go (λ l. first-position i n l k e) (eqb i n) refl
     where
       go : (i < n → position differs (comparisonsOf I O n fs) ≡ some i) → (t : Bool) → eqb i n ≡ t
-          → orElse (position differs (comparisonsOf I O n fs)) (cond (evaluate values (getD fs (512 * n + 384) 0)) (some (length (comparisonsOf I O n fs))) none) ≡ some i
+          → orElse (position differs (comparisonsOf I O n fs)) (cond (evaluate values (getD fs (ROW * n + MISMATCH) 0)) (some (length (comparisonsOf I O n fs))) none) ≡ some i
       go f true q =
           let s : i ≡ n = eqb-true i n q in
           rw (equal-position n (rw s at k), rw s at e, length-comparisons I O n fs, s)
@@ -94,7 +96,7 @@ module _ (values : List Bool) (I O : ℕ) (fs : List ℕ) where
   no-mismatch n k = ap (λ (o : Option ℕ). elim o [ none ↦ 0 | some j ↦ j ]) (sym (equal-position n k))
 
   -- cycle i has the first
-  pub first-mismatch : (i n : ℕ) → i < n → Equal values i fs → evaluate values (getD fs (512 * i + 384) 0) ≡ true → i ≡ firstMismatch values (comparisonsOf I O n fs)
+  pub first-mismatch : (i n : ℕ) → i < n → Equal values i fs → evaluate values (getD fs (ROW * i + MISMATCH) 0) ≡ true → i ≡ firstMismatch values (comparisonsOf I O n fs)
   unfolding firstMismatch
   first-mismatch i n h k e = ap (λ (o : Option ℕ). elim o [ none ↦ 0 | some j ↦ j ]) (sym (first-position i n h k e))
 
@@ -111,7 +113,7 @@ marksOf values n at to fs = map (λ (p : Literal × Literal). byte (xorBool (eva
 -- the bytes of the inputs of the first n cycles
 unfoldable pub inputsOf : List Bool → ℕ → ℕ → List ℕ → List ℕ
 inputsOf values I zero fs = []
-inputsOf values I (suc n) fs = inputsOf values I n fs ++ bytesOf values I (512 * n) fs
+inputsOf values I (suc n) fs = inputsOf values I n fs ++ bytesOf values I (ROW * n) fs
 
 module _ (values : List Bool) (fs : List ℕ) where
   pub bytes-none : (at : ℕ) → bytesOf values 0 at fs ≡ []
@@ -152,14 +154,14 @@ module _ (values : List Bool) (fs : List ℕ) where
   inputs-none I = refl
 
   -- one cycle more
-  pub inputs-more : (I n : ℕ) → inputsOf values I (n + 1) fs ≡ inputsOf values I n fs ++ bytesOf values I (512 * n) fs
+  pub inputs-more : (I n : ℕ) → inputsOf values I (n + 1) fs ≡ inputsOf values I n fs ++ bytesOf values I (ROW * n) fs
   unfolding inputsOf
   inputs-more I n = rw add-one
 
   pub length-inputs : (I n : ℕ) → length (inputsOf values I n fs) ≡ n * I
   unfolding inputsOf
   length-inputs I zero = omega arith
-  length-inputs I (suc n) = simp length-append (omega (arith, length-inputs I n, length-bytes I (512 * n), suc-mul n I))
+  length-inputs I (suc n) = simp length-append (omega (arith, length-inputs I n, length-bytes I (ROW * n), suc-mul n I))
 
 -- ---- the trace
 
@@ -175,7 +177,7 @@ module _ (values : List Bool) (I O : ℕ) (fs : List ℕ) where
   inputs-are (suc n) =
       ap concat (map-snoc (inputBytes values) (comparisonsOf I O n fs) (comparisonAt I O fs n))
       ∙ concat-snoc (map (inputBytes values) (comparisonsOf I O n fs)) (inputBytes values (comparisonAt I O fs n))
-      ∙ ap (λ (xs : List ℕ). xs ++ bytesOf values I (512 * n) fs) (inputs-are n)
+      ∙ ap (λ (xs : List ℕ). xs ++ bytesOf values I (ROW * n) fs) (inputs-are n)
 
   -- the first n of the comparisons
   take-comparisons : (n k : ℕ) → n ≤ k → take n (comparisonsOf I O k fs) ≡ comparisonsOf I O n fs
@@ -196,15 +198,15 @@ module _ (values : List Bool) (I O : ℕ) (fs : List ℕ) where
   first-append (x ∷ xs) ys h = refl
 
   -- the marks of comparison m
-  marks-are : (m k : ℕ) → m < k → firstMarks values (drop m (comparisonsOf I O k fs)) ≡ marksOf values O (512 * m + 128) (512 * m + 256) fs
+  marks-are : (m k : ℕ) → m < k → firstMarks values (drop m (comparisonsOf I O k fs)) ≡ marksOf values O (ROW * m + GOLD-OUTPUTS) (ROW * m + GATE-OUTPUTS) fs
   unfolding comparisonsOf snoc firstMarks markBytes marksOf comparisonAt
   marks-are m zero h = absurd (omega arith)
   marks-are m (suc k) h =
       ap (λ (cs : List FrameComparison). firstMarks values cs) (drop-append-le m (comparisonsOf I O k fs) (comparisonAt I O fs k ∷ []) (omega (arith, length-comparisons I O k fs)))
       ∙ go (λ l. marks-are m k l) (eqb m k) refl
     where
-      go : (m < k → firstMarks values (drop m (comparisonsOf I O k fs)) ≡ marksOf values O (512 * m + 128) (512 * m + 256) fs) → (t : Bool) → eqb m k ≡ t
-          → firstMarks values (drop m (comparisonsOf I O k fs) ++ (comparisonAt I O fs k ∷ [])) ≡ marksOf values O (512 * m + 128) (512 * m + 256) fs
+      go : (m < k → firstMarks values (drop m (comparisonsOf I O k fs)) ≡ marksOf values O (ROW * m + GOLD-OUTPUTS) (ROW * m + GATE-OUTPUTS) fs) → (t : Bool) → eqb m k ≡ t
+          → firstMarks values (drop m (comparisonsOf I O k fs) ++ (comparisonAt I O fs k ∷ [])) ≡ marksOf values O (ROW * m + GOLD-OUTPUTS) (ROW * m + GATE-OUTPUTS) fs
       go f true q =
           let e : m ≡ length (comparisonsOf I O k fs) = eqb-true m k q ∙ sym (length-comparisons I O k fs) in
           let z : drop m (comparisonsOf I O k fs) ≡ [] = ap (λ (j : ℕ). drop j (comparisonsOf I O k fs)) e ∙ drop-length (comparisonsOf I O k fs) in
@@ -214,7 +216,7 @@ module _ (values : List Bool) (I O : ℕ) (fs : List ℕ) where
           first-append (drop m (comparisonsOf I O k fs)) (comparisonAt I O fs k ∷ []) (simp length-drop (omega (arith, length-comparisons I O k fs))) ∙ f l
 
   -- the bytes of the inputs of cycles 0 to m, then the marks of cycle m
-  pub trace-is : (m k : ℕ) → m < k → inputsOf values I (m + 1) fs ++ marksOf values O (512 * m + 128) (512 * m + 256) fs ≡ traceBytes values (comparisonsOf I O k fs) m
+  pub trace-is : (m k : ℕ) → m < k → inputsOf values I (m + 1) fs ++ marksOf values O (ROW * m + GOLD-OUTPUTS) (ROW * m + GATE-OUTPUTS) fs ≡ traceBytes values (comparisonsOf I O k fs) m
   unfolding traceBytes
   trace-is m k h =
       rw (add-one, take-comparisons (suc m) k (omega arith), inputs-are (suc m), marks-are m k h)
@@ -234,10 +236,10 @@ rows-room c n I h = rw (add-one c) (omega (arith, suc-mul c I, row-room c n I h)
 
 -- the whole trace
 pub traced : (n I O cycles : ℕ) (w trace : List ℕ) (m : ℕ) (trace′ : List ℕ) → 0 < cycles → FirstMismatch n cycles w m
-    → Wrote 0 (inputsOf (modelOf n w) I (m + 1) (region 524288 w) ++ marksOf (modelOf n w) O (512 * m + 128) (512 * m + 256) (region 524288 w)) trace trace′
+    → Wrote 0 (inputsOf (modelOf n w) I (m + 1) (region FRAMES w) ++ marksOf (modelOf n w) O (ROW * m + GOLD-OUTPUTS) (ROW * m + GATE-OUTPUTS) (region FRAMES w)) trace trace′
     → Traced n I O cycles w trace m trace′
 traced n I O cycles w trace m trace′ h f k =
     record {
       mismatch-is = f .is I O;
-      trace-is = wrote-all _ trace trace′ k ∙ ap (λ (bs : List ℕ). overwrite bs trace) (trace-is (modelOf n w) I O (region 524288 w) m cycles (f .below h));
+      trace-is = wrote-all _ trace trace′ k ∙ ap (λ (bs : List ℕ). overwrite bs trace) (trace-is (modelOf n w) I O (region FRAMES w) m cycles (f .below h));
     }

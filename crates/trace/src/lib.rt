@@ -4,34 +4,32 @@ ghost use mathlib.Core.Bool.{xor as xorBool};
 ghost use mathlib.Core.List.{_++_};
 ghost use Prim.Native.Nat.{_+_, _*_, _≤_, _<_};
 ghost use lib.ListN.{length, getD, set};
+ghost use Rattle.words.specs.Layout.{LENT, SMALL, FRAMES, ROW, GOLD-OUTPUTS, GATE-OUTPUTS};
 ghost use Rattle.words.specs.Region.{region};
 ghost use Rattle.model.specs.Aig.{evaluate};
 ghost use Rattle.model.specs.Equivalence.{byte};
-ghost use Rattle.trace.specs.Trace.{modelOf, FirstMismatch, Traceable, Traced};
+ghost use Rattle.assignment.specs.State.{modelOf};
+ghost use Rattle.trace.specs.Trace.{FirstMismatch, Traceable, Traced};
 ghost use Rattle.trace.specs.Writing.{Wrote};
 ghost use Rattle.trace.specs.Cycles.{bytesOf, marksOf, inputsOf};
-use assignment::trail::fetch_below;
+use aig::Aig;
+use aig::Literal;
 use words::FRAMES;
+use words::GATE_OUTPUTS;
+use words::GOLD_OUTPUTS;
+use words::MISMATCH;
+use words::ROW;
 use words::SMALL;
-use words::VALUES;
 use words::fetch;
 use words::wide;
 
-// The value of a literal of the first `nodes` nodes by the words of VALUES: an odd word is true.
-fn evaluate(words: &[u32], nodes: usize, literal: u32) -> bool
-    requires { ⌜ 8388608 ≤ length (now words) ⌝ }
-    ensures { λ r. ⌜ r ≡ evaluate (modelOf nodes (now (words .entry))) literal ⌝ }
-{
-    let word = fetch_below(words, VALUES, SMALL, nodes, wide(literal / 2));
-    word % 2 != literal % 2
-}
-
 // The value of the literal at a place of FRAMES.
 fn value_at(words: &[u32], nodes: usize, place: usize) -> bool
-    requires { ⌜ 8388608 ≤ length (now words) ⌝ }
-    ensures { λ r. ⌜ r ≡ evaluate (modelOf nodes (now (words .entry))) (getD (region 524288 (now (words .entry))) place 0) ⌝ }
+    requires { ⌜ LENT ≤ length (now words) ⌝ }
+    ensures { λ r. ⌜ r ≡ evaluate (modelOf nodes (now (words .entry))) (getD (region FRAMES (now (words .entry))) place 0) ⌝ }
 {
-    evaluate(words, nodes, fetch(words, FRAMES, SMALL, place))
+    let literal = Literal(fetch(words, FRAMES, SMALL, place));
+    Aig::evaluate(literal, words, nodes)
 }
 
 // A bit as a byte.
@@ -58,12 +56,12 @@ fn put(trace: &mut [u8], place: usize, value: u8)
 
 // The first cycle whose mismatch the values assert; 0 where there is none.
 fn first_mismatch(words: &[u32], nodes: usize, cycles: usize) -> usize
-    requires { ⌜ (8388608 ≤ length (now words)) × (cycles ≤ 65) ⌝ }
+    requires { ⌜ (LENT ≤ length (now words)) × (cycles ≤ 65) ⌝ }
     ensures { λ r. ⌜ FirstMismatch nodes cycles (now (words .entry)) r ⌝ }
 {
     let mut cycle: usize = 0;
     while cycle < cycles {
-        if value_at(words, nodes, 512 * cycle + 384) {
+        if value_at(words, nodes, ROW * cycle + MISMATCH) {
             return cycle;
         }
         cycle += 1;
@@ -73,8 +71,8 @@ fn first_mismatch(words: &[u32], nodes: usize, cycles: usize) -> usize
 
 // The values of `n` literals from a place of FRAMES on, written from a place of the trace on.
 fn write_values(words: &[u32], trace: &mut [u8], nodes: usize, row: usize, place: usize, n: usize)
-    requires { ⌜ (8388608 ≤ length (now words)) × (row + n ≤ 65536) × (place + n ≤ length (now trace)) ⌝ }
-    ensures { λ _. ⌜ Wrote place (bytesOf (modelOf nodes (now (words .entry))) n row (region 524288 (now (words .entry)))) (now (trace .entry)) (now (trace .exit)) ⌝ }
+    requires { ⌜ (LENT ≤ length (now words)) × (row + n ≤ SMALL) × (place + n ≤ length (now trace)) ⌝ }
+    ensures { λ _. ⌜ Wrote place (bytesOf (modelOf nodes (now (words .entry))) n row (region FRAMES (now (words .entry)))) (now (trace .entry)) (now (trace .exit)) ⌝ }
 {
     let mut i: usize = 0;
     while i < n {
@@ -85,8 +83,8 @@ fn write_values(words: &[u32], trace: &mut [u8], nodes: usize, row: usize, place
 
 // The inputs of the first `n` cycles, written from the trace's first byte on.
 fn write_inputs(words: &[u32], trace: &mut [u8], nodes: usize, input_count: usize, n: usize)
-    requires { ⌜ (8388608 ≤ length (now words)) × («input_count» ≤ 128) × (n ≤ 65) × (n * «input_count» ≤ length (now trace)) ⌝ }
-    ensures { λ _. ⌜ Wrote 0 (inputsOf (modelOf nodes (now (words .entry))) «input_count» n (region 524288 (now (words .entry)))) (now (trace .entry)) (now (trace .exit)) ⌝ }
+    requires { ⌜ (LENT ≤ length (now words)) × («input_count» ≤ 128) × (n ≤ 65) × (n * «input_count» ≤ length (now trace)) ⌝ }
+    ensures { λ _. ⌜ Wrote 0 (inputsOf (modelOf nodes (now (words .entry))) «input_count» n (region FRAMES (now (words .entry)))) (now (trace .entry)) (now (trace .exit)) ⌝ }
 {
     let mut cycle: usize = 0;
     while cycle < n {
@@ -94,7 +92,7 @@ fn write_inputs(words: &[u32], trace: &mut [u8], nodes: usize, input_count: usiz
             words,
             trace,
             nodes,
-            512 * cycle,
+            ROW * cycle,
             cycle * input_count,
             input_count,
         );
@@ -104,13 +102,13 @@ fn write_inputs(words: &[u32], trace: &mut [u8], nodes: usize, input_count: usiz
 
 // A mark for each of the first `n` outputs of the cycle whose row begins at `row`, written from a place of the trace on.
 fn write_marks(words: &[u32], trace: &mut [u8], nodes: usize, row: usize, place: usize, n: usize)
-    requires { ⌜ (8388608 ≤ length (now words)) × (row + 256 + n ≤ 65536) × (place + n ≤ length (now trace)) ⌝ }
-    ensures { λ _. ⌜ Wrote place (marksOf (modelOf nodes (now (words .entry))) n (row + 128) (row + 256) (region 524288 (now (words .entry)))) (now (trace .entry)) (now (trace .exit)) ⌝ }
+    requires { ⌜ (LENT ≤ length (now words)) × (row + GATE-OUTPUTS + n ≤ SMALL) × (place + n ≤ length (now trace)) ⌝ }
+    ensures { λ _. ⌜ Wrote place (marksOf (modelOf nodes (now (words .entry))) n (row + GOLD-OUTPUTS) (row + GATE-OUTPUTS) (region FRAMES (now (words .entry)))) (now (trace .entry)) (now (trace .exit)) ⌝ }
 {
     let mut i: usize = 0;
     while i < n {
-        let gold = value_at(words, nodes, row + 128 + i);
-        let gate = value_at(words, nodes, row + 256 + i);
+        let gold = value_at(words, nodes, row + GOLD_OUTPUTS + i);
+        let gate = value_at(words, nodes, row + GATE_OUTPUTS + i);
         put(trace, place + i, mark(gold, gate));
         i += 1;
     }
@@ -125,15 +123,15 @@ fn write_trace(
     output_count: usize,
     mismatch: usize,
 )
-    requires { ⌜ (8388608 ≤ length (now words)) × («input_count» ≤ 128) × («output_count» ≤ 128) × (mismatch ≤ 64) × ((mismatch + 1) * «input_count» + «output_count» ≤ length (now trace)) ⌝ }
-    ensures { λ _. ⌜ Wrote 0 (inputsOf (modelOf nodes (now (words .entry))) «input_count» (mismatch + 1) (region 524288 (now (words .entry))) ++ marksOf (modelOf nodes (now (words .entry))) «output_count» (512 * mismatch + 128) (512 * mismatch + 256) (region 524288 (now (words .entry)))) (now (trace .entry)) (now (trace .exit)) ⌝ }
+    requires { ⌜ (LENT ≤ length (now words)) × («input_count» ≤ 128) × («output_count» ≤ 128) × (mismatch ≤ 64) × ((mismatch + 1) * «input_count» + «output_count» ≤ length (now trace)) ⌝ }
+    ensures { λ _. ⌜ Wrote 0 (inputsOf (modelOf nodes (now (words .entry))) «input_count» (mismatch + 1) (region FRAMES (now (words .entry))) ++ marksOf (modelOf nodes (now (words .entry))) «output_count» (ROW * mismatch + GOLD-OUTPUTS) (ROW * mismatch + GATE-OUTPUTS) (region FRAMES (now (words .entry)))) (now (trace .entry)) (now (trace .exit)) ⌝ }
 {
     write_inputs(words, trace, nodes, input_count, mismatch + 1);
     write_marks(
         words,
         trace,
         nodes,
-        512 * mismatch,
+        ROW * mismatch,
         (mismatch + 1) * input_count,
         output_count,
     );

@@ -10,10 +10,10 @@ use lib.Seq.{getD-set-other, getD-set-same, take-suc}
 use borrow.Author.Tests.{eqb-true, eqb-false}
 use Rattle.model.specs.Names.{Place}
 use Rattle.model.specs.Lists.{snoc}
-use Rattle.name_order.specs.Places.{noEntry, placeOf, held, places}
-use Rattle.name_order.specs.Places as Orders
-use Rattle.name_order.specs.declared.order.Entry.{Entry}
-use Rattle.name_order.specs.declared.order.Order.{Order}
+use Rattle.struo_ir.specs.Orders.{noEntry, placeOf, held, places}
+use Rattle.struo_ir.specs.Orders as Orders
+use Rattle.struo_ir.specs.declared.design.Entry.{Entry}
+use Rattle.struo_ir.specs.declared.design.Order.{Order}
 use Rattle.lowering.specs.Firsts.{firsts, Below, map-snoc}
 
 -- the first n elements of xs are what f says of the first n entries

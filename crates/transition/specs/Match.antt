@@ -11,17 +11,17 @@ use lib.Seq.{drop-cons}
 use Rattle.model.specs.Lists.{position, nextPlace}
 use Rattle.model.specs.Names.{Name, Place, sameName}
 use Rattle.model.specs.Netlist.{registersByName}
-use Rattle.model.specs.Validate.{validate}
 use Rattle.model.specs.Transition.{StateBit, fromNetlist}
 use Rattle.laws.specs.Pairwise.{Pairwise, pairs-map}
 use Rattle.laws.specs.Lowering.Run.{states-named}
 use Rattle.struo_ir.specs.Decoded.{nameAt, decoded}
-use Rattle.name_order.specs.Places.{noEntry, entryName, placeOf, held, places}
-use Rattle.name_order.specs.Places as Orders
+use Rattle.struo_ir.specs.Orders.{noEntry, entryName, placeOf, held, places}
+use Rattle.struo_ir.specs.Orders as Orders
 use Rattle.name_order.specs.PlaceLaws.{length-held, held-at}
-use Rattle.struo_ir.specs.declared.netlist.Netlist.{Netlist}
-use Rattle.name_order.specs.declared.order.Entry.{Entry}
-use Rattle.name_order.specs.declared.order.Order.{Order}
+use Rattle.struo_ir.specs.Designs.{Sided}
+use Rattle.struo_ir.specs.declared.design.Design.{Design}
+use Rattle.struo_ir.specs.declared.design.Entry.{Entry}
+use Rattle.struo_ir.specs.declared.design.Order.{Order}
 use Rattle.lowering.specs.Firsts.{firsts}
 use Rattle.transition.specs.Gather.{Gathered, gathered-list, gathered-below}
 use Rattle.transition.specs.Namesakes.{matchOf, matchIn, namesakes}
@@ -108,25 +108,24 @@ unfolding firstFrom placeOf entryName
 first-entries x t [] k = refl
 first-entries x t (e ∷ es) k = rw (first-entries x t es (suc k))
 
-module _ (s : List ℕ) (a : Order) (t : List ℕ) (b : Order) (ms : List ℕ) (fa : Orders.Formed a) (fb : Orders.Formed b)
-    (g : Gathered (λ (e : Entry). matchAt s (e .name) t b) (a .entries) (a .count) ms) where
-  matches-are : (n m : Netlist) → validate (decoded s n) ≡ none → places s a ≡ registersByName (decoded s n) → validate (decoded t m) ≡ none → places t b ≡ registersByName (decoded t m)
-      → firsts (a .count) ms ≡ namesakes (fromNetlist (decoded s n) .states) (fromNetlist (decoded t m) .states)
+module _ (s : List ℕ) (a : Design) (t : List ℕ) (b : Design) (ms : List ℕ) (fa : Orders.Formed (a .registers)) (fb : Orders.Formed (b .registers))
+    (g : Gathered (λ (e : Entry). matchAt s (e .name) t (b .registers)) (a .registers .entries) (a .registers .count) ms) where
+  matches-are : Sided s a → Sided t b → firsts (a .registers .count) ms ≡ namesakes (fromNetlist (decoded s (a .netlist)) .states) (fromNetlist (decoded t (b .netlist)) .states)
   unfolding placeOf matchAt namesakes matchIn places
-  matches-are n m v p w q =
-      let F : Place → ℕ = λ x. firstFrom (named (x .name) t) 0 (held b) in
-      let ts = fromNetlist (decoded t m) .states in
-      let one : (x : Name) → matchOf (position (λ (y : StateBit). sameName x (y .name)) ts) ≡ firstFrom (named x t) 0 (held b) =
+  matches-are v w =
+      let F : Place → ℕ = λ x. firstFrom (named (x .name) t) 0 (held (b .registers)) in
+      let ts = fromNetlist (decoded t (b .netlist)) .states in
+      let one : (x : Name) → matchOf (position (λ (y : StateBit). sameName x (y .name)) ts) ≡ firstFrom (named x t) 0 (held (b .registers)) =
       λ x. sym (first-match (λ (y : StateBit). sameName x (y .name)) ts)
-      ∙ same-first (λ (y : StateBit). y .name) (λ (z : Place). z .name) x ts (registersByName (decoded t m)) 0 (states-named (decoded t m) w)
-      ∙ ap (firstFrom (λ (z : Place). sameName x (z .name)) 0) (sym q) ∙ first-entries x t (held b) 0 in
-      gathered-list F s a ms fa g ∙ ap (map F) p
+      ∙ same-first (λ (y : StateBit). y .name) (λ (z : Place). z .name) x ts (registersByName (decoded t (b .netlist))) 0 (states-named (decoded t (b .netlist)) (w .valid .valid))
+      ∙ ap (firstFrom (λ (z : Place). sameName x (z .name)) 0) (sym (w .ordered .registers-are)) ∙ first-entries x t (held (b .registers)) 0 in
+      gathered-list F s (a .registers) ms fa g ∙ ap (map F) (v .ordered .registers-are)
       ∙ sym
-      (pairs-map (λ (y : StateBit) (z : Place). y .name ≡ z .name) (matchIn ts) F (λ y z e. one (y .name) ∙ ap (λ (x : Name). firstFrom (named x t) 0 (held b)) e)
-      (fromNetlist (decoded s n) .states) (registersByName (decoded s n)) (states-named (decoded s n) v))
+      (pairs-map (λ (y : StateBit) (z : Place). y .name ≡ z .name) (matchIn ts) F (λ y z e. one (y .name) ∙ ap (λ (x : Name). firstFrom (named x t) 0 (held (b .registers))) e)
+      (fromNetlist (decoded s (a .netlist)) .states) (registersByName (decoded s (a .netlist))) (states-named (decoded s (a .netlist)) (v .valid .valid)))
 
   -- the matches of all entries
   pub matches-made : MatchesMade s a t b ms
   unfolding matchAt
   matches-made =
-      record { below = gathered-below _ _ (b .count + 1) (a .count) ms (λ e. omega (arith, first-below (named (nameAt s (e .name)) t) 0 (held b), length-held b fb)) g; is = matches-are }
+      record { below = gathered-below _ _ (b .registers .count + 1) (a .registers .count) ms (λ e. omega (arith, first-below (named (nameAt s (e .name)) t) 0 (held (b .registers)), length-held (b .registers) fb)) g; is = matches-are }

@@ -2,13 +2,14 @@
 use Prim.Native.Nat.{ℕ, _+_}
 use mathlib.Core.Path.{_≡_, ap₂, _∙_}
 use mathlib.Core.List.{List}
+use Rattle.words.specs.Layout.{SMALL}
 use Rattle.words.specs.Region.{region}
 use Rattle.model.specs.Transition.{TransitionSystem}
 use Rattle.aig.specs.Graph.{graphAt, nodesOf}
 use Rattle.transition.specs.Side.{Formed, Stands}
 use Rattle.transition.specs.declared.system.System.{System}
 
-module _ (y : System) (w w′ : List ℕ) (lhs : region (y .base) w′ ≡ region (y .base) w) (rhs : region (y .base + 65536) w′ ≡ region (y .base + 65536) w) where
+module _ (y : System) (w w′ : List ℕ) (lhs : region (y .base) w′ ≡ region (y .base) w) (rhs : region (y .base + SMALL) w′ ≡ region (y .base + SMALL) w) where
   -- its graph
   pub graph-kept : graphAt (y .base) (y .count) w′ ≡ graphAt (y .base) (y .count) w
   unfolding graphAt

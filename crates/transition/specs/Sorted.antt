@@ -1,11 +1,11 @@
 -- The ports and states of a lowered design in byte order of names: read by orders they are the transition system's. Assumes nothing.
 use mathlib.Core.Path.{_≡_, refl, ap, sym, _∙_}
-use mathlib.Core.Bool.{false}
 use mathlib.Core.List.{List, [], _∷_, _++_, map, append-assoc, append-nil}
 use Prim.Native.Nat.{ℕ, suc, _+_, _*_, _≤_, _<_}
 use native.Mathlib.Omega.{arith}
 use lib.ListN.{length, getD, take, length-append, length-take, length-map, List·getD-map}
 use lib.Seq.{getD-append-seam, getD-take}
+use Rattle.words.specs.Layout.{SMALL, NETS}
 use Rattle.words.specs.Region.{region}
 use Rattle.model.specs.Literal.{FALSE, node}
 use Rattle.model.specs.Lists.{snoc, lookup}
@@ -17,17 +17,19 @@ use Rattle.laws.specs.Lowering.Lists.{sort-pairs}
 use Rattle.laws.specs.Lowering.Shape.{PortAt}
 use Rattle.laws.specs.Lowering.Run.{outputs-at, inputs-named}
 use Rattle.struo_ir.specs.Decoded.{decoded}
-use Rattle.name_order.specs.Places.{placeOf, places}
-use Rattle.name_order.specs.Places as Orders
+use Rattle.struo_ir.specs.Orders.{placeOf, places}
+use Rattle.struo_ir.specs.Orders as Orders
 use Rattle.struo_ir.specs.declared.netlist.Netlist.{Netlist}
-use Rattle.name_order.specs.declared.order.Order.{Order}
+use Rattle.struo_ir.specs.declared.design.Order.{Order}
+use Rattle.struo_ir.specs.declared.design.Design.{Design}
+use Rattle.struo_ir.specs.Designs.{Sided}
 use Rattle.aig.specs.Graph.{graphAt}
 use Rattle.lowering.specs.Firsts.{firsts, Mapped, firsts-map}
 use Rattle.transition.specs.Side.{Formed, Stands}
 use Rattle.lowering.specs.System.{Lowered, walkOf, registersLowered}
 use Rattle.transition.specs.Gather.{Gathered, byNumber, gathered-list, gathered-below, map-map}
 use Rattle.transition.specs.Variables.{variables-listed, words-variable, in-either}
-use Rattle.transition.specs.Named.{Ordered, Lowerable, SystemMade}
+use Rattle.transition.specs.Named.{Lowerable, SystemMade}
 use Rattle.transition.specs.declared.system.System.{System}
 
 -- ---- states beside their registers' places
@@ -45,7 +47,7 @@ lowered-named w g k (r ∷ rs) ps h =
 
 -- a state past the last
 abbrev noState : StateBit
-noState = record { name = []; next = 0; initial = false; variable = 0 }
+noState = record { name = []; next = 0; variable = 0 }
 
 -- a state has its place's name and number among all
 record StateAt (whole : List StateBit) (b : StateBit) (p : Place) : Type 0 where
@@ -95,39 +97,39 @@ module _ (s : List ℕ) (n : Netlist) where
 
 -- ---- the side
 
-module _ (n : Netlist) (ins outs regs : Order) (base used : ℕ) (w₀ w : List ℕ) (count : ℕ) (next variable literals : List ℕ) (y : System)
-    (ask : Lowerable n ins outs regs base used w₀) (low : Lowered n base w₀ count next variable w)
-    (base-is : y .base ≡ base) (count-is : y .count ≡ count) (input-count : y .«input_count» ≡ ins .count) (output-count : y .«output_count» ≡ outs .count) (state-count : y .«state_count» ≡ regs .count)
-    (read-inputs : Gathered (byNumber (netLiteral (region 589824 w))) (ins .entries) (ins .count) literals) (nodes : Mapped node (ins .count) literals (y .inputs))
-    (read-outputs : Gathered (byNumber (netLiteral (region 589824 w))) (outs .entries) (outs .count) (y .outputs))
-    (read-next : Gathered (byNumber (netLiteral next)) (regs .entries) (regs .count) (y .next)) (read-variables : Gathered (byNumber (netLiteral variable)) (regs .entries) (regs .count) (y .variables)) where
-  module _ (s : List ℕ) (o : Ordered s n ins outs regs) where
+module _ (d : Design) (base : ℕ) (w₀ w : List ℕ) (count : ℕ) (next variable literals : List ℕ) (y : System)
+    (ask : Lowerable d base w₀) (low : Lowered (d .netlist) base w₀ count next variable w)
+    (base-is : y .base ≡ base) (count-is : y .count ≡ count) (input-count : y .«input_count» ≡ d .inputs .count) (output-count : y .«output_count» ≡ d .outputs .count) (state-count : y .«state_count» ≡ d .registers .count)
+    (read-inputs : Gathered (byNumber (netLiteral (region NETS w))) (d .inputs .entries) (d .inputs .count) literals) (nodes : Mapped node (d .inputs .count) literals (y .inputs))
+    (read-outputs : Gathered (byNumber (netLiteral (region NETS w))) (d .outputs .entries) (d .outputs .count) (y .outputs))
+    (read-next : Gathered (byNumber (netLiteral next)) (d .registers .entries) (d .registers .count) (y .next)) (read-variables : Gathered (byNumber (netLiteral variable)) (d .registers .entries) (d .registers .count) (y .variables)) where
+  module _ (s : List ℕ) (o : Sided s d) where
     -- the literals of ports beside their places
     ports-are : (order : Order) (ps : List Port) (qs : List Place) (xs : List ℕ) → Orders.Formed order → places s order ≡ qs
-        → Gathered (byNumber (netLiteral (region 589824 w))) (order .entries) (order .count) xs → Pairwise (PortAt (decoded s n .registers) (walkOf s n .nets)) ps qs
+        → Gathered (byNumber (netLiteral (region NETS w))) (order .entries) (order .count) xs → Pairwise (PortAt (decoded s (d .netlist) .registers) (walkOf s (d .netlist) .nets)) ps qs
         → firsts (order .count) xs ≡ map (λ (p : Port). p .literal) ps
     unfolding placeOf
     ports-are order ps qs xs f e g h =
-        let F : Place → ℕ = λ p. netLiteral (region 589824 w) (p .number) in
+        let F : Place → ℕ = λ p. netLiteral (region NETS w) (p .number) in
         gathered-list F s order xs f g ∙ ap (map F) e
-        ∙ sym (pairs-map (PortAt (decoded s n .registers) (walkOf s n .nets)) (λ (p : Port). p .literal) F (λ p q r. r .literal ∙ sym (low .nets s .at (q .number))) ps qs h)
+        ∙ sym (pairs-map (PortAt (decoded s (d .netlist) .registers) (walkOf s (d .netlist) .nets)) (λ (p : Port). p .literal) F (λ p q r. r .literal ∙ sym (low .nets s .at (q .number))) ps qs h)
 
-    states-are : (f : StateBit → ℕ) (xs ys : List ℕ) → f noState ≡ 0 → take (n .«register_count») xs ≡ map f (registersLowered s n .states)
-        → Gathered (byNumber (netLiteral xs)) (regs .entries) (regs .count) ys → firsts (regs .count) ys ≡ map f (fromNetlist (decoded s n) .states)
+    states-are : (f : StateBit → ℕ) (xs ys : List ℕ) → f noState ≡ 0 → take (d .netlist .«register_count») xs ≡ map f (registersLowered s (d .netlist) .states)
+        → Gathered (byNumber (netLiteral xs)) (d .registers .entries) (d .registers .count) ys → firsts (d .registers .count) ys ≡ map f (fromNetlist (decoded s (d .netlist)) .states)
     unfolding placeOf
     states-are f xs ys z e g =
         let F : Place → ℕ = λ p. netLiteral xs (p .number) in
-        gathered-list F s regs ys (ask .formed-registers) g ∙ ap (map F) (o .registers-are) ∙ sym (states-read s n f xs z e)
+        gathered-list F s (d .registers) ys (ask .formed-registers) g ∙ ap (map F) (o .ordered .registers-are) ∙ sym (states-read s (d .netlist) f xs z e)
 
-    stands : Stands y w (fromNetlist (decoded s n))
+    stands : Stands y w (fromNetlist (decoded s (d .netlist)))
     stands =
         record {
           aig = rw (base-is, count-is) (low .graph s);
           inputs = rw input-count
-              (firsts-map node (ins .count) literals (y .inputs) nodes
-              ∙ ap (map node) (ports-are ins (fromNetlist (decoded s n) .inputs) _ literals (ask .formed-inputs) (o .inputs-are) read-inputs (inputs-named (decoded s n) (o .valid)))
-              ∙ map-map node (λ (p : Port). p .literal) (fromNetlist (decoded s n) .inputs));
-          outputs = rw output-count (ports-are outs (fromNetlist (decoded s n) .outputs) _ (y .outputs) (ask .formed-outputs) (o .outputs-are) read-outputs (outputs-at (decoded s n) (o .valid)));
+              (firsts-map node (d .inputs .count) literals (y .inputs) nodes
+              ∙ ap (map node) (ports-are (d .inputs) (fromNetlist (decoded s (d .netlist)) .inputs) _ literals (ask .formed-inputs) (o .ordered .inputs-are) read-inputs (inputs-named (decoded s (d .netlist)) (o .valid .valid)))
+              ∙ map-map node (λ (p : Port). p .literal) (fromNetlist (decoded s (d .netlist)) .inputs));
+          outputs = rw output-count (ports-are (d .outputs) (fromNetlist (decoded s (d .netlist)) .outputs) _ (y .outputs) (ask .formed-outputs) (o .ordered .outputs-are) read-outputs (outputs-at (decoded s (d .netlist)) (o .valid .valid)));
           next = rw state-count (states-are (λ (b : StateBit). b .next) next (y .next) refl (low .next-are s) read-next);
           variables = rw state-count (states-are (λ (b : StateBit). b .variable) variable (y .variables) refl (low .variables-are s) read-variables);
         }
@@ -144,15 +146,15 @@ module _ (n : Netlist) (ins outs regs : Order) (base used : ℕ) (w₀ w : List 
           input-count = omega (arith, input-count, ask .formed-inputs .fits);
           output-count = omega (arith, output-count, ask .formed-outputs .fits);
           state-count = omega (arith, state-count, ask .formed-registers .fits);
-          outputs = rw (count-is, output-count) (gathered-below _ _ (count * 2) (outs .count) (y .outputs) (λ e. low .nets-below (e .number)) read-outputs);
-          next = rw (count-is, state-count) (gathered-below _ _ (count * 2) (regs .count) (y .next) (λ e. low .next-below (e .number)) read-next);
+          outputs = rw (count-is, output-count) (gathered-below _ _ (count * 2) (d .outputs .count) (y .outputs) (λ e. low .nets-below (e .number)) read-outputs);
+          next = rw (count-is, state-count) (gathered-below _ _ (count * 2) (d .registers .count) (y .next) (λ e. low .next-below (e .number)) read-next);
           covered = λ j p h e. rw (stands .inputs, stands .variables)
-              (in-either j (map (λ (p : Port). node (p .literal)) (fromNetlist (decoded s n) .inputs)) (map (λ (b : StateBit). b .variable) (fromNetlist (decoded s n) .states)) (variables-listed (decoded s n) (o .valid) j
-              (rw (← (low .graph s)) (words-variable count (region base w) (region (base + 65536) w) j p (rw count-is at h) (rw base-is at e)))));
+              (in-either j (map (λ (p : Port). node (p .literal)) (fromNetlist (decoded s (d .netlist)) .inputs)) (map (λ (b : StateBit). b .variable) (fromNetlist (decoded s (d .netlist)) .states)) (variables-listed (decoded s (d .netlist)) (o .valid .valid) j
+              (rw (← (low .graph s)) (words-variable count (region base w) (region (base + SMALL) w) j p (rw count-is at h) (rw base-is at e)))));
         }
 
   -- the side is the transition system of the netlist
-  pub system-made : SystemMade n ins outs regs base w₀ y w
+  pub system-made : SystemMade d base w₀ y w
   system-made =
       record {
         base-is = base-is;

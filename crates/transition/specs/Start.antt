@@ -1,83 +1,46 @@
--- The literals that the states start with: of each register's initial bit, in record order and in byte order of names. Assumes nothing.
-use mathlib.Core.Path.{_≡_, refl, ap, sym, _∙_, subst}
-use mathlib.Core.Bool.{false}
-use mathlib.Core.List.{List, [], _∷_, map}
-use mathlib.Core.Option.{none}
-use Prim.Native.Nat.{ℕ, _+_, _<_}
+-- The literals that the states start with: those of a row of stored bits, read in byte order of the registers' names. Assumes nothing.
+use mathlib.Core.Path.{_≡_, ap, sym, _∙_}
+use mathlib.Core.Bool.{Bool, false}
+use mathlib.Core.List.{List, map}
+use Prim.Native.Nat.{ℕ, _≤_}
 use native.Mathlib.Omega.{arith}
-use native.Mathlib.Numerals.{add-one}
-use lib.ListN.{length, getD, set, take, length-take, length-map, List·getD-map}
-use lib.Seq.{take-suc}
-use Rattle.model.specs.Literal.{FALSE, constantLiteral}
-use Rattle.model.specs.Lists.{snoc}
+use lib.ListN.{length, getD, List·getD-eq-default}
+use Rattle.model.specs.Literal.{constantLiteral}
 use Rattle.model.specs.Names.{Place}
-use Rattle.model.specs.Netlist.{Register, registersByName}
-use Rattle.model.specs.Record.{bit}
-use Rattle.model.specs.Run.{bitAt, initialBit, initialBits}
-use Rattle.model.specs.Validate.{validate}
-use Rattle.model.specs.Transition.{netLiteral, fromNetlist}
-use Rattle.model.specs.Check.{systemInitialBits}
-use Rattle.laws.specs.Lowering.Run.{byName, initial-right}
-use Rattle.struo_ir.specs.Decoded.{decoded, decodedRegister, decodedReset}
-use Rattle.name_order.specs.Places.{placeOf, places}
-use Rattle.name_order.specs.Places as Orders
-use Rattle.struo_ir.specs.declared.netlist.Netlist.{Netlist}
-use Rattle.struo_ir.specs.declared.netlist.RegisterCell.{RegisterCell}
-use Rattle.name_order.specs.declared.order.Order.{Order}
-use Rattle.lowering.specs.Firsts.{firsts, map-snoc}
-use Rattle.lowering.specs.Gate.{Alike, constant-below}
-use Rattle.lowering.specs.Walk.{alike-more}
-use Rattle.lowering.specs.Step.{by-code}
-use Rattle.transition.specs.Gather.{Gathered, byNumber, gathered-list, gathered-below, map-map}
+use Rattle.model.specs.Netlist.{registersByName}
+use Rattle.model.specs.Run.{bitAt, byName}
+use Rattle.struo_ir.specs.Decoded.{decoded}
+use Rattle.struo_ir.specs.Designs.{Sided}
+use Rattle.struo_ir.specs.Orders.{placeOf}
+use Rattle.struo_ir.specs.Orders as Orders
+use Rattle.struo_ir.specs.declared.design.Design.{Design}
+use Rattle.struo_ir.specs.declared.design.Entry.{Entry}
+use Rattle.lowering.specs.Firsts.{firsts}
+use Rattle.lowering.specs.Gate.{constant-below}
+use Rattle.transition.specs.Gather.{Gathered, gathered-list, gathered-below, map-map}
 use Rattle.transition.specs.Named.{Starts}
 
--- the literal of a register's initial bit, by its fields
-unfoldable pub startOf : RegisterCell → ℕ
-startOf r = constantLiteral (initialBit (decodedReset (r .reset) (r .«reset_signal») (r .«reset_kind») (r .«reset_value»)))
+-- the literal of an entry's bit
+abbrev pub startOf : List Bool → Entry → ℕ
+startOf row e = constantLiteral (bitAt row (e .number))
 
--- no reset: 0
-pub start-plain : (r : RegisterCell) → r .reset ≡ 0 → FALSE ≡ startOf r
-unfolding startOf decodedReset initialBit constantLiteral
-start-plain r e = rw e
+-- the bit at the number, by whatever name the number has
+pub start-bit : (row : List Bool) (k number : ℕ) (b : Bool) → k ≡ number → getD row k false ≡ b → constantLiteral b ≡ constantLiteral (bitAt row number)
+unfolding bitAt
+start-bit row k number b e h = ap constantLiteral (sym h ∙ ap (λ (i : ℕ). getD row i false) e)
 
--- the reset value
-pub start-reset : (r : RegisterCell) → 0 < r .reset → constantLiteral (bit (r .«reset_value»)) ≡ startOf r
-unfolding startOf decodedReset initialBit
-start-reset r h = by-code (λ (c : ℕ). constantLiteral (bit (r .«reset_value»)) ≡ constantLiteral (initialBit (decodedReset c (r .«reset_signal») (r .«reset_kind») (r .«reset_value»)))) (r .reset) h (λ k. refl)
+-- no bit past the row
+pub start-past : (row : List Bool) (k number : ℕ) → k ≡ number → length row ≤ k → constantLiteral false ≡ constantLiteral (bitAt row number)
+start-past row k number e h = start-bit row k number false e (List·getD-eq-default row false h)
 
--- the first i literals are those of the first i registers, the others 0
-abbrev pub Starting : List RegisterCell → ℕ → List ℕ → Type 0
-Starting rs i xs = Alike xs (map startOf (take i rs))
-
--- one register more
-pub starting-more : (rs : List RegisterCell) (i : ℕ) (xs : List ℕ) (d : RegisterCell) (v : ℕ) → i < length rs → i < length xs → v ≡ startOf (getD rs i d) → Starting rs i xs
-    → Starting rs (i + 1) (set xs i v)
-unfolding snoc
-starting-more rs i xs d v h l e a =
-    let q : snoc (map startOf (take i rs)) v ≡ map startOf (take (i + 1) rs) =
-    ap (snoc (map startOf (take i rs))) e ∙ sym (map-snoc startOf (take i rs) (getD rs i d)) ∙ rw add-one (ap (map startOf) (sym (take-suc rs i d h))) in
-    subst (λ (ys : List ℕ). Alike (set xs i v) ys) q (alike-more xs (map startOf (take i rs)) i v a (rw length-map (simp length-take (omega arith))) l)
-
-starts-decoded : (s : List ℕ) (rs : List RegisterCell) → map startOf rs ≡ map constantLiteral (map (λ (r : Register). initialBit (r .reset)) (map (decodedRegister s) rs))
-unfolding startOf decodedRegister
-starts-decoded s [] = refl
-starts-decoded s (r ∷ rs) = ap (λ (xs : List ℕ). startOf r ∷ xs) (starts-decoded s rs)
-
-module _ (n : Netlist) (regs : Order) (xs ys : List ℕ) (made : Starting (n .registers) (n .«register_count») xs) (read : Gathered (byNumber (netLiteral xs)) (regs .entries) (regs .count) ys) (f : Orders.Formed regs) where
-  bit-at : (s : List ℕ) (k : ℕ) → netLiteral xs k ≡ constantLiteral (bitAt (initialBits (decoded s n)) k)
-  unfolding decoded initialBits bitAt netLiteral constantLiteral
-  bit-at s k =
-      made .at k ∙ ap (λ (zs : List ℕ). getD zs k 0) (starts-decoded s (take (n .«register_count») (n .registers)))
-      ∙ List·getD-map constantLiteral (initialBits (decoded s n)) k false
-
-  starts-are : (s : List ℕ) → validate (decoded s n) ≡ none → places s regs ≡ registersByName (decoded s n)
-      → firsts (regs .count) ys ≡ map constantLiteral (systemInitialBits (fromNetlist (decoded s n)))
+module _ (d : Design) (row : List Bool) (xs : List ℕ) (f : Orders.Formed (d .registers)) (read : Gathered (startOf row) (d .registers .entries) (d .registers .count) xs) where
+  starts-are : (s : List ℕ) → Sided s d → firsts (d .registers .count) xs ≡ map constantLiteral (byName (decoded s (d .netlist)) row)
   unfolding placeOf byName
-  starts-are s v p =
-      let F : Place → ℕ = λ q. constantLiteral (bitAt (initialBits (decoded s n)) (q .number)) in
-      gathered-list F s regs ys f (record { at = λ i h. read .at i h ∙ bit-at s _ }) ∙ ap (map F) p
-      ∙ sym (map-map constantLiteral (λ (q : Place). bitAt (initialBits (decoded s n)) (q .number)) (registersByName (decoded s n))) ∙ ap (map constantLiteral) (sym (initial-right (decoded s n) v))
+  starts-are s v =
+      let F : Place → ℕ = λ q. constantLiteral (bitAt row (q .number)) in
+      gathered-list F s (d .registers) xs f read ∙ ap (map F) (v .ordered .registers-are)
+      ∙ sym (map-map constantLiteral (λ (q : Place). bitAt row (q .number)) (registersByName (decoded s (d .netlist))))
 
-  -- the literals read by the registers' order
-  pub starts-made : Starts n regs ys
-  starts-made = record { below = gathered-below _ _ 2 (regs .count) ys (λ e. rw (bit-at [] (e .number)) (constant-below _ 1 (omega arith))) read; is = starts-are }
+  -- the literals of all entries
+  pub starts-made : Starts d row xs
+  starts-made = record { below = gathered-below _ _ 2 (d .registers .count) xs (λ e. constant-below _ 1 (omega arith)) read; is = starts-are }

@@ -2,16 +2,17 @@
 ghost use mathlib.Core.Path.{_≡_};
 ghost use Prim.Native.Nat.{_≤_};
 ghost use lib.ListN.{length};
+ghost use Rattle.words.specs.Layout.{LENT, NETS};
 ghost use Rattle.words.specs.Region.{region};
 ghost use Rattle.model.specs.Literal.{node};
 ghost use Rattle.model.specs.Transition.{netLiteral};
 ghost use Rattle.lowering.specs.Firsts.{Mapped};
-ghost use Rattle.name_order.specs.Places.{Formed};
+ghost use Rattle.struo_ir.specs.Orders.{Formed};
 ghost use Rattle.transition.specs.Gather.{Gathered, byNumber};
 use aig::Literal;
 use lowering::nets::index;
 use lowering::nets::net_literal;
-use name_order::order::Order;
+use struo_ir::design::Order;
 
 // The value at a number; 0 past the end.
 fn value_at(values: [u32; 128], number: u16) -> u32
@@ -23,8 +24,8 @@ fn value_at(values: [u32; 128], number: u16) -> u32
 
 // The literals of the nets at the numbers of an order's entries.
 pub fn port_literals(words: &[u32], order: Order) -> [u32; 128]
-    requires { ⌜ (8388608 ≤ length (now words)) × Formed order ⌝ }
-    ensures { λ r. ⌜ Gathered (byNumber (netLiteral (region 589824 (now (words .entry))))) (order .entries) (order .count) r ⌝ }
+    requires { ⌜ (LENT ≤ length (now words)) × Formed order ⌝ }
+    ensures { λ r. ⌜ Gathered (byNumber (netLiteral (region NETS (now (words .entry))))) (order .entries) (order .count) r ⌝ }
 {
     let count = order.count;
     let mut literals = [0u32; 128];

@@ -5,24 +5,19 @@ use crate::gather::nodes_of;
 use crate::gather::port_literals;
 use crate::system::System;
 use lowering::lowering::from_netlist;
-use name_order::order::Order;
-use struo_ir::netlist::Netlist;
+use struo_ir::design::Design;
 use words::wide;
 
-// The transition system of a design with its ports and states in byte order of names, by the orders of its inputs, outputs and registers. Its graph is left at `base`; `used` is the number of nodes of the last graph built before it.
-pub fn system(
-    words: &mut [u32],
-    netlist: Netlist,
-    inputs: Order,
-    outputs: Order,
-    registers: Order,
-    base: usize,
-    used: u32,
-) -> System
-    requires { ⌜ Lowerable netlist inputs outputs registers base used (now words) ⌝ }
-    ensures { λ r. ⌜ SystemMade netlist inputs outputs registers base (now (words .entry)) r (now (words .exit)) ⌝ }
+// The transition system of a design with its ports and states in byte order of names. Its graph is left at `base`.
+pub fn system(words: &mut [u32], design: Design, base: usize) -> System
+    requires { ⌜ Lowerable design base (now words) ⌝ }
+    ensures { λ r. ⌜ SystemMade design base (now (words .entry)) r (now (words .exit)) ⌝ }
 {
-    let lowered = from_netlist(words, netlist, base, used);
+    let netlist = design.netlist;
+    let inputs = design.inputs;
+    let outputs = design.outputs;
+    let registers = design.registers;
+    let lowered = from_netlist(words, netlist, base);
     let literals = port_literals(words, inputs);
     let input_nodes = nodes_of(literals, inputs.count);
     let output_literals = port_literals(words, outputs);

@@ -1,49 +1,41 @@
 // The literals that the states of a design start with.
 ghost use mathlib.Core.Path.{_≡_};
-ghost use Prim.Native.Nat.{_≤_};
-ghost use Rattle.name_order.specs.Places.{Formed};
-ghost use Rattle.transition.specs.Start.{startOf, Starting};
+ghost use Rattle.model.specs.Literal.{constantLiteral};
+ghost use Rattle.model.specs.Run.{bitAt};
+ghost use Rattle.struo_ir.specs.Orders.{Formed};
 ghost use Rattle.transition.specs.Named.{Starts};
-use crate::gather::gather;
 use aig::Literal;
-use lowering::nets::constant_literal;
-use lowering::nets::widen;
-use name_order::order::Order;
-use struo_ir::netlist::Netlist;
-use struo_ir::netlist::RegisterCell;
+use lowering::nets::index;
+use struo_ir::design::Design;
 
-// The literal of a register's initial bit: its reset value, 0 without a reset.
-fn start_literal(register: RegisterCell) -> Literal
-    ensures { λ r. ⌜ r .0 ≡ startOf register ⌝ }
+// The literal of the bit of a register's number; FALSE past the row.
+fn start_literal(row: [bool; 128], number: u16) -> Literal
+    ensures { λ r. ⌜ r .0 ≡ constantLiteral (bitAt row number) ⌝ }
 {
-    let code = register.reset;
-    if code == 0 {
-        return Literal::FALSE;
+    let k = index(number);
+    if k < 128 {
+        let bit = row[k];
+        if bit {
+            return Literal::TRUE;
+        }
     }
-    constant_literal(widen(register.reset_value))
+    Literal::FALSE
 }
 
-// The same of each register in record order.
-fn starts_by_number(registers: [RegisterCell; 128], count: usize) -> [u32; 128]
-    requires { ⌜ count ≤ 128 ⌝ }
-    ensures { λ r. ⌜ Starting registers count r ⌝ }
+// The literals of a row of stored bits, by register number, in byte order of the registers' names.
+pub fn start_literals(design: Design, row: [bool; 128]) -> [u32; 128]
+    requires { ⌜ Formed (design .registers) ⌝ }
+    ensures { λ r. ⌜ Starts design row r ⌝ }
 {
+    let registers = design.registers;
+    let count = registers.count;
     let mut starts = [0u32; 128];
     let mut i: usize = 0;
     while i < count {
-        let literal = start_literal(registers[i]);
+        let entry = registers.entries[i];
+        let literal = start_literal(row, entry.number);
         starts[i] = literal.0;
         i += 1;
     }
     starts
-}
-
-// The same in byte order of the registers' names.
-pub fn start_literals(netlist: Netlist, registers: Order) -> [u32; 128]
-    requires { ⌜ (netlist .«register_count» ≤ 128) × Formed registers ⌝ }
-    ensures { λ r. ⌜ Starts netlist registers r ⌝ }
-{
-    let cells = netlist.registers;
-    let starts = starts_by_number(cells, netlist.register_count);
-    gather(registers, starts)
 }

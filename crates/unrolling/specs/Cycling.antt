@@ -4,6 +4,7 @@ use mathlib.Core.List.{List, []}
 use Prim.Native.Nat.{ℕ, _+_, _*_, _≤_, _<_}
 use native.Mathlib.Omega.{arith}
 use lib.ListN.{length, length-map}
+use Rattle.words.specs.Layout.{MOST-NODES}
 use Rattle.model.specs.Literal.{node}
 use Rattle.model.specs.Aig.{Aig, Built}
 use Rattle.model.specs.Transition.{Port}
@@ -57,7 +58,7 @@ cost-same x y w w′ p s = cost-kept x y w w′ p (untouched-beyond s)
 pub record Startable (r : ℕ) (x y : System) (c : ℕ) (w gs ts : List ℕ) : Type 0 where
   pub paired : Paired x y w
   pub ready : Ready c w
-  pub room : c + r ≤ 65536
+  pub room : c + r ≤ MOST-NODES
   pub gold-state : Below (c * 2) (x .«state_count») gs
   pub gate-state : Below (c * 2) (y .«state_count») ts
 

@@ -4,6 +4,7 @@ use mathlib.Core.List.{List, _++_, map, map-append}
 use Prim.Native.Nat.{ℕ, _+_, _*_, _≤_, _<_}
 use native.Mathlib.Omega.{arith}
 use lib.ListN.{getD, take}
+use Rattle.words.specs.Layout.{SMALL, MOST-NODES, IMPORTED}
 use Rattle.words.specs.Region.{region}
 use Rattle.model.specs.Literal.{FALSE}
 use Rattle.model.specs.Lists.{lookup}
@@ -23,7 +24,7 @@ use Rattle.transition.specs.declared.system.System.{System}
 pub record Framable (y : System) (c : ℕ) (w ins sts : List ℕ) : Type 0 where
   pub formed : Formed y w
   pub ready : Ready c w
-  pub room : c + conjunctionsOf y w ≤ 65536
+  pub room : c + conjunctionsOf y w ≤ MOST-NODES
   pub inputs : Below (c * 2) (y .«input_count») ins
   pub states : Below (c * 2) (y .«state_count») sts
 
@@ -53,10 +54,10 @@ module _ (y : System) (c : ℕ) (w ins sts : List ℕ) (f : Framable y c w ins s
   same-given = given-same (framePairs y ins sts) w
 
   -- at each variable stands what the model looks up
-  looked-up : (j : ℕ) → 0 < j → j < y .count → getD (region (y .base + 65536) w) j 0 ≡ 0
-      → lookup FALSE (framePairs y ins sts) j ≡ getD (region 458752 (given (framePairs y ins sts) w)) j 0
+  looked-up : (j : ℕ) → 0 < j → j < y .count → getD (region (y .base + SMALL) w) j 0 ≡ 0
+      → lookup FALSE (framePairs y ins sts) j ≡ getD (region IMPORTED (given (framePairs y ins sts) w)) j 0
   looked-up j h k e =
-      lookup-covered 0 (getD (region 458752 w) j 0) (framePairs y ins sts) j (rw keys (f .formed .covered j h k e))
+      lookup-covered 0 (getD (region IMPORTED w) j 0) (framePairs y ins sts) j (rw keys (f .formed .covered j h k e))
       ∙ sym (given-at (framePairs y ins sts) w j (f .ready .long) (omega (arith, f .formed .small)))
 
   -- what the import asks
@@ -81,9 +82,9 @@ module _ (y : System) (c : ℕ) (w ins sts : List ℕ) (f : Framable y c w ins s
   variables-are s t = simp pairs-zip (rw (t .inputs, t .variables))
 
   module _ (c′ : ℕ) (w′ outs nxt : List ℕ) (im : Importing (y .base) (y .count) c (given (framePairs y ins sts) w) (y .count) c′ w′)
-      (mo : Mapped (remapLiteral (region 458752 w′)) (y .«output_count») (y .outputs) outs) (mn : Mapped (remapLiteral (region 458752 w′)) (y .«state_count») (y .next) nxt) where
+      (mo : Mapped (remapLiteral (region IMPORTED w′)) (y .«output_count») (y .outputs) outs) (mn : Mapped (remapLiteral (region IMPORTED w′)) (y .«state_count») (y .next) nxt) where
     imported : (s : TransitionSystem) → Stands y w s
-        → record { aig = graphOf c′ w′; imported = take (y .count) (region 458752 w′) }
+        → record { aig = graphOf c′ w′; imported = take (y .count) (region IMPORTED w′) }
         ≡ importAig (frameVariables s (firsts (y .«input_count») ins) (firsts (y .«state_count») sts)) (s .aig) (graphOf c w)
     imported s t =
         let q = rhs-same y w _ (f .formed) same-given in
@@ -91,19 +92,19 @@ module _ (y : System) (c : ℕ) (w ins sts : List ℕ) (f : Framable y c w ins s
         ∙ rw (graph-same y w _ (f .formed) same-given, t .aig, given-graph, variables-are s t)
 
     -- literals of the source, remapped
-    remapped : {A : Type 0} (n : ℕ) (xs zs : List ℕ) (g : A → ℕ) (bs : List A) → Below (y .count * 2) n xs → Mapped (remapLiteral (region 458752 w′)) n xs zs
-        → firsts n xs ≡ map g bs → firsts n zs ≡ map (λ a. remapLiteral (take (y .count) (region 458752 w′)) (g a)) bs
+    remapped : {A : Type 0} (n : ℕ) (xs zs : List ℕ) (g : A → ℕ) (bs : List A) → Below (y .count * 2) n xs → Mapped (remapLiteral (region IMPORTED w′)) n xs zs
+        → firsts n xs ≡ map g bs → firsts n zs ≡ map (λ a. remapLiteral (take (y .count) (region IMPORTED w′)) (g a)) bs
     remapped n xs zs g bs b m e =
-        firsts-map (remapLiteral (take (y .count) (region 458752 w′))) n xs zs (record { at = λ i h. m .at i h ∙ sym (remap-take (y .count) (region 458752 w′) (getD xs i 0) (b .at i h)) })
-        ∙ ap (λ (ls : List ℕ). map (remapLiteral (take (y .count) (region 458752 w′))) ls) e
-        ∙ map-map (remapLiteral (take (y .count) (region 458752 w′))) g bs
+        firsts-map (remapLiteral (take (y .count) (region IMPORTED w′))) n xs zs (record { at = λ i h. m .at i h ∙ sym (remap-take (y .count) (region IMPORTED w′) (getD xs i 0) (b .at i h)) })
+        ∙ ap (λ (ls : List ℕ). map (remapLiteral (take (y .count) (region IMPORTED w′))) ls) e
+        ∙ map-map (remapLiteral (take (y .count) (region IMPORTED w′))) g bs
 
-    remapped-below : (n : ℕ) (xs zs : List ℕ) → Below (y .count * 2) n xs → Mapped (remapLiteral (region 458752 w′)) n xs zs → Below (c′ * 2) n zs
+    remapped-below : (n : ℕ) (xs zs : List ℕ) → Below (y .count * 2) n xs → Mapped (remapLiteral (region IMPORTED w′)) n xs zs → Below (c′ * 2) n zs
     remapped-below n xs zs b m = record { at = λ i h. rw (m .at i h) (remap-inside (y .count) c′ w′ (getD xs i 0) (im .inside) (b .at i h)) }
 
     parts : (s : TransitionSystem) → Stands y w s
         → record { aig = graphOf c′ w′; outputs = firsts (y .«output_count») outs; next = firsts (y .«state_count») nxt }
-        ≡ frameOf s (record { aig = graphOf c′ w′; imported = take (y .count) (region 458752 w′) })
+        ≡ frameOf s (record { aig = graphOf c′ w′; imported = take (y .count) (region IMPORTED w′) })
     unfolding frameOf
     parts s t =
         ap₂ (λ (a b : List ℕ). record { aig = graphOf c′ w′; outputs = a; next = b })
@@ -139,6 +140,6 @@ module _ (y : System) (c : ℕ) (w ins sts w₁ w₂ : List ℕ) (f : Framable y
   sourced-after = rw both-given (sourced y c w ins sts f)
 
   pub framed-after : (c′ : ℕ) (w′ outs nxt : List ℕ) → Importing (y .base) (y .count) c w₂ (y .count) c′ w′
-      → Mapped (remapLiteral (region 458752 w′)) (y .«output_count») (y .outputs) outs → Mapped (remapLiteral (region 458752 w′)) (y .«state_count») (y .next) nxt
+      → Mapped (remapLiteral (region IMPORTED w′)) (y .«output_count») (y .outputs) outs → Mapped (remapLiteral (region IMPORTED w′)) (y .«state_count») (y .next) nxt
       → Framed y c w ins sts c′ w′ outs nxt
   framed-after c′ w′ outs nxt im mo mn = framed y c w ins sts f c′ w′ outs nxt (rw both-given at im) mo mn

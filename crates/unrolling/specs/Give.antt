@@ -2,13 +2,14 @@
 use mathlib.Core.Path.{_≡_, refl, ap, sym, _∙_}
 use mathlib.Core.Bool.{Bool, true, false, cond, false≢true}
 use mathlib.Core.List.{List, [], _∷_, _++_, map}
-use Prim.Native.Nat.{ℕ, zero, suc, _+_, _-_, _≤_, _<_}
+use Prim.Native.Nat.{ℕ, zero, suc, _-_, _≤_, _<_}
 use native.Mathlib.Omega.{arith}
 use native.Mathlib.Numerals.{add-one}
 use lib.Dec.{eqb}
 use lib.ListN.{length, getD, set}
 use lib.Seq.{getD-set-same, getD-set-other}
 use borrow.Author.Tests.{eqb-true, eqb-false, ne-eqb}
+use Rattle.words.specs.Layout.{LENT, SMALL, IMPORTED}
 use Rattle.words.specs.Region.{region, stored, stores, length-region, length-stored}
 use Rattle.model.specs.Lists.{snoc, lookup, member}
 use Rattle.aig.specs.Graph.{graphOf}
@@ -19,20 +20,20 @@ use Rattle.lowering.specs.Firsts.{firsts, pairs, pairs-suc, map-snoc, Below}
 -- the words with the literal of each pair at its place; of equal places the first pair counts
 unfoldable pub given : List (ℕ × ℕ) → List ℕ → List ℕ
 given [] w = w
-given (v ∷ vs) w = stored 458752 (given vs w) (v .0) (v .1)
+given (v ∷ vs) w = stored IMPORTED (given vs w) (v .0) (v .1)
 
-given-snoc : (vs : List (ℕ × ℕ)) (v : ℕ × ℕ) (w : List ℕ) → given (snoc vs v) w ≡ given vs (stored 458752 w (v .0) (v .1))
+given-snoc : (vs : List (ℕ × ℕ)) (v : ℕ × ℕ) (w : List ℕ) → given (snoc vs v) w ≡ given vs (stored IMPORTED w (v .0) (v .1))
 unfolding given snoc
 given-snoc [] v w = refl
-given-snoc (u ∷ vs) v w = ap (λ (x : List ℕ). stored 458752 x (u .0) (u .1)) (given-snoc vs v w)
+given-snoc (u ∷ vs) v w = ap (λ (x : List ℕ). stored IMPORTED x (u .0) (u .1)) (given-snoc vs v w)
 
 pub given-append : (vs us : List (ℕ × ℕ)) (w : List ℕ) → given (vs ++ us) w ≡ given vs (given us w)
 unfolding given
 given-append [] us w = refl
-given-append (v ∷ vs) us w = ap (λ (x : List ℕ). stored 458752 x (v .0) (v .1)) (given-append vs us w)
+given-append (v ∷ vs) us w = ap (λ (x : List ℕ). stored IMPORTED x (v .0) (v .1)) (given-append vs us w)
 
 -- from the last pair to the first
-pub given-last : (i : ℕ) (ps ls w : List ℕ) → 0 < i → given (pairs (i - 1) ps ls) (stored 458752 w (getD ps (i - 1) 0) (getD ls (i - 1) 0)) ≡ given (pairs i ps ls) w
+pub given-last : (i : ℕ) (ps ls w : List ℕ) → 0 < i → given (pairs (i - 1) ps ls) (stored IMPORTED w (getD ps (i - 1) 0) (getD ls (i - 1) 0)) ≡ given (pairs i ps ls) w
 given-last zero ps ls w h = absurd (omega arith)
 given-last (suc i) ps ls w h =
     let e : suc i - 1 ≡ i = omega arith in
@@ -41,7 +42,7 @@ given-last (suc i) ps ls w h =
 pub length-given : (vs : List (ℕ × ℕ)) (w : List ℕ) → length (given vs w) ≡ length w
 unfolding given
 length-given [] w = refl
-length-given (v ∷ vs) w = length-stored 458752 (given vs w) (v .0) (v .1) ∙ length-given vs w
+length-given (v ∷ vs) w = length-stored IMPORTED (given vs w) (v .0) (v .1) ∙ length-given vs w
 
 pub given-same : (vs : List (ℕ × ℕ)) (w : List ℕ) → Same beyond w (given vs w)
 unfolding given
@@ -51,26 +52,26 @@ given-same (v ∷ vs) w = same-trans (given-same vs w) (same-imported (given vs 
 pub given-ready : (vs : List (ℕ × ℕ)) (c : ℕ) (w : List ℕ) → Ready c w → Ready c (given vs w)
 unfolding given
 given-ready [] c w r = r
-given-ready (v ∷ vs) c w r = ready-stored 458752 c (given vs w) (v .0) (v .1) refl (given-ready vs c w r)
+given-ready (v ∷ vs) c w r = ready-stored IMPORTED c (given vs w) (v .0) (v .1) refl (given-ready vs c w r)
 
 pub given-graph : (vs : List (ℕ × ℕ)) (c : ℕ) (w : List ℕ) → graphOf c (given vs w) ≡ graphOf c w
 unfolding given
 given-graph [] c w = refl
-given-graph (v ∷ vs) c w = graph-stored 458752 c (given vs w) (v .0) (v .1) refl ∙ given-graph vs c w
+given-graph (v ∷ vs) c w = graph-stored IMPORTED c (given vs w) (v .0) (v .1) refl ∙ given-graph vs c w
 
 -- what stands at a place
-pub given-at : (vs : List (ℕ × ℕ)) (w : List ℕ) (j : ℕ) → 8388608 ≤ length w → j < 65536
-    → getD (region 458752 (given vs w)) j 0 ≡ lookup (getD (region 458752 w) j 0) vs j
+pub given-at : (vs : List (ℕ × ℕ)) (w : List ℕ) (j : ℕ) → LENT ≤ length w → j < SMALL
+    → getD (region IMPORTED (given vs w)) j 0 ≡ lookup (getD (region IMPORTED w) j 0) vs j
 unfolding given lookup
 given-at [] w j h k = refl
 given-at (v ∷ vs) w j h k = simp stores (go (given-at vs w j h k) (eqb (v .0) j) refl)
   where
-    go : getD (region 458752 (given vs w)) j 0 ≡ lookup (getD (region 458752 w) j 0) vs j → (t : Bool) → eqb (v .0) j ≡ t
-        → getD (set (region 458752 (given vs w)) (v .0) (v .1)) j 0 ≡ cond t (v .1) (lookup (getD (region 458752 w) j 0) vs j)
+    go : getD (region IMPORTED (given vs w)) j 0 ≡ lookup (getD (region IMPORTED w) j 0) vs j → (t : Bool) → eqb (v .0) j ≡ t
+        → getD (set (region IMPORTED (given vs w)) (v .0) (v .1)) j 0 ≡ cond t (v .1) (lookup (getD (region IMPORTED w) j 0) vs j)
     go q true e =
-        let l : length (region 458752 (given vs w)) ≡ 65536 = length-region 458752 (given vs w) (omega (arith, length-given vs w)) in
-        rw (eqb-true (v .0) j e) (getD-set-same (region 458752 (given vs w)) j (v .1) 0 (omega arith))
-    go q false e = getD-set-other (region 458752 (given vs w)) (v .0) j (v .1) 0 (λ x. eqb-false (v .0) j e (sym x)) ∙ q
+        let l : length (region IMPORTED (given vs w)) ≡ SMALL = length-region IMPORTED (given vs w) (omega (arith, length-given vs w)) in
+        rw (eqb-true (v .0) j e) (getD-set-same (region IMPORTED (given vs w)) j (v .1) 0 (omega arith))
+    go q false e = getD-set-other (region IMPORTED (given vs w)) (v .0) j (v .1) 0 (λ x. eqb-false (v .0) j e (sym x)) ∙ q
 
 -- ---- lists of pairs
 

@@ -3,6 +3,7 @@ use mathlib.Core.Path.{_≡_}
 use mathlib.Core.List.{List}
 use Prim.Native.Nat.{ℕ, _+_, _≤_}
 use native.Mathlib.Omega.{arith}
+use Rattle.words.specs.Layout.{SMALL, GOLD-LHS, GATE-RHS}
 use Rattle.words.specs.Region.{region}
 use Rattle.model.specs.Transition.{TransitionSystem}
 use Rattle.aig.specs.Graph.{graphAt}
@@ -14,11 +15,11 @@ use Rattle.transition.specs.declared.system.System.{System}
 
 -- how many conjunctions the side's graph has
 abbrev pub conjunctionsOf : System → List ℕ → ℕ
-conjunctionsOf y w = conjunctions (y .count) (region (y .base + 65536) w)
+conjunctionsOf y w = conjunctions (y .count) (region (y .base + SMALL) w)
 
 -- The regions of both sides' graphs are as they were.
 pub record Untouched (w w′ : List ℕ) : Type 0 where
-  pub at : (b : ℕ) → 196608 ≤ b → b ≤ 393216 → region b w′ ≡ region b w
+  pub at : (b : ℕ) → GOLD-LHS ≤ b → b ≤ GATE-RHS → region b w′ ≡ region b w
 
 pub untouched-beyond : {w w′ : List ℕ} → Same beyond w w′ → Untouched w w′
 untouched-beyond s = record { at = λ b lo hi. s .at b (side-beyond b lo hi) }
@@ -28,8 +29,8 @@ module _ (y : System) (w w′ : List ℕ) (f : Formed y w) (kept : Untouched w w
   lhs-kept : region (y .base) w′ ≡ region (y .base) w
   lhs-kept = kept .at (y .base) (f .low) (omega (arith, f .high))
 
-  rhs-kept : region (y .base + 65536) w′ ≡ region (y .base + 65536) w
-  rhs-kept = kept .at (y .base + 65536) (omega (arith, f .low)) (omega (arith, f .high))
+  rhs-kept : region (y .base + SMALL) w′ ≡ region (y .base + SMALL) w
+  rhs-kept = kept .at (y .base + SMALL) (omega (arith, f .low)) (omega (arith, f .high))
 
   graph-kept : graphAt (y .base) (y .count) w′ ≡ graphAt (y .base) (y .count) w
   graph-kept = Laws.graph-kept y w w′ lhs-kept rhs-kept
@@ -46,7 +47,7 @@ module _ (y : System) (w w′ : List ℕ) (f : Formed y w) (kept : Untouched w w
 
 -- the same of a change of the proof graph and the import
 module _ (y : System) (w w′ : List ℕ) (f : Formed y w) (same : Same beyond w w′) where
-  pub rhs-same : region (y .base + 65536) w′ ≡ region (y .base + 65536) w
+  pub rhs-same : region (y .base + SMALL) w′ ≡ region (y .base + SMALL) w
   rhs-same = rhs-kept y w w′ f (untouched-beyond same)
 
   pub graph-same : graphAt (y .base) (y .count) w′ ≡ graphAt (y .base) (y .count) w

@@ -1,5 +1,6 @@
 // Comparisons in the proof graph: compare_outputs and compare_named_state of equivalence.rs.
 ghost use Prim.Native.Nat.{_+_, _*_, _≤_, _<_};
+ghost use Rattle.words.specs.Layout.{MOST-NODES};
 ghost use Rattle.model.specs.Equivalence.{comparePairs};
 ghost use Rattle.aig.specs.Graph.{graphOf};
 ghost use Rattle.aig.specs.Made.{Ready, Made};
@@ -21,7 +22,7 @@ fn or_difference(
     left: Literal,
     right: Literal,
 ) -> Built
-    requires { ⌜ Ready (aig .count) (now words) × (aig .count + 4 ≤ 65536) × (mismatch .0 < aig .count * 2) × (left .0 < aig .count * 2) × (right .0 < aig .count * 2) ⌝ }
+    requires { ⌜ Ready (aig .count) (now words) × (aig .count + 4 ≤ MOST-NODES) × (mismatch .0 < aig .count * 2) × (left .0 < aig .count * 2) × (right .0 < aig .count * 2) ⌝ }
     ensures { λ r. ⌜ Made 4 (aig .count) (now (words .entry)) (r .aig .count) (now (words .exit)) (r .literal .0) (orDifference (left .0) (right .0) (record { aig = graphOf (aig .count) (now (words .entry)); literal = mismatch .0 })) ⌝ }
 {
     let differs = aig.xor(words, left, right);
@@ -38,7 +39,7 @@ pub fn compare_outputs(
     gate: &[u32; 128],
     n: usize,
 ) -> Built
-    requires { ⌜ Ready (proof .count) (now words) × (n ≤ 128) × (proof .count + 4 * n ≤ 65536) × Below (proof .count * 2) n (now gold) × Below (proof .count * 2) n (now gate) ⌝ }
+    requires { ⌜ Ready (proof .count) (now words) × (n ≤ 128) × (proof .count + 4 * n ≤ MOST-NODES) × Below (proof .count * 2) n (now gold) × Below (proof .count * 2) n (now gate) ⌝ }
     ensures { λ r. ⌜ Made (4 * n) (proof .count) (now (words .entry)) (r .aig .count) (now (words .exit)) (r .literal .0) (comparePairs (graphOf (proof .count) (now (words .entry))) (pairs n (now (gold .entry)) (now (gate .entry)))) ⌝ }
 {
     let mut aig = proof;
@@ -71,7 +72,7 @@ fn or_named(
     matched: u32,
     gate: &[u32; 128],
 ) -> Built
-    requires { ⌜ Ready (aig .count) (now words) × (aig .count + 4 ≤ 65536) × (mismatch .0 < aig .count * 2) × (literal .0 < aig .count * 2) × (matched ≤ 128) × Below (aig .count * 2) matched (now gate) ⌝ }
+    requires { ⌜ Ready (aig .count) (now words) × (aig .count + 4 ≤ MOST-NODES) × (mismatch .0 < aig .count * 2) × (literal .0 < aig .count * 2) × (matched ≤ 128) × Below (aig .count * 2) matched (now gate) ⌝ }
     ensures { λ r. ⌜ Made 4 (aig .count) (now (words .entry)) (r .aig .count) (now (words .exit)) (r .literal .0) (orNamed (literal .0) (atMatch matched (now (gate .entry))) (record { aig = graphOf (aig .count) (now (words .entry)); literal = mismatch .0 })) ⌝ }
 {
     if matched == 0 {
@@ -98,7 +99,7 @@ pub fn compare_named_state(
     gate: &[u32; 128],
     n: usize,
 ) -> Built
-    requires { ⌜ Ready (proof .count) (now words) × (n ≤ 128) × (proof .count + 4 * n ≤ 65536) × Below (proof .count * 2) n (now gold) × MatchesBelow (proof .count * 2) n (now matches) (now gate) ⌝ }
+    requires { ⌜ Ready (proof .count) (now words) × (n ≤ 128) × (proof .count + 4 * n ≤ MOST-NODES) × Below (proof .count * 2) n (now gold) × MatchesBelow (proof .count * 2) n (now matches) (now gate) ⌝ }
     ensures { λ r. ⌜ Made (4 * n) (proof .count) (now (words .entry)) (r .aig .count) (now (words .exit)) (r .literal .0) (comparePairs (graphOf (proof .count) (now (words .entry))) (namedBy n (now (matches .entry)) (now (gold .entry)) (now (gate .entry)))) ⌝ }
 {
     let mut aig = proof;

@@ -1,7 +1,8 @@
 // One cycle of a side in the proof graph: import_frame of equivalence.rs.
 ghost use mathlib.Core.Path.{_≡_};
-ghost use Prim.Native.Nat.{_+_, _≤_, _<_};
+ghost use Prim.Native.Nat.{_≤_, _<_};
 ghost use lib.ListN.{length};
+ghost use Rattle.words.specs.Layout.{LENT, IMPORTED};
 ghost use Rattle.words.specs.Region.{region};
 ghost use Rattle.model.specs.Equivalence.{remapLiteral};
 ghost use Rattle.lowering.specs.Firsts.{pairs, Mapped};
@@ -27,8 +28,8 @@ pub struct Frame {
 
 // The literals of `n` variables put at their nodes' places, from the last to the first.
 fn give(words: &mut [u32], places: &[u32; 128], literals: &[u32; 128], n: usize)
-    requires { ⌜ (8388608 ≤ length (now words)) × (n ≤ 128) ⌝ }
-    ensures { λ _. ⌜ (now (words .exit) ≡ given (pairs n (now (places .entry)) (now (literals .entry))) (now (words .entry))) × (8388608 ≤ length (now (words .exit))) ⌝ }
+    requires { ⌜ (LENT ≤ length (now words)) × (n ≤ 128) ⌝ }
+    ensures { λ _. ⌜ (now (words .exit) ≡ given (pairs n (now (places .entry)) (now (literals .entry))) (now (words .entry))) × (LENT ≤ length (now (words .exit))) ⌝ }
 {
     let mut i = n;
     while i > 0 {
@@ -39,8 +40,8 @@ fn give(words: &mut [u32], places: &[u32; 128], literals: &[u32; 128], n: usize)
 
 // The first `n` literals of the source, by the literals of its nodes.
 fn remap_literals(words: &[u32], literals: &[u32; 128], n: usize) -> [u32; 128]
-    requires { ⌜ (8388608 ≤ length (now words)) × (n ≤ 128) ⌝ }
-    ensures { λ r. ⌜ Mapped (remapLiteral (region 458752 (now (words .entry)))) n (now (literals .entry)) r ⌝ }
+    requires { ⌜ (LENT ≤ length (now words)) × (n ≤ 128) ⌝ }
+    ensures { λ r. ⌜ Mapped (remapLiteral (region IMPORTED (now (words .entry)))) n (now (literals .entry)) r ⌝ }
 {
     let mut mapped = [0u32; 128];
     let mut i: usize = 0;

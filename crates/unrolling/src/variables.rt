@@ -3,6 +3,7 @@ ghost use mathlib.Core.Path.{_≡_};
 ghost use mathlib.Core.List.{[]};
 ghost use Prim.Native.Nat.{_+_, _*_, _≤_, _<_};
 ghost use lib.ListN.{getD};
+ghost use Rattle.words.specs.Layout.{MOST-NODES};
 ghost use Rattle.aig.specs.Graph.{graphOf};
 ghost use Rattle.aig.specs.Made.{Ready, Made};
 ghost use Rattle.lowering.specs.Firsts.{Below};
@@ -30,7 +31,7 @@ pub fn at(xs: &[u32; 128], i: usize) -> u32
 
 // So many new variables: the inputs of a cycle or the states of a side, in byte order of names.
 pub fn new_variables(proof: Aig, words: &mut [u32], n: usize) -> Literals
-    requires { ⌜ Ready (proof .count) (now words) × (n ≤ 128) × (proof .count + n ≤ 65536) ⌝ }
+    requires { ⌜ Ready (proof .count) (now words) × (n ≤ 128) × (proof .count + n ≤ MOST-NODES) ⌝ }
     ensures { λ r. ⌜ Listed n (proof .count) (now (words .entry)) (r .aig .count) (now (words .exit)) (r .literals) (grown n (record { aig = graphOf (proof .count) (now (words .entry)); literals = [] })) ⌝ }
 {
     let mut aig = proof;
@@ -48,7 +49,7 @@ pub fn new_variables(proof: Aig, words: &mut [u32], n: usize) -> Literals
 
 // The literal of a gate state by its match: gold's, or a new variable.
 fn gate_variable(aig: Aig, words: &mut [u32], matched: u32, gold: &[u32; 128]) -> Built
-    requires { ⌜ Ready (aig .count) (now words) × (aig .count + 1 ≤ 65536) × (matched ≤ 128) × Below (aig .count * 2) matched (now gold) ⌝ }
+    requires { ⌜ Ready (aig .count) (now words) × (aig .count + 1 ≤ MOST-NODES) × (matched ≤ 128) × Below (aig .count * 2) matched (now gold) ⌝ }
     ensures { λ r. ⌜ Made 1 (aig .count) (now (words .entry)) (r .aig .count) (now (words .exit)) (r .literal .0) (gateBuilt matched (now (gold .entry)) (graphOf (aig .count) (now (words .entry)))) ⌝ }
 {
     if matched == 0 {
@@ -76,7 +77,7 @@ pub fn gate_variables(
     gold: &[u32; 128],
     n: usize,
 ) -> Literals
-    requires { ⌜ Ready (proof .count) (now words) × (n ≤ 128) × (proof .count + n ≤ 65536) × MatchesBelow (proof .count * 2) n (now matches) (now gold) ⌝ }
+    requires { ⌜ Ready (proof .count) (now words) × (n ≤ 128) × (proof .count + n ≤ MOST-NODES) × MatchesBelow (proof .count * 2) n (now matches) (now gold) ⌝ }
     ensures { λ r. ⌜ Listed n (proof .count) (now (words .entry)) (r .aig .count) (now (words .exit)) (r .literals) (gateBy n share (now (matches .entry)) (now (gold .entry)) (record { aig = graphOf (proof .count) (now (words .entry)); literals = [] })) ⌝ }
 {
     let mut aig = proof;

@@ -1,9 +1,8 @@
 // A line of the call check made: its buffers are lent as it says, and the answer and every element of them compared.
+use calls::answers::CheckAnswer;
 use lender::text::first;
-use lender::text::hex;
 use recorded::check_line::Asked;
 use recorded::check_line::Recorded;
-use recorded::check_line::Refusal;
 use recorded::check_line::Verdict;
 use recorded::check_line::asked_of;
 use recorded::check_line::buffers;
@@ -15,21 +14,17 @@ use recorded::lent::hold_scores;
 use recorded::lent::hold_words;
 use recorded::outcome::DEPTH;
 use recorded::outcome::MISMATCH;
-use recorded::outcome::NUMBER;
 use recorded::outcome::Outcome;
-use recorded::outcome::PLACE;
 use recorded::outcome::QUERY;
-use recorded::outcome::SIDE;
 use recorded::outcome::STATUS;
 use recorded::outcome::compared;
-use struo_formal::CheckAnswer;
+use recorded::refusal::Refusal;
+use recorded::refusal::compared_refusal;
 
 // The numbers of an answer compared with the recorded ones.
 fn numbers(answer: CheckAnswer, r: Refusal, v: Verdict) -> Outcome {
-    let number_told = compared(Outcome::Same, NUMBER, r.number, answer.number as u64);
-    let side_told = compared(number_told, SIDE, r.side, answer.side as u64);
-    let place_told = compared(side_told, PLACE, r.place, answer.place as u64);
-    let status_told = compared(place_told, STATUS, v.status, answer.status as u64);
+    let refusal_told = compared_refusal(r, answer.number, answer.side, answer.place);
+    let status_told = compared(refusal_told, STATUS, v.status, answer.status as u64);
     let depth_told = compared(status_told, DEPTH, v.depth, answer.depth as u64);
     let mismatch_told = compared(depth_told, MISMATCH, v.mismatch, answer.mismatch as u64);
     compared(mismatch_told, QUERY, v.query, answer.query as u64)
@@ -107,14 +102,12 @@ fn judge(
     )
 }
 
-// A `check` line: `check GOLDHEX GATEHEX D TRACELEN WORDSLEN SCORESLEN = NUMBER SIDE PLACE STATUS DEPTH MISMATCH QUERY TRACEHEX MAXLEARNED`;
-// the last number is not looked at.
+// A `check` line.
 pub fn run_check(line: &[u8]) -> Outcome {
     let mut gold = lender::record();
     let mut gate = lender::record();
     let mut claim = lender::record();
-    let first_record = hex(line, 6, &mut gold);
-    let q = asked_of(line, first_record, &mut gate);
+    let q = asked_of(line, &mut gold, &mut gate);
     let t = recorded_answer(line, q.next, &mut claim);
     let mut trace = lender::trace();
     let mut words = lender::words();

@@ -1,3 +1,4 @@
+pub mod State
 pub mod VisitLaws
 pub mod PropagateLaws
 pub mod UnitLaws

@@ -10,23 +10,25 @@ use lib.ListN.{set, getD, length, getElem?}
 use lib.Seq.{set-set, set-out, set-getD, getD-set-same, getD-take}
 use Rattle.facts.specs.Numbers.{below}
 use Rattle.facts.specs.Lists.{getElem-in, getElem-out}
+use Rattle.words.specs.Layout.{DOUBLE, TRAIL, WATCH-HEADS, WATCH-COUNTS, CLAUSE-STARTS, WATCHED, LINKS, LITERALS}
 use Rattle.words.specs.Region.{region, stored, stored-out, length-stored}
 use Rattle.model.specs.Literal as Literals
 use Rattle.model.specs.Lists.{snoc, member}
 use Rattle.model.specs.Sat as Sat
 use Rattle.model.specs.Sat.{Solver}
-use Rattle.assignment.specs.State.{assignmentOf, Ready, Unchanged}
+use Rattle.assignment.specs.State.{assignmentOf, TrailReady, Unchanged}
 use Rattle.assignment.specs.StateLaws.{unchanged-none, unchanged-both, unchanged-stored, trail-length, variables-are}
 use Rattle.assignment.specs.declared.state.Trail.{Trail}
 use Rattle.clauses.specs.declared.state.Store.{Store}
-use Rattle.clauses.specs.declared.state.Pending.{Pending}
-use Rattle.clauses.specs.declared.state.Propagation.{Propagation}
-use Rattle.clauses.specs.declared.state.Propagation.the-variants as Propagations
+use Rattle.watches.specs.declared.state.Pending.{Pending}
+use Rattle.watches.specs.declared.state.Propagation.{Propagation}
+use Rattle.watches.specs.declared.state.Propagation.the-variants as Propagations
 use Rattle.clauses.specs.Queue.{queuesOf, queue, walk}
 use Rattle.clauses.specs.Sound.{SoundQueues, drop-sound}
 use Rattle.clauses.specs.Clauses.{half, watchesOf, same-clauses, no-watch-list, watch-list, length-watches, taken-sound, taken-watches}
-use Rattle.clauses.specs.State.{solverOf, trailOf, propagationOf, pendingOf, restOf, appended, Formed, Sound, Step, Visiting, Visits, Taken, Propagates, advanced, watchRegions, searchRegions}
+use Rattle.clauses.specs.State.{solverOf, Formed, SoundStore, Step, watchRegions, searchRegions}
 use Rattle.clauses.specs.StepLaws.{step-both, formed-kept, same-assignment, watches-only}
+use Rattle.watches.specs.State.{trailOf, propagationOf, pendingOf, restOf, appended, Visiting, Visits, Taken, Propagates, advanced}
 use Rattle.watches.specs.VisitLaws.{pending-cons}
 
 -- ---- clauses appended to a watch list
@@ -49,7 +51,7 @@ appended-none f s = rw (append-nil, set-getD)
 
 -- ---- the cells after the first
 
-pub next-pending : (d r : Pending) (w w′ : List ℕ) → r .cell ≡ getD (region 3670016 w) (d .cell) 0 → r .left ≡ d .left - 1 → pendingOf r w′ ≡ restOf d w w′
+pub next-pending : (d r : Pending) (w w′ : List ℕ) → r .cell ≡ getD (region LINKS w) (d .cell) 0 → r .left ≡ d .left - 1 → pendingOf r w′ ≡ restOf d w w′
 unfolding pendingOf restOf
 next-pending d r w w′ e g = rw (e, g)
 
@@ -57,7 +59,7 @@ pub pending-none : (d : Pending) (w : List ℕ) → d .left ≤ 0 → pendingOf 
 unfolding pendingOf walk
 pending-none d w h = let e : d .left ≡ 0 = omega arith in rw e
 
-step-none : (m : Store) (t : Trail) (w : List ℕ) (p : List ℕ) → Sound m t w p → Step m t w t w p
+step-none : (m : Store) (t : Trail) (w : List ℕ) (p : List ℕ) → SoundStore m t w p → Step m t w t w p
 step-none m t w p s = record { frame = unchanged-none searchRegions w; sound = s; variables = refl; level = refl; head = refl }
 
 -- ---- the pending clauses restored
@@ -68,7 +70,7 @@ pub record Restoring (m : Store) (t : Trail) (f : ℕ) (w₀ : List ℕ) (d₀ :
   pub left : (s : Solver) → appended f (map half (pendingOf d w)) (solverOf s m t w) ≡ appended f (map half (pendingOf d₀ w₀)) (solverOf s m t w₀)
 
 module _ (m : Store) (t : Trail) (f : ℕ) (w₀ : List ℕ) (d₀ : Pending) where
-  pub restore-start : Sound m t w₀ (pendingOf d₀ w₀) → Restoring m t f w₀ d₀ w₀ d₀
+  pub restore-start : SoundStore m t w₀ (pendingOf d₀ w₀) → Restoring m t f w₀ d₀ w₀ d₀
   restore-start s = record { step = step-none m t w₀ (pendingOf d₀ w₀) s; left = λ s. refl }
 
   module _ (w : List ℕ) (d : Pending) (i : Restoring m t f w₀ d₀ w d) where
@@ -76,7 +78,7 @@ module _ (m : Store) (t : Trail) (f : ℕ) (w₀ : List ℕ) (d₀ : Pending) wh
     restore-visiting h = record { sound = i .step .sound; some = h }
 
     pub restore-more : 0 < d .left → (w′ : List ℕ) → Visits m t w d t w′ → ((s : Solver) → solverOf s m t w′ ≡ Sat.keepWatch f (half (d .cell)) (solverOf s m t w))
-        → (r : Pending) → r .cell ≡ getD (region 3670016 w) (d .cell) 0 → r .left ≡ d .left - 1 → Restoring m t f w₀ d₀ w′ r
+        → (r : Pending) → r .cell ≡ getD (region LINKS w) (d .cell) 0 → r .left ≡ d .left - 1 → Restoring m t f w₀ d₀ w′ r
     restore-more h w′ v k r a b =
         let e : pendingOf r w′ ≡ restOf d w w = next-pending d r w w′ a b ∙ v .same in
         record {
@@ -111,7 +113,7 @@ pub record Pends (m : Store) (f : ℕ) (t₀ : Trail) (w₀ : List ℕ) (d₀ : 
   pub left : (s : Solver) → Sat.visitPending f (map half (pendingOf d w)) (Sat.propagating (solverOf s m t w)) ≡ Sat.visitPending f (map half (pendingOf d₀ w₀)) (Sat.propagating (solverOf s m t₀ w₀))
 
 module _ (m : Store) (f : ℕ) (t₀ : Trail) (w₀ : List ℕ) (d₀ : Pending) where
-  pub pends-start : Sound m t₀ w₀ (pendingOf d₀ w₀) → Pends m f t₀ w₀ d₀ t₀ w₀ d₀
+  pub pends-start : SoundStore m t₀ w₀ (pendingOf d₀ w₀) → Pends m f t₀ w₀ d₀ t₀ w₀ d₀
   pends-start s = record { step = step-none m t₀ w₀ (pendingOf d₀ w₀) s; left = λ s. refl }
 
   module _ (t : Trail) (w : List ℕ) (d : Pending) (i : Pends m f t₀ w₀ d₀ t w d) where
@@ -124,7 +126,7 @@ module _ (m : Store) (f : ℕ) (t₀ : Trail) (w₀ : List ℕ) (d₀ : Pending)
 
     module _ (h : 0 < d .left) (w′ : List ℕ) (q : Propagation) (v : Visits m t w d (trailOf q) w′)
         (k : (s : Solver) → propagationOf s m w′ q ≡ Sat.visit f (half (d .cell)) (solverOf s m t w))
-        (r : Pending) (a : r .cell ≡ getD (region 3670016 w) (d .cell) 0) (b : r .left ≡ d .left - 1) where
+        (r : Pending) (a : r .cell ≡ getD (region LINKS w) (d .cell) 0) (b : r .left ≡ d .left - 1) where
       rest-is : pendingOf r w′ ≡ restOf d w w
       rest-is = next-pending d r w w′ a b ∙ v .same
 
@@ -147,7 +149,7 @@ module _ (m : Store) (f : ℕ) (t₀ : Trail) (w₀ : List ℕ) (d₀ : Pending)
           )
 
       module _ (id : ℕ) (u : Trail) (e : q ≡ Propagations.Conflict id u) where
-        pub conflict-sound : Sound m u w′ (pendingOf r w′)
+        pub conflict-sound : SoundStore m u w′ (pendingOf r w′)
         conflict-sound = rw rest-is (rw e at steps .sound)
 
         pub pends-conflict : (w″ : List ℕ) → Step m u w′ u w″ [] → ((s : Solver) → solverOf s m u w″ ≡ appended f (map half (pendingOf r w′)) (solverOf s m u w′))
@@ -159,7 +161,7 @@ module _ (m : Store) (f : ℕ) (t₀ : Trail) (w₀ : List ℕ) (d₀ : Pending)
 
 -- ---- a queue taken
 
-module _ (m : Store) (t : Trail) (w : List ℕ) (f : ℕ) (s : Sound m t w []) where
+module _ (m : Store) (t : Trail) (w : List ℕ) (f : ℕ) (s : SoundStore m t w []) where
   -- there is none
   pub take-none : t .variables * 2 ≤ f → Taken m t w f (record { cell = 0; left = 0 }) w
   unfolding pendingOf walk
@@ -171,22 +173,22 @@ module _ (m : Store) (t : Trail) (w : List ℕ) (f : ℕ) (s : Sound m t w []) w
     assignment = refl;
   }
 
-  module _ (h : f < t .variables * 2) (u : List ℕ) (e : u ≡ stored 1966080 w f 0) where
-    near : f < 131072
+  module _ (h : f < t .variables * 2) (u : List ℕ) (e : u ≡ stored WATCH-COUNTS w f 0) where
+    near : f < DOUBLE
     near = omega (arith, s .formed .ready .variables)
 
     taken-unchanged : Unchanged watchRegions w u
     unfolding member
-    taken-unchanged = unchanged-stored watchRegions 1966080 f 0 refl (unchanged-none watchRegions w) e
+    taken-unchanged = unchanged-stored watchRegions WATCH-COUNTS f 0 refl (unchanged-none watchRegions w) e
 
     taken-formed : Formed m t u
-    taken-formed = formed-kept m t w u (s .formed) (rw e (stored-out 2097152 w 1966080 f 0 refl)) (rw e (stored-out 4718592 w 1966080 f 0 refl)) (same-assignment t w u taken-unchanged) (rw e (length-stored 1966080 w f 0))
+    taken-formed = formed-kept m t w u (s .formed) (rw e (stored-out CLAUSE-STARTS w WATCH-COUNTS f 0 refl)) (rw e (stored-out LITERALS w WATCH-COUNTS f 0 refl)) (same-assignment t w u taken-unchanged) (rw e (length-stored WATCH-COUNTS w f 0))
 
-    taken-pending : (d : Pending) → d .cell ≡ getD (region 1703936 w) f 0 → d .left ≡ getD (region 1966080 w) f 0 → pendingOf d u ≡ queue (queuesOf w) f
+    taken-pending : (d : Pending) → d .cell ≡ getD (region WATCH-HEADS w) f 0 → d .left ≡ getD (region WATCH-COUNTS w) f 0 → pendingOf d u ≡ queue (queuesOf w) f
     unfolding pendingOf queue queuesOf
-    taken-pending d a b = rw (e, stored-out 3670016 w 1966080 f 0 refl, a, b)
+    taken-pending d a b = rw (e, stored-out LINKS w WATCH-COUNTS f 0 refl, a, b)
 
-    pub take-some : (d : Pending) → d .cell ≡ getD (region 1703936 w) f 0 → d .left ≡ getD (region 1966080 w) f 0 → Taken m t w f d u
+    pub take-some : (d : Pending) → d .cell ≡ getD (region WATCH-HEADS w) f 0 → d .left ≡ getD (region WATCH-COUNTS w) f 0 → Taken m t w f d u
     take-some d a b = record {
       step = record {
         frame = watches-only w u taken-unchanged;
@@ -197,22 +199,22 @@ module _ (m : Store) (t : Trail) (w : List ℕ) (f : ℕ) (s : Sound m t w []) w
       };
       cells = rw (taken-pending d a b) (sym (watch-list (t .variables) w f h));
       watches = rw e (taken-watches w (s .formed .ready .words) (m .clauses * 2) (omega (arith, s .formed .clauses)) f (s .queues) near (t .variables));
-      clauses = rw e (same-clauses (m .clauses) (stored 1966080 w f 0) w (stored-out 2097152 w 1966080 f 0 refl) (stored-out 2621440 w 1966080 f 0 refl) (stored-out 4718592 w 1966080 f 0 refl));
+      clauses = rw e (same-clauses (m .clauses) (stored WATCH-COUNTS w f 0) w (stored-out CLAUSE-STARTS w WATCH-COUNTS f 0 refl) (stored-out WATCHED w WATCH-COUNTS f 0 refl) (stored-out LITERALS w WATCH-COUNTS f 0 refl));
       assignment = same-assignment t w u taken-unchanged;
     }
 
 -- ---- a round
 
-head-read : (t : Trail) (w : List ℕ) → t .head < t .length → getD (assignmentOf t w .trail) (t .head) 0 ≡ getD (region 983040 w) (t .head) 0
+head-read : (t : Trail) (w : List ℕ) → t .head < t .length → getD (assignmentOf t w .trail) (t .head) 0 ≡ getD (region TRAIL w) (t .head) 0
 unfolding assignmentOf
-head-read t w h = getD-take (t .length) (region 983040 w) (t .head) 0 h
+head-read t w h = getD-take (t .length) (region TRAIL w) (t .head) 0 h
 
 -- the literal at the head
-head-literal : (t : Trail) (w : List ℕ) → Ready t w → t .head < t .length → getElem? (assignmentOf t w .trail) (t .head) ≡ some (getD (region 983040 w) (t .head) 0)
+head-literal : (t : Trail) (w : List ℕ) → TrailReady t w → t .head < t .length → getElem? (assignmentOf t w .trail) (t .head) ≡ some (getD (region TRAIL w) (t .head) 0)
 head-literal t w r h = getElem-in (assignmentOf t w .trail) (t .head) 0 (omega (arith, trail-length t w r)) ∙ ap (λ (l : ℕ). some l) (head-read t w h)
 
 -- the head one further
-pub advanced-sound : (m : Store) (t : Trail) (w : List ℕ) (p : List ℕ) → Sound m t w p → Sound m (advanced t) w p
+pub advanced-sound : (m : Store) (t : Trail) (w : List ℕ) (p : List ℕ) → SoundStore m t w p → SoundStore m (advanced t) w p
 unfolding assignmentOf
 advanced-sound m t w p s = record {
   formed = record {
@@ -254,7 +256,7 @@ module _ (m : Store) (t : Trail) (w : List ℕ) (f : ℕ) (d : Pending) (u : Lis
   unfolding solverOf Sat.takeWatches further
   taken-solver s = rw (k .clauses, k .watches, advanced-assignment t u, k .assignment)
 
-  module _ (r : Ready t w) (h : t .head < t .length) (e : f ≡ Literals.negate (getD (region 983040 w) (t .head) 0)) where
+  module _ (r : TrailReady t w) (h : t .head < t .length) (e : f ≡ Literals.negate (getD (region TRAIL w) (t .head) 0)) where
     round-is : (s : Solver) → Sat.propagateRound (solverOf s m t w) ≡ Sat.visitPending f (map half (pendingOf d u)) (Sat.propagating (solverOf s m (advanced t) u))
     unfolding Sat.propagateRound Sat.propagateAssigned solverOf
     round-is s = rw (taken-solver s, k .cells, head-is t w, head-literal t w r h, ← e)
@@ -270,7 +272,7 @@ module _ (m : Store) (t : Trail) (w : List ℕ) (f : ℕ) (d : Pending) (u : Lis
 -- ---- rounds
 
 -- at the end of the trail
-round-none : (m : Store) (t : Trail) (w : List ℕ) → Ready t w → t .length ≤ t .head → (s : Solver) → Sat.propagateRound (solverOf s m t w) ≡ Sat.complete (solverOf s m t w)
+round-none : (m : Store) (t : Trail) (w : List ℕ) → TrailReady t w → t .length ≤ t .head → (s : Solver) → Sat.propagateRound (solverOf s m t w) ≡ Sat.complete (solverOf s m t w)
 unfolding Sat.propagateRound Sat.propagateAssigned solverOf
 round-none m t w r h s = rw (head-is t w, getElem-out (assignmentOf t w .trail) (t .head) (omega (arith, trail-length t w r)))
 
@@ -296,7 +298,7 @@ pub record Rounds (m : Store) (t₀ : Trail) (w₀ : List ℕ) (t : Trail) (w : 
   pub left : (s : Solver) → Sat.propagateRounds (suc (t₀ .variables) - (t .head - t₀ .head)) (Sat.propagating (solverOf s m t w)) ≡ Sat.propagate (solverOf s m t₀ w₀)
 
 module _ (m : Store) (t₀ : Trail) (w₀ : List ℕ) where
-  pub rounds-start : Sound m t₀ w₀ [] → Rounds m t₀ w₀ t₀ w₀
+  pub rounds-start : SoundStore m t₀ w₀ [] → Rounds m t₀ w₀ t₀ w₀
   unfolding Sat.propagate solverOf
   rounds-start s = record {
     done = record { frame = unchanged-none searchRegions w₀; sound = s; variables = refl; level = refl };

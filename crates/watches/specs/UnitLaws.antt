@@ -8,6 +8,7 @@ use native.Mathlib.Omega.{arith}
 use native.Mathlib.Numerals.{add-one}
 use lib.ListN.{getD, length, drop, drop-of-length-le}
 use lib.Seq.{drop-cons}
+use Rattle.words.specs.Layout.{SMALL, CLAUSE-STARTS, WATCHED, LITERALS}
 use Rattle.words.specs.Region.{region}
 use Rattle.model.specs.Sat as Sat
 use Rattle.model.specs.Sat.{Assignment}
@@ -20,13 +21,14 @@ use Rattle.assignment.specs.declared.state.Value.the-variants as Values
 use Rattle.clauses.specs.declared.state.Store.{Store}
 use Rattle.clauses.specs.declared.state.Clause.{Clause}
 use Rattle.clauses.specs.Clauses.{clauseAt, clausesOf, clause-is, length-clauses}
-use Rattle.clauses.specs.State.{clauseOf, Sound, UnitStep}
+use Rattle.clauses.specs.State.{clauseOf, SoundStore}
 use Rattle.clauses.specs.StepLaws.{has-room, assign-step, literal-range}
 use Rattle.clauses.specs.ClauseLaws.{length-literals}
+use Rattle.watches.specs.State.{UnitStep}
 
 -- ---- a literal
 
-module _ (m : Store) (t : Trail) (w : List ℕ) (l reason : ℕ) (s : Sound m t w []) {x : Value} (e : valueOf x ≡ Sat.value (assignmentOf t w) l) where
+module _ (m : Store) (t : Trail) (w : List ℕ) (l reason : ℕ) (s : SoundStore m t w []) {x : Value} (e : valueOf x ≡ Sat.value (assignmentOf t w) l) where
   pub unit-true : x ≡ Values.True → UnitStep m t w (record { ok = true; trail = t }) w × (enqueued true (assignmentOf t w) ≡ Sat.enqueue (assignmentOf t w) l (wordReason reason))
   unfolding enqueued Sat.enqueue Sat.enqueueValued
   unit-true k = (record { frame = unchanged-none assignmentRegions w; sound = s; variables = refl; level = refl; head = refl }, rw (← e, k))
@@ -39,7 +41,7 @@ module _ (m : Store) (t : Trail) (w : List ℕ) (l reason : ℕ) (s : Sound m t 
     free : Sat.value (assignmentOf t w) l ≡ Sat.Unassigned
     free = sym e ∙ ap valueOf k
 
-    pub unit-room : t .length < 65536
+    pub unit-room : t .length < SMALL
     unit-room = has-room m t w l (s .formed) b free
 
     pub unit-assigned : (r : Trail) (w′ : List ℕ) → Assigns t w l reason r w′ → UnitStep m t w (record { ok = true; trail = r }) w′ × (enqueued true (assignmentOf r w′) ≡ Sat.enqueue (assignmentOf t w) l (wordReason reason))
@@ -62,7 +64,7 @@ unit-not t id [] n = refl
 unit-not t id (x ∷ []) n = absurd (n refl)
 unit-not t id (x ∷ y ∷ ys) n = refl
 
-module _ (m : Store) (t : Trail) (w : List ℕ) (id : ℕ) (s : Sound m t w []) (h : id < m .clauses) (c : Clause) (e : clauseOf c w ≡ clauseAt w id) (g : c .end ≡ getD (region 2097152 w) (id + 1) 0) where
+module _ (m : Store) (t : Trail) (w : List ℕ) (id : ℕ) (s : SoundStore m t w []) (h : id < m .clauses) (c : Clause) (e : clauseOf c w ≡ clauseAt w id) (g : c .end ≡ getD (region CLAUSE-STARTS w) (id + 1) 0) where
   size : length (clauseAt w id .literals) ≡ c .end - c .start
   size = rw e at (length-literals c w (s .formed .ready .words) (omega (arith, s .formed .within (id + 1) (omega arith), s .formed .literals)))
 
@@ -112,7 +114,7 @@ pub record Units (m : Store) (t₀ : Trail) (w₀ : List ℕ) (t : Trail) (w : L
   pub left : Sat.initializeUnits id (drop id (clausesOf (m .clauses) w₀)) (some (assignmentOf t w)) ≡ Sat.initializeUnits 0 (clausesOf (m .clauses) w₀) (some (assignmentOf t₀ w₀))
 
 module _ (m : Store) (t₀ : Trail) (w₀ : List ℕ) where
-  pub units-start : Sound m t₀ w₀ [] → Units m t₀ w₀ t₀ w₀ 0
+  pub units-start : SoundStore m t₀ w₀ [] → Units m t₀ w₀ t₀ w₀ 0
   units-start s = record { most = omega arith; step = record { frame = unchanged-none assignmentRegions w₀; sound = s; variables = refl; level = refl; head = refl }; left = refl }
 
   module _ (t : Trail) (w : List ℕ) (id : ℕ) (u : Units m t₀ w₀ t w id) where
@@ -124,7 +126,7 @@ module _ (m : Store) (t₀ : Trail) (w₀ : List ℕ) where
         (k : enqueued (r .ok) (assignmentOf (r .trail) w′) ≡ Sat.initializeUnit (assignmentOf t w) id (clauseAt w id .literals)) where
       same-clause : getD (clausesOf (m .clauses) w₀) id Sat.emptyClause ≡ clauseAt w id
       unfolding clauseAt
-      same-clause = clause-is (m .clauses) w₀ id Sat.emptyClause h ∙ rw (u .step .frame .same 2097152 refl, u .step .frame .same 2621440 refl, u .step .frame .same 4718592 refl)
+      same-clause = clause-is (m .clauses) w₀ id Sat.emptyClause h ∙ rw (u .step .frame .same CLAUSE-STARTS refl, u .step .frame .same WATCHED refl, u .step .frame .same LITERALS refl)
 
       left : Sat.initializeUnits (id + 1) (drop (id + 1) (clausesOf (m .clauses) w₀)) (enqueued (r .ok) (assignmentOf (r .trail) w′)) ≡ Sat.initializeUnits 0 (clausesOf (m .clauses) w₀) (some (assignmentOf t₀ w₀))
       left = rw (k, ← same-clause) (sym (units-more id (clausesOf (m .clauses) w₀) (assignmentOf t w) (omega (arith, length-clauses (m .clauses) w₀))) ∙ u .left)

@@ -9,6 +9,7 @@ use native.Mathlib.Omega.{arith}
 use native.Mathlib.Numerals.{add-one}
 use borrow.Author.Tests.{eq-eqb, ne-eqb}
 use lib.ListN.{getD, length}
+use Rattle.words.specs.Layout.{SMALL, CELLS, POOL, WATCH-COUNTS, CLAUSE-STARTS, WATCHED, LINKS}
 use Rattle.words.specs.Region.{region, stored, stored-out}
 use Rattle.model.specs.Sat as Sat
 use Rattle.model.specs.Sat.{Solver}
@@ -19,13 +20,14 @@ use Rattle.assignment.specs.declared.state.Value.{Value}
 use Rattle.assignment.specs.declared.state.Value.the-variants as Values
 use Rattle.clauses.specs.declared.state.Store.{Store}
 use Rattle.clauses.specs.declared.state.Clause.{Clause}
-use Rattle.clauses.specs.declared.state.Pending.{Pending}
-use Rattle.clauses.specs.declared.state.Propagation.{Propagation}
+use Rattle.watches.specs.declared.state.Pending.{Pending}
+use Rattle.watches.specs.declared.state.Propagation.{Propagation}
 use Rattle.clauses.specs.Queue.{queuesOf, pushedWords, walk}
 use Rattle.clauses.specs.Sound.{lists, drop-sound}
 use Rattle.clauses.specs.Clauses.{clauseAt, half, count-fits, clause-is}
-use Rattle.clauses.specs.State.{solverOf, clauseOf, pendingOf, restOf, Formed, Sound, Visiting, Visits, slotOf, searchRegions}
+use Rattle.clauses.specs.State.{solverOf, clauseOf, Formed, SoundStore, slotOf, searchRegions}
 use Rattle.clauses.specs.StepLaws.{push-step, push-solver, push-pending, replacedWords, replace-step, replace-pending, replace-solver, has-room, assign-step, assign-solver, step-both, same-assignment, pushed-unchanged, literal-range}
+use Rattle.watches.specs.State.{pendingOf, restOf, Visiting, Visits}
 
 walk-cons : (ls : List ℕ) (n c : ℕ) → 0 < n → walk ls n c ≡ c ∷ walk ls (n - 1) (getD ls c 0)
 unfolding walk
@@ -35,10 +37,10 @@ walk-cons ls (suc n) c h = let e : suc n - 1 ≡ n = omega arith in rw e
 -- the pending cells are the first and the rest
 pub pending-cons : (d : Pending) (w : List ℕ) → 0 < d .left → pendingOf d w ≡ d .cell ∷ restOf d w w
 unfolding pendingOf restOf
-pending-cons d w h = walk-cons (region 3670016 w) (d .left) (d .cell) h
+pending-cons d w h = walk-cons (region LINKS w) (d .left) (d .cell) h
 
 module _ (m : Store) (t : Trail) (w : List ℕ) (d : Pending) (v : Visiting m t w d) where
-  pub visit-sound : Sound m t w (d .cell ∷ restOf d w w)
+  pub visit-sound : SoundStore m t w (d .cell ∷ restOf d w w)
   visit-sound = rw (pending-cons d w (v .some)) at (v .sound)
 
   -- the clause of the first pending cell is one of the clauses
@@ -47,19 +49,19 @@ module _ (m : Store) (t : Trail) (w : List ℕ) (d : Pending) (v : Visiting m t 
   clause-there = omega (arith, visit-sound .queues .below 0 (d .cell) (inl refl))
 
   -- any queue has room for one cell more
-  pub queue-room : (l : ℕ) → getD (region 1966080 w) l 0 < 1048577
+  pub queue-room : (l : ℕ) → getD (region WATCH-COUNTS w) l 0 < CELLS + 1
   queue-room l = count-fits w (v .sound .formed .ready .words) (m .clauses * 2) (omega (arith, v .sound .formed .clauses)) _ (visit-sound .queues) l
 
   -- also after a change of a watched place
-  pub moved-room : (u : List ℕ) (j i : ℕ) → u ≡ stored 2621440 w j i → (l : ℕ) → getD (region 1966080 u) l 0 < 1048577
-  moved-room u j i e l = rw (e, stored-out 1966080 w 2621440 j i refl) (queue-room l)
+  pub moved-room : (u : List ℕ) (j i : ℕ) → u ≡ stored WATCHED w j i → (l : ℕ) → getD (region WATCH-COUNTS u) l 0 < CELLS + 1
+  moved-room u j i e l = rw (e, stored-out WATCH-COUNTS w WATCHED j i refl) (queue-room l)
 
   module _ (f : ℕ) where
     pub kept-visits : Visits m t w d t (pushedWords w f (d .cell))
     unfolding restOf
     kept-visits = record {
       step = push-step m t w f (d .cell) (restOf d w w) visit-sound;
-      same = push-pending m t w f (d .cell) (restOf d w w) visit-sound (d .left - 1) (getD (region 3670016 w) (d .cell) 0) refl;
+      same = push-pending m t w f (d .cell) (restOf d w w) visit-sound (d .left - 1) (getD (region LINKS w) (d .cell) 0) refl;
     }
 
     -- the clause kept
@@ -95,7 +97,7 @@ module _ (m : Store) (t : Trail) (w : List ℕ) (d : Pending) (v : Visiting m t 
         free-after : Sat.value (assignmentOf t u) o ≡ Sat.Unassigned
         free-after = sym g ∙ ap valueOf k
 
-        pub assign-room : t .length < 65536
+        pub assign-room : t .length < SMALL
         assign-room = has-room m t u o formed-after b free-after
 
         pub enqueued-assigned : (r : Trail) (z : List ℕ) → Assigns t u o (half (d .cell) + 1) r z
@@ -106,7 +108,7 @@ module _ (m : Store) (t : Trail) (w : List ℕ) (d : Pending) (v : Visiting m t 
             let v1 : Visits m t w d t u = rw e kept-visits in (
               record {
                 step = step-both m t w t u r z (restOf d w w) (restOf d w w) (v1 .step) (assign-step m t u o formed-after b free-after (half (d .cell) + 1) r z a (restOf d w w) (v1 .step .sound .queues));
-                same = rw (a .frame .same 3670016 refl) (v1 .same);
+                same = rw (a .frame .same LINKS refl) (v1 .same);
               },
               λ s. rw (← value-kept, free-after) (ap (λ (q : Solver). Sat.propagating q) (
                   assign-solver m t u o formed-after b free-after (half (d .cell) + 1) r z a s
@@ -121,7 +123,7 @@ module _ (m : Store) (t : Trail) (w : List ℕ) (d : Pending) (v : Visiting m t 
     replaced = (
       record {
         step = replace-step m t w (d .cell) k i l (restOf d w w) visit-sound;
-        same = replace-pending m t w (d .cell) k i l (restOf d w w) visit-sound (d .left - 1) (getD (region 3670016 w) (d .cell) 0) refl;
+        same = replace-pending m t w (d .cell) k i l (restOf d w w) visit-sound (d .left - 1) (getD (region LINKS w) (d .cell) 0) refl;
       },
       λ s. replace-solver m t w (d .cell) k i l (restOf d w w) visit-sound (clauseOf c w) b clause-there e g s,
     )
@@ -224,7 +226,7 @@ module _ (m : Store) (t : Trail) (w : List ℕ) (d : Pending) (v : Visiting m t 
   }
 
   -- its end is within the pool
-  pub end-fits : c .end ≡ getD (region 2097152 w) (half (d .cell) + 1) 0 → c .end ≤ 786432
+  pub end-fits : c .end ≡ getD (region CLAUSE-STARTS w) (half (d .cell) + 1) 0 → c .end ≤ POOL
   end-fits g = let h = clause-there m t w d v in omega (arith, v .sound .formed .within (half (d .cell) + 1) (omega arith), v .sound .formed .literals)
 
   -- a literal of it is one of the variables'

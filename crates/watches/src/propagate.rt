@@ -3,16 +3,18 @@ ghost use mathlib.Core.Path.{_≡_};
 ghost use mathlib.Core.List.{[], map};
 ghost use Prim.Native.Nat.{_+_, _-_, _<_, _≤_};
 ghost use lib.ListN.{length, getD};
+ghost use Rattle.words.specs.Layout.{LENT, LINKS};
 ghost use Rattle.words.specs.Region.{region};
 ghost use Rattle.model.specs.Sat as Sat;
 ghost use Rattle.clauses.specs.Clauses.{half};
-ghost use Rattle.clauses.specs.State.{solverOf, trailOf, propagationOf, pendingOf, appended, advanced, Propagates, Sound, Step, Taken, Visiting, Visits};
+ghost use Rattle.clauses.specs.State.{solverOf, SoundStore, Step};
+ghost use Rattle.watches.specs.State.{trailOf, propagationOf, pendingOf, appended, advanced, Propagates, Taken, Visiting, Visits};
+use crate::state::Pending;
+use crate::state::Propagation;
 use crate::visit::visit;
 use assignment::state::Trail;
 use clauses::clause::negate;
 use clauses::queue::push_back;
-use clauses::state::Pending;
-use clauses::state::Propagation;
 use clauses::state::Store;
 use words::CELLS;
 use words::DOUBLE;
@@ -27,8 +29,8 @@ use words::wide;
 
 // The pending cells after the first.
 fn rest(words: &[u32], d: Pending) -> Pending
-    requires { ⌜ (8388608 ≤ length (now words)) × (0 < d .left) ⌝ }
-    ensures { λ r. ⌜ (r .cell ≡ getD (region 3670016 (now (words .entry))) (d .cell) 0) × (r .left ≡ d .left - 1) ⌝ }
+    requires { ⌜ (LENT ≤ length (now words)) × (0 < d .left) ⌝ }
+    ensures { λ r. ⌜ (r .cell ≡ getD (region LINKS (now (words .entry))) (d .cell) 0) × (r .left ≡ d .left - 1) ⌝ }
 {
     let cell = fetch(words, LINKS, CELLS, wide(d.cell));
     Pending {
@@ -48,7 +50,7 @@ fn keep(words: &mut [u32], store: Store, t: Trail, f: u32, d: Pending)
 
 // The pending clauses go back to the queue of f, in order.
 fn restore(words: &mut [u32], store: Store, t: Trail, f: u32, first: Pending)
-    requires { ⌜ Sound store t (now words) (pendingOf first (now words)) ⌝ }
+    requires { ⌜ SoundStore store t (now words) (pendingOf first (now words)) ⌝ }
     ensures { λ _. ⌜ Step store t (now (words .entry)) t (now (words .exit)) []
         × ((s : Sat.Solver) → solverOf s store t (now (words .exit)) ≡ appended f (map half (pendingOf first (now (words .entry)))) (solverOf s store t (now (words .entry)))) ⌝ }
 {
@@ -68,7 +70,7 @@ fn visit_pending(
     f: u32,
     first: Pending,
 ) -> Propagation
-    requires { ⌜ Sound store start (now words) (pendingOf first (now words)) ⌝ }
+    requires { ⌜ SoundStore store start (now words) (pendingOf first (now words)) ⌝ }
     ensures { λ r. ⌜ Step store start (now (words .entry)) (trailOf r) (now (words .exit)) []
         × ((s : Sat.Solver) → propagationOf s store (now (words .exit)) r ≡ Sat.visitPending f (map half (pendingOf first (now (words .entry)))) (Sat.propagating (solverOf s store start (now (words .entry))))) ⌝ }
 {
@@ -95,7 +97,7 @@ fn visit_pending(
 
 // The queue of f taken whole: its cells are pending. There is none where f is no literal of the variables.
 fn take_watches(words: &mut [u32], store: Store, t: Trail, f: u32) -> Pending
-    requires { ⌜ Sound store t (now words) [] ⌝ }
+    requires { ⌜ SoundStore store t (now words) [] ⌝ }
     ensures { λ r. ⌜ Taken store t (now (words .entry)) f r (now (words .exit)) ⌝ }
 {
     let l = wide(f);
@@ -110,7 +112,7 @@ fn take_watches(words: &mut [u32], store: Store, t: Trail, f: u32) -> Pending
 
 // One round: the literal at the head of the trail has made its negation false.
 fn propagate_round(words: &mut [u32], store: Store, t: Trail) -> Propagation
-    requires { ⌜ Sound store t (now words) [] × (t .head < t .length) ⌝ }
+    requires { ⌜ SoundStore store t (now words) [] × (t .head < t .length) ⌝ }
     ensures { λ r. ⌜ Step store (advanced t) (now (words .entry)) (trailOf r) (now (words .exit)) []
         × ((s : Sat.Solver) → propagationOf s store (now (words .exit)) r ≡ Sat.propagateRound (solverOf s store t (now (words .entry)))) ⌝ }
 {
@@ -128,7 +130,7 @@ fn propagate_round(words: &mut [u32], store: Store, t: Trail) -> Propagation
 
 // Rounds until the end of the trail or a conflict.
 pub fn propagate(words: &mut [u32], store: Store, start: Trail) -> Propagation
-    requires { ⌜ Sound store start (now words) [] ⌝ }
+    requires { ⌜ SoundStore store start (now words) [] ⌝ }
     ensures { λ r. ⌜ Propagates store start (now (words .entry)) (trailOf r) (now (words .exit))
         × ((s : Sat.Solver) → propagationOf s store (now (words .exit)) r ≡ Sat.propagate (solverOf s store start (now (words .entry)))) ⌝ }
 {

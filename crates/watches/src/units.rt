@@ -6,7 +6,8 @@ ghost use Prim.Native.Nat.{_+_, _*_, _<_};
 ghost use Rattle.model.specs.Sat as Sat;
 ghost use Rattle.assignment.specs.State.{assignmentOf, enqueued, wordReason};
 ghost use Rattle.clauses.specs.Clauses.{clauseAt, clausesOf};
-ghost use Rattle.clauses.specs.State.{Sound, UnitStep};
+ghost use Rattle.clauses.specs.State.{SoundStore};
+ghost use Rattle.watches.specs.State.{UnitStep};
 use assignment::state::Enqueued;
 use assignment::state::Trail;
 use assignment::state::Value;
@@ -19,7 +20,7 @@ use words::wide;
 
 // A literal of the variables made true with its reason; not ok where it is false.
 pub fn enqueue(words: &mut [u32], store: Store, t: Trail, l: u32, reason: u32) -> Enqueued
-    requires { ⌜ Sound store t (now words) [] × (l < t .variables * 2) ⌝ }
+    requires { ⌜ SoundStore store t (now words) [] × (l < t .variables * 2) ⌝ }
     ensures { λ r. ⌜ UnitStep store t (now (words .entry)) r (now (words .exit))
         × (enqueued (r .ok) (assignmentOf (r .trail) (now (words .exit))) ≡ Sat.enqueue (assignmentOf t (now (words .entry))) l (wordReason reason)) ⌝ }
 {
@@ -41,7 +42,7 @@ pub fn enqueue(words: &mut [u32], store: Store, t: Trail, l: u32, reason: u32) -
 
 // The clause with number id enqueued if it has one literal.
 fn initialize_unit(words: &mut [u32], store: Store, t: Trail, id: usize) -> Enqueued
-    requires { ⌜ Sound store t (now words) [] × (id < store .clauses) ⌝ }
+    requires { ⌜ SoundStore store t (now words) [] × (id < store .clauses) ⌝ }
     ensures { λ r. ⌜ UnitStep store t (now (words .entry)) r (now (words .exit))
         × (enqueued (r .ok) (assignmentOf (r .trail) (now (words .exit))) ≡ Sat.initializeUnit (assignmentOf t (now (words .entry))) id (clauseAt (now (words .entry)) id .literals)) ⌝ }
 {
@@ -55,7 +56,7 @@ fn initialize_unit(words: &mut [u32], store: Store, t: Trail, id: usize) -> Enqu
 
 // The unit clauses enqueued in order, until one fails.
 pub fn initialize_units(words: &mut [u32], store: Store, start: Trail) -> Enqueued
-    requires { ⌜ Sound store start (now words) [] ⌝ }
+    requires { ⌜ SoundStore store start (now words) [] ⌝ }
     ensures { λ r. ⌜ UnitStep store start (now (words .entry)) r (now (words .exit))
         × (enqueued (r .ok) (assignmentOf (r .trail) (now (words .exit))) ≡ Sat.initializeUnits 0 (clausesOf (store .clauses) (now (words .entry))) (some (assignmentOf start (now (words .entry))))) ⌝ }
 {

@@ -3,10 +3,14 @@ ghost use mathlib.Core.Path.{_≡_};
 ghost use mathlib.Core.Option.{some};
 ghost use Prim.Native.Nat.{_+_, _*_, _/_, _<_, _≤_};
 ghost use lib.ListN.{length};
+ghost use Rattle.words.specs.Layout.{LENT, POOL};
 ghost use Rattle.model.specs.Sat as Sat;
 ghost use Rattle.assignment.specs.State.{assignmentOf};
 ghost use Rattle.clauses.specs.Clauses.{clauseAt, half};
-ghost use Rattle.clauses.specs.State.{solverOf, clauseOf, trailOf, propagationOf, slotOf, Visiting, Visits};
+ghost use Rattle.clauses.specs.State.{solverOf, clauseOf, slotOf};
+ghost use Rattle.watches.specs.State.{trailOf, propagationOf, Visiting, Visits};
+use crate::state::Pending;
+use crate::state::Propagation;
 use assignment::state::Trail;
 use assignment::state::Value;
 use assignment::trail::assign;
@@ -16,9 +20,7 @@ use clauses::clause::literal_at;
 use clauses::clause::replacement;
 use clauses::queue::push_back;
 use clauses::state::Clause;
-use clauses::state::Pending;
 use clauses::state::Place;
-use clauses::state::Propagation;
 use clauses::state::Store;
 use words::CELLS;
 use words::WATCHED;
@@ -73,7 +75,7 @@ fn replace_watch(
 
 // Whether a literal is true.
 pub fn is_true(words: &[u32], t: Trail, l: u32) -> bool
-    requires { ⌜ 8388608 ≤ length (now words) ⌝ }
+    requires { ⌜ LENT ≤ length (now words) ⌝ }
     ensures { λ r. ⌜ r ≡ Sat.isTrue (Sat.value (assignmentOf t (now (words .entry))) l) ⌝ }
 {
     match value(words, t, l) {
@@ -94,7 +96,7 @@ fn visit_other(
     slot: u32,
     other: u32,
 ) -> Propagation
-    requires { ⌜ Visiting store t (now words) d × (clauseOf c (now words) ≡ clauseAt (now words) (half (d .cell))) × (slot < 2) × (other < t .variables * 2) × (c .end ≤ 786432) ⌝ }
+    requires { ⌜ Visiting store t (now words) d × (clauseOf c (now words) ≡ clauseAt (now words) (half (d .cell))) × (slot < 2) × (other < t .variables * 2) × (c .end ≤ POOL) ⌝ }
     requires { ⌜ other ≡ Sat.otherLiteral (clauseOf c (now words)) (slotOf slot) ⌝ }
     ensures { λ r. ⌜ Visits store t (now (words .entry)) d (trailOf r) (now (words .exit))
         × ((s : Sat.Solver) → propagationOf s store (now (words .exit)) r ≡ Sat.visitOther f (half (d .cell)) (solverOf s store t (now (words .entry))) (clauseOf c (now (words .entry))) (slotOf slot) (Sat.value (assignmentOf t (now (words .entry))) other)) ⌝ }

@@ -2,7 +2,7 @@
 use mathlib.Core.Path.{_≡_, refl, ap, sym, _∙_}
 use mathlib.Core.Bool.{Bool, true, false, _||_, cond}
 use mathlib.Core.List.{List, [], _∷_, _++_}
-use mathlib.Core.Logic.{⊎-elim, _⊎_}
+use mathlib.Core.Logic.{⊎-elim}
 use Prim.Native.Nat.{ℕ, zero, suc, _+_, _-_, _≤_, _<_}
 use native.Mathlib.Omega.{arith}
 use native.Mathlib.Numerals.{add-one}
@@ -10,13 +10,14 @@ use lib.Dec.{leb, ltb}
 use borrow.Author.Tests.{leb-true, ltb-true, ltb-false}
 use lib.ListN.{length, take, drop, set, getD, length-take, length-drop, length-set, List·getD-eq-default}
 use Rattle.facts.specs.Bools.{or-cases}
+use Rattle.words.specs.Layout.{SMALL, DOUBLE, STARTS, CELLS, POOL, AND-HEADS, CLAUSE-STARTS, WATCHED, LITERALS}
 use Rattle.words.specs.Fill.{filled, filled-suc, filled-none}
 use lib.Seq.{take-set-le, take-set-lt, take-suc-set, drop-set-lt, drop-set-add, getD-take, getD-drop, set-out}
 
 -- how many words the region that starts at `base` has: the one table of sizes
 abbrev pub sizeOf : ℕ → ℕ
 sizeOf base =
-    cond (ltb base 1572864) 65536 (cond (ltb base 2097152) 131072 (cond (ltb base 2621440) 524288 (cond (ltb base 4718592) 1048576 786432)))
+    cond (ltb base AND-HEADS) SMALL (cond (ltb base CLAUSE-STARTS) DOUBLE (cond (ltb base WATCHED) STARTS (cond (ltb base LITERALS) CELLS POOL)))
 
 unfoldable pub region : ℕ → List ℕ → List ℕ
 region base words = take (sizeOf base) (drop base words)

@@ -1,14 +1,34 @@
 // The lent words: the layout of their regions, and total accessors. Everything else reaches lent words through this crate.
+//
+// The 128 units of 65,536 words that are lent, and what is free among them (78 are used, 50 are free):
+//
+//     units      words                   regions
+//     0 to 17    0 to 1179647            the 18 regions of 65,536 words, from GRAPH_LHS to LEARNED
+//     18 to 23   1179648 to 1572863      free: 6 units
+//     24 to 31   1572864 to 2097151      the 4 regions of 131,072 words, from AND_HEADS to WATCH_COUNTS
+//     32 to 39   2097152 to 2621439      CLAUSE_STARTS
+//     40 to 55   2621440 to 3670015      WATCHED
+//     56 to 71   3670016 to 4718591      LINKS
+//     72 to 83   4718592 to 5505023      LITERALS
+//     84 to 127  5505024 to 8388607      free: 44 units
+//
+// In FRAMES the rows of cycles 0 to 64 take 33,280 words; the other 32,256 are free, and so are words 385 to 511 of each row.
+// A new region needs a name here and in specs/Layout.antt; its size by its base is what `sizeOf` of specs/Region.antt says.
 ghost use mathlib.Core.Path.{_≡_};
 ghost use Prim.Native.Nat.{_+_, _<_, _≤_};
 ghost use lib.ListN.{length, getD, replicate};
 ghost use lib.Ieee.{fin};
 ghost use lib.IntN.{pos};
 ghost use mathlib.Core.Bool.{false};
+ghost use Rattle.words.specs.Layout.{LENT};
 ghost use Rattle.words.specs.Region.{region, sizeOf, stored, cleared};
 
 // How many words a check is lent at least: 128 units of 65,536.
 pub const LENT: usize = 8388608;
+// How many nodes a graph has at most, and how many variables and scores a search: a word each in a region of SMALL words.
+pub const MOST_NODES: usize = 65536;
+// How many literals a search learns at most: what the regions of the clauses have room for.
+pub const MOST_LEARNED: usize = 262144;
 
 // ---- regions of 65,536 words, one for each node, variable or trail place
 
@@ -30,7 +50,7 @@ pub const GATE_LHS: usize = 327680;
 pub const GATE_RHS: usize = 393216;
 // The literal in the proof graph of each node of an imported graph; while a design is lowered, the variable of each register output by its net.
 pub const IMPORTED: usize = 458752;
-// The literals of inputs, outputs and mismatches of each cycle.
+// The literals of inputs, outputs and mismatches of each cycle: a row of ROW words for each, with the inputs at its beginning.
 pub const FRAMES: usize = 524288;
 // The literal of each net.
 pub const NETS: usize = 589824;
@@ -50,6 +70,17 @@ pub const TRAIL: usize = 983040;
 pub const LIMITS: usize = 1048576;
 
 pub const LEARNED: usize = 1114112;
+
+// ---- a row of FRAMES
+
+// How many words a cycle has.
+pub const ROW: usize = 512;
+// Where gold's outputs, gate's outputs and the mismatch stand in a row.
+pub const GOLD_OUTPUTS: usize = 128;
+
+pub const GATE_OUTPUTS: usize = 256;
+
+pub const MISMATCH: usize = 384;
 
 // ---- regions of 131,072 words, one for each literal
 
@@ -90,7 +121,7 @@ pub fn wide(x: u32) -> usize
 
 // A word of the region at `base`, of `size` words; 0 past its end.
 pub fn fetch(words: &[u32], base: usize, size: usize, i: usize) -> u32
-    requires { ⌜ (8388608 ≤ length (now words)) × (base + size ≤ 8388608) × (size ≡ sizeOf base) ⌝ }
+    requires { ⌜ (LENT ≤ length (now words)) × (base + size ≤ LENT) × (size ≡ sizeOf base) ⌝ }
     ensures { λ r. ⌜ r ≡ getD (region base (now (words .entry))) i 0 ⌝ }
 {
     if i < size { words[base + i] } else { 0 }
@@ -98,8 +129,8 @@ pub fn fetch(words: &[u32], base: usize, size: usize, i: usize) -> u32
 
 // A store into the region at `base`, of `size` words; nothing past its end. The words stay long enough for the next call.
 pub fn stash(words: &mut [u32], base: usize, size: usize, i: usize, value: u32)
-    requires { ⌜ (8388608 ≤ length (now words)) × (base + size ≤ 8388608) × (size ≡ sizeOf base) ⌝ }
-    ensures { λ _. ⌜ (now (words .exit) ≡ stored base (now (words .entry)) i value) × (8388608 ≤ length (now (words .exit))) ⌝ }
+    requires { ⌜ (LENT ≤ length (now words)) × (base + size ≤ LENT) × (size ≡ sizeOf base) ⌝ }
+    ensures { λ _. ⌜ (now (words .exit) ≡ stored base (now (words .entry)) i value) × (LENT ≤ length (now (words .exit))) ⌝ }
 {
     if i < size {
         words[base + i] = value;
@@ -108,8 +139,8 @@ pub fn stash(words: &mut [u32], base: usize, size: usize, i: usize, value: u32)
 
 // Clears the first `n` words of the region at `base`, of `size` words; nothing past its end.
 pub fn clear(words: &mut [u32], base: usize, size: usize, n: usize)
-    requires { ⌜ (8388608 ≤ length (now words)) × (base + size ≤ 8388608) × (size ≡ sizeOf base) ⌝ }
-    ensures { λ _. ⌜ (now (words .exit) ≡ cleared base (now (words .entry)) n) × (8388608 ≤ length (now (words .exit))) ⌝ }
+    requires { ⌜ (LENT ≤ length (now words)) × (base + size ≤ LENT) × (size ≡ sizeOf base) ⌝ }
+    ensures { λ _. ⌜ (now (words .exit) ≡ cleared base (now (words .entry)) n) × (LENT ≤ length (now (words .exit))) ⌝ }
 {
     let mut i: usize = 0;
     while i < n {

@@ -4,6 +4,7 @@ use mathlib.Core.List.{List}
 use Prim.Native.Nat.{ℕ, _-_, _<_, _≤_}
 use native.Mathlib.Omega.{arith}
 use lib.ListN.{length}
+use Rattle.words.specs.Layout.{IMPORTED}
 use Rattle.words.specs.Region.{stored}
 use Rattle.import.specs.Importing.{Importing, Sourced, importable, importing-more, importing-first}
 use borrow.Author.Needs.{needs}
@@ -14,7 +15,7 @@ use Rattle.import.proofs.import_aig.Tie as tie
 abbrev Inv-loop : tie.InvT-loop
 Inv-loop words₀ base count aig₀ i₀ words aig i =
     (0 < i) × (i ≤ count) × (length words ≡ length words₀)
-    × ((w : List ℕ) → words₀ ≡ stored 458752 w 0 0 → Sourced base count (aig₀ .count) w → Importing base count (aig₀ .count) w i (aig .count) words)
+    × ((w : List ℕ) → words₀ ≡ stored IMPORTED w 0 0 → Sourced base count (aig₀ .count) w → Importing base count (aig₀ .count) w i (aig .count) words)
 
 abbrev μ-loop : tie.MeasureT-loop
 μ-loop words₀ base count aig₀ i₀ words aig i = count - i

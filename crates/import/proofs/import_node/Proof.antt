@@ -3,6 +3,7 @@ use mathlib.Core.Path.{sym, _∙_}
 use Prim.Native.Nat.{_+_, _<_}
 use native.Mathlib.Omega.{arith}
 use lib.ListN.{getD}
+use Rattle.words.specs.Layout.{SMALL}
 use Rattle.words.specs.Region.{region}
 use Rattle.aig.specs.Side.{side-size}
 use Rattle.import.specs.Importing.{remap-inside, stepped-variable, stepped-and}
@@ -13,7 +14,7 @@ use Rattle.import.proofs.import_node.Tie as tie
 fetch-requires : tie.Need-fetch-requires
 fetch-requires c κs =
     let a = c .before .before in
-    (a .pre .ready .long, omega (arith, a .pre .high), sym (side-size (a .args .base + 65536) (omega (arith, a .pre .low)) (omega (arith, a .pre .high))))
+    (a .pre .ready .long, omega (arith, a .pre .high), sym (side-size (a .args .base + SMALL) (omega (arith, a .pre .low)) (omega (arith, a .pre .high))))
 
 returns : tie.Need-returns
 returns c =
@@ -27,7 +28,7 @@ fetch-requires-2 c κs =
     (a .pre .ready .long, omega (arith, a .pre .high), sym (side-size (a .args .base) (a .pre .low) (omega (arith, a .pre .high))))
 
 -- the larger literal is one
-conjunction : (c : tie.Else1) → let a = c .before .before .before .before .args in 0 < getD (region (a .base + 65536) (a .words .now)) (a .i) 0
+conjunction : (c : tie.Else1) → let a = c .before .before .before .before .args in 0 < getD (region (a .base + SMALL) (a .words .now)) (a .i) 0
 conjunction c =
     let f = c .before in
     omega (arith, f .fetch .ensures, c .if1 .left)

@@ -1,4 +1,4 @@
--- The call check and Induction's abstract check: refused exactly by Pair's refusals, and its numbers are status and depth. Assumes nothing.
+-- The check of two records and the call: refused exactly by Pair's refusals, else the outcome of the two designs; the call's numbers are status and depth. Assumes nothing.
 use Prim.Native.Nat.{ℕ}
 use native.Mathlib.Omega.{arith}
 use mathlib.Core.Path.{_≡_, refl, ap}
@@ -8,14 +8,17 @@ use lib.ListN.{length, replicate}
 use lib.Ieee.{Float}
 use Rattle.model.specs.Answers.{Refusal, Status, statusNumber, acceptedAnswer}
 use Rattle.model.specs.Answers as Answers
+use Rattle.model.specs.Options.{Options, toDepth}
 use Rattle.model.specs.Netlist.{Design}
+use Rattle.model.specs.Run.{initialBits}
 use Rattle.model.specs.Pair.{Lent, ReadPair, both, refusedPair, readPair, checkFault, checkRefusalOf, checkRefusal}
 use Rattle.model.specs.Induction.{refused, answered, unfinished, Accepts, Refuses}
 use Rattle.model.specs.Induction as Induction
 use Rattle.model.specs.Sat.{scoreZero}
 use Rattle.model.specs.Equivalence.{Verdict, Equivalent, NotEquivalent, Inconclusive, GaveUp, OutOfFuel}
-use Rattle.model.specs.Check.{checkDesigns, CheckOutcome, refusedCheck, acceptedCheck, checkPair, checkRead, checkOutcome, verdictAnswer, checkAnswer, traceAfter, clearedAfter, checkResult, lentOf, learnedLimit, check, verdictSays, outcomeSays, checkUnder, checked}
-use Rattle.laws.specs.Terms.{Numbered}
+use Rattle.model.specs.Check.{checkDesigns, CheckOutcome, refusedCheck, acceptedCheck, checkPair, checkRead, checkOutcome, verdictAnswer, checkAnswer, traceAfter, clearedAfter, CheckResult, checkResult, lentOf, check, verdictSays, outcomeSays, checked}
+use Rattle.laws.specs.Terms.{Numbered, checkedDesigns}
+use Rattle.laws.specs.Induction.Pairs.{Accepted, accepted-pair, free-of}
 
 -- ---- refusals
 
@@ -57,38 +60,51 @@ none-alike (Inconclusive d) = none-answered Answers.Inconclusive d
 none-alike (GaveUp d q) = none-answered Answers.GaveUp d
 none-alike OutOfFuel = none-unfinished
 
-pair-alike : (limit : ℕ) (gold gate : Design) (depth : ℕ) (o : Option Refusal) → Alike o (outcomeSays (checkPair limit gold gate depth o))
+pair-alike : (o : Options) (gold gate : Design) (r : Option Refusal) → Alike r (outcomeSays (checkPair o gold gate r))
 unfolding outcomeSays checkPair
-pair-alike limit gold gate depth (some r) = some-alike r
-pair-alike limit gold gate depth none = none-alike _
+pair-alike o gold gate (some r) = some-alike r
+pair-alike o gold gate none = none-alike _
 
-read-alike : (limit : ℕ) (p : ReadPair) (depth : ℕ) (lent : Lent) → Alike (checkRefusalOf p depth lent) (outcomeSays (checkRead limit p depth lent))
+read-alike : (o : Options) (p : ReadPair) (lent : Lent) → Alike (checkRefusalOf p o lent) (outcomeSays (checkRead o p lent))
 unfolding outcomeSays checkRead checkRefusalOf
-read-alike limit (refusedPair r) depth lent = some-alike r
-read-alike limit (both gold gate) depth lent = pair-alike limit gold gate depth (checkFault gold gate depth lent)
+read-alike o (refusedPair r) lent = some-alike r
+read-alike o (both gold gate) lent = pair-alike o gold gate (checkFault gold gate o lent)
 
-check-alike : (limit : ℕ) (a b : List ℕ) (depth : ℕ) (lent : Lent) → Alike (checkRefusal a b depth lent) (checkUnder limit a b depth lent)
-unfolding checkUnder checkOutcome checkRefusal
-check-alike limit a b depth lent = read-alike limit (readPair a b) depth lent
+check-alike : (a b : List ℕ) (o : Options) (lent : Lent) → Alike (checkRefusal a b o lent) (checked a b o lent)
+unfolding checked checkOutcome checkRefusal
+check-alike a b o lent = read-alike o (readPair a b) lent
 
 -- the check is answered only where no refusal applies
-pub check-accepts : (limit : ℕ) → Accepts (checkUnder limit)
-check-accepts limit a b D lent status d e = check-alike limit a b D lent .answered-none status d e
+pub check-accepts : Accepts checked
+check-accepts a b o lent status d e = check-alike a b o lent .answered-none status d e
 
 -- the check is refused exactly where a refusal applies, with the first that does
-pub check-refuses : (limit : ℕ) → Refuses (checkUnder limit)
-check-refuses limit a b D lent r = (check-alike limit a b D lent .refused-some r, check-alike limit a b D lent .some-refused r)
+pub check-refuses : Refuses checked
+check-refuses a b o lent r = (check-alike a b o lent .refused-some r, check-alike a b o lent .some-refused r)
 
--- ---- the lent memory
+-- ---- the outcome
 
-read-outcome : (limit : ℕ) (p : ReadPair) (depth : ℕ) (lent : Lent) (r : Refusal) → checkRefusalOf p depth lent ≡ some r → checkRead limit p depth lent ≡ refusedCheck r
+read-outcome : (o : Options) (p : ReadPair) (lent : Lent) (r : Refusal) → checkRefusalOf p o lent ≡ some r → checkRead o p lent ≡ refusedCheck r
 unfolding checkRead checkRefusalOf checkPair
-read-outcome limit (refusedPair q) depth lent r e = let f : q ≡ r = cc in ap refusedCheck f
-read-outcome limit (both gold gate) depth lent r e = rw e
+read-outcome o (refusedPair q) lent r e = let f : q ≡ r = cc in ap refusedCheck f
+read-outcome o (both gold gate) lent r e = rw e
+
+module _ (a b : List ℕ) (o : Options) (lent : Lent) (gold gate : Design) (free : checkRefusal a b o lent ≡ none) (pair : readPair a b ≡ both gold gate) where
+  -- where no refusal applies, the outcome is that of the two designs from their initial bits
+  pub outcome-is : checkOutcome a b o lent ≡ acceptedCheck (checkDesigns o gold gate (initialBits gold) (initialBits gate))
+  unfolding checkOutcome checkRead checkPair
+  outcome-is = rw (pair, free-of a b o lent gold gate free pair)
+
+  -- so it says what they say
+  pub checked-is : checked a b o lent ≡ checkedDesigns o gold gate (initialBits gold) (initialBits gate)
+  unfolding checked outcomeSays
+  checked-is = ap outcomeSays outcome-is
+
+-- ---- the call
 
 -- a refused check: the refusal, unused numbers 0, and every buffer as it was lent
 pub check-refused : (gold gate : List ℕ) (D : ℕ) (trace words : List ℕ) (scores : List Float) (r : Refusal)
-    → checkRefusal gold gate D (lentOf trace words scores) ≡ some r
+    → checkRefusal gold gate (toDepth D) (lentOf trace words scores) ≡ some r
     → check gold gate D trace words scores
     ≡ record {
       answer = record { number = r .number; side = r .side; place = r .place; status = 0; depth = 0; mismatch = 0; query = 0 };
@@ -98,28 +114,31 @@ pub check-refused : (gold gate : List ℕ) (D : ℕ) (trace words : List ℕ) (s
     }
 unfolding check checkResult checkOutcome checkRefusal checkAnswer traceAfter clearedAfter
 check-refused gold gate D trace words scores r e =
-    ap (λ (o : CheckOutcome). checkResult o trace words scores) (read-outcome learnedLimit (readPair gold gate) D (lentOf trace words scores) r e)
+    ap (λ (o : CheckOutcome). checkResult o trace words scores) (read-outcome (toDepth D) (readPair gold gate) (lentOf trace words scores) r e)
 
-pair-cleared : (limit : ℕ) (p : ReadPair) (depth : ℕ) (lent : Lent) → checkRefusalOf p depth lent ≡ none
-    → (v : Verdict) × (checkRead limit p depth lent ≡ acceptedCheck v)
-unfolding checkRead checkRefusalOf checkPair
-pair-cleared limit (refusedPair q) depth lent e = absurd (let z : _≡_ {A = ℕ} 0 1 = cc in omega arith)
-pair-cleared limit (both gold gate) depth lent e = (checkDesigns limit gold gate depth .verdict, rw e)
+-- an accepted call's result is that of the two designs' outcome
+pub call-is : (a b : List ℕ) (D : ℕ) (trace words : List ℕ) (scores : List Float) (gold gate : Design)
+    → checkRefusal a b (toDepth D) (lentOf trace words scores) ≡ none → readPair a b ≡ both gold gate
+    → check a b D trace words scores ≡ checkResult (acceptedCheck (checkDesigns (toDepth D) gold gate (initialBits gold) (initialBits gate))) trace words scores
+unfolding check
+call-is a b D trace words scores gold gate free pair =
+    ap (λ (o : CheckOutcome). checkResult o trace words scores) (outcome-is a b (toDepth D) (lentOf trace words scores) gold gate free pair)
 
 -- after an accepted check words and scores are zero over their whole length
 pub check-cleared : (gold gate : List ℕ) (D : ℕ) (trace words : List ℕ) (scores : List Float)
-    → checkRefusal gold gate D (lentOf trace words scores) ≡ none
+    → checkRefusal gold gate (toDepth D) (lentOf trace words scores) ≡ none
     → (check gold gate D trace words scores .words ≡ replicate (length words) 0)
     × (check gold gate D trace words scores .scores ≡ replicate (length scores) scoreZero)
-unfolding check checkResult checkOutcome checkRefusal clearedAfter
-check-cleared gold gate D trace words scores e =
-    let v = pair-cleared learnedLimit (readPair gold gate) D (lentOf trace words scores) e in
-    (ap (λ (o : CheckOutcome). checkResult o trace words scores .words) (v .1), ap (λ (o : CheckOutcome). checkResult o trace words scores .scores) (v .1))
+unfolding checkResult clearedAfter
+check-cleared a b D trace words scores e =
+    let k : Accepted a b (toDepth D) (lentOf trace words scores) = accepted-pair a b (toDepth D) (lentOf trace words scores) e in
+    let c = call-is a b D trace words scores (k .gold) (k .gate) e (k .pair) in
+    (ap (λ (r : CheckResult). r .words) c, ap (λ (r : CheckResult). r .scores) c)
 
 -- ---- the numbers of the answer
 
 verdict-numbered : (v : Verdict) (status : Status) (d : ℕ) → verdictSays v ≡ answered status d → Numbered (verdictAnswer v) status d
-unfolding verdictSays verdictAnswer acceptedAnswer statusNumber
+unfolding verdictSays verdictAnswer acceptedAnswer
 verdict-numbered (Equivalent k) status d e = let f : Answers.Equivalent ≡ status = cc in let g : k ≡ d = cc in record { number = refl; status-number = ap statusNumber f; depth = g }
 verdict-numbered (NotEquivalent k m bytes) status d e = let f : Answers.NotEquivalent ≡ status = cc in let g : k ≡ d = cc in record { number = refl; status-number = ap statusNumber f; depth = g }
 verdict-numbered (Inconclusive k) status d e = let f : Answers.Inconclusive ≡ status = cc in let g : k ≡ d = cc in record { number = refl; status-number = ap statusNumber f; depth = g }
@@ -129,10 +148,10 @@ verdict-numbered OutOfFuel status d e = absurd (let z : _≡_ {A = ℕ} 0 1 = cc
 outcome-numbered : (o : CheckOutcome) (status : Status) (d : ℕ) → outcomeSays o ≡ answered status d → Numbered (checkAnswer o) status d
 unfolding outcomeSays checkAnswer
 outcome-numbered (refusedCheck r) status d e = absurd (let z : _≡_ {A = ℕ} 0 1 = cc in omega arith)
-outcome-numbered (acceptedCheck v) status d e = verdict-numbered v status d e
+outcome-numbered (acceptedCheck o) status d e = verdict-numbered (o .verdict) status d e
 
 -- what the abstract check answers is what the call answers
 pub check-numbered : (gold gate : List ℕ) (D : ℕ) (trace words : List ℕ) (scores : List Float) (status : Status) (d : ℕ)
-    → checked gold gate D (lentOf trace words scores) ≡ answered status d → Numbered (check gold gate D trace words scores .answer) status d
-unfolding check checkResult checked checkUnder
-check-numbered gold gate D trace words scores status d e = outcome-numbered (checkOutcome learnedLimit gold gate D (lentOf trace words scores)) status d e
+    → checked gold gate (toDepth D) (lentOf trace words scores) ≡ answered status d → Numbered (check gold gate D trace words scores .answer) status d
+unfolding check checkResult checked
+check-numbered gold gate D trace words scores status d e = outcome-numbered (checkOutcome gold gate (toDepth D) (lentOf trace words scores)) status d e

@@ -7,43 +7,45 @@ use mathlib.Core.List.{List, List·Memᴰ}
 use mathlib.Core.Option.{Option, none, some}
 use lib.Ieee.{Float}
 use Rattle.model.specs.Answers.{Refusal, Status, Equivalent, NotEquivalent, GaveUp, statusNumber}
+use Rattle.model.specs.Options.{toDepth}
 use Rattle.model.specs.Pair.{Lent, checkRefusal}
 use Rattle.model.specs.Induction.{answered, Checked, goldFirst, Chain, Joined}
-use Rattle.model.specs.Check.{lentOf, learnedLimit, check, checkUnder, checked}
+use Rattle.model.specs.Check.{lentOf, check, checked}
 use Rattle.laws.specs.Terms.{Numbered}
-use Rattle.laws.specs.Check.Call.{check-refuses, check-refused, check-numbered}
+use Rattle.laws.specs.Induction.Pairs.{refusal-swap}
+use Rattle.laws.specs.Check.Call.{check-refused, check-numbered}
 use Rattle.laws.specs.Check.Self.{check-self}
-use Rattle.laws.specs.Check.Sound.{check-swap, check-chain}
+use Rattle.laws.specs.Check.Records.{check-swap, check-chain}
 use Rattle.laws.specs.Check.Ending.{check-answers}
 use Rattle.laws.specs.Check.Refusals.{check-real}
 use Rattle.laws.specs.Check.Numbers.{called, call-checked}
 
 module _ (a b : List ℕ) (D : ℕ) (trace words : List ℕ) (scores : List Float) where
-  refusal-number : (o : Option Refusal) → checkRefusal a b D (lentOf trace words scores) ≡ o → check a b D trace words scores .answer .number ≡ 0 → o ≡ none
+  refusal-number : (o : Option Refusal) → checkRefusal a b (toDepth D) (lentOf trace words scores) ≡ o → check a b D trace words scores .answer .number ≡ 0 → o ≡ none
   refusal-number none e h = refl
   refusal-number (some r) e h =
       let q : check a b D trace words scores .answer .number ≡ r .number = ap (λ x. x .answer .number) (check-refused a b D trace words scores r e) in
-      absurd (omega (arith, q, h, check-real a b D (lentOf trace words scores) r e .low))
+      absurd (omega (arith, q, h, check-real a b (toDepth D) (lentOf trace words scores) r e .low))
 
   -- number 0 is answered exactly where no refusal applies
-  pub number-zero : (check a b D trace words scores .answer .number ≡ 0) ↔ (checkRefusal a b D (lentOf trace words scores) ≡ none)
-  number-zero = (λ h. refusal-number (checkRefusal a b D (lentOf trace words scores)) refl h, λ e. called a b D trace words scores e .numbered .number)
+  pub number-zero : (check a b D trace words scores .answer .number ≡ 0) ↔ (checkRefusal a b (toDepth D) (lentOf trace words scores) ≡ none)
+  number-zero = (λ h. refusal-number (checkRefusal a b (toDepth D) (lentOf trace words scores)) refl h, λ e. called a b D trace words scores e .numbered .number)
 
   module _ (zero-number : check a b D trace words scores .answer .number ≡ 0) where
-    free : checkRefusal a b D (lentOf trace words scores) ≡ none
+    free : checkRefusal a b (toDepth D) (lentOf trace words scores) ≡ none
     free = number-zero .0 zero-number
 
     -- a call that answered 0, Equivalent joins its two records
     pub call-joins : check a b D trace words scores .answer .status ≡ 0 → Checked checked a b
     unfolding statusNumber
-    call-joins h = goldFirst D (lentOf trace words scores) _ (call-checked a b D trace words scores free Equivalent h)
+    call-joins h = goldFirst (toDepth D) (lentOf trace words scores) _ (call-checked a b D trace words scores free Equivalent h)
 
     -- no call on two records of a chain answers 0, NotEquivalent
-    pub call-never : (l : List (List ℕ)) → Chain checked l → List·Memᴰ a l → List·Memᴰ b l → check a b D trace words scores .answer .status ≢ 1
-    unfolding statusNumber checked
+    pub call-never : (l : List (List ℕ)) → Chain (Checked checked) l → List·Memᴰ a l → List·Memᴰ b l → check a b D trace words scores .answer .status ≢ 1
+    unfolding statusNumber
     call-never l c m n h =
-        let j : Joined (checkUnder learnedLimit) a b = check-chain learnedLimit l c a b m n in
-        j .never D (lentOf trace words scores) _ (call-checked a b D trace words scores free NotEquivalent h)
+        let j : Joined checked a b = check-chain l c a b m n in
+        j .never (toDepth D) (lentOf trace words scores) _ (call-checked a b D trace words scores free NotEquivalent h)
 
 not-given-up : (p : Status) (n : ℕ) → n ≡ statusNumber p → n ≢ 3 → p ≢ GaveUp
 unfolding statusNumber
@@ -54,37 +56,29 @@ pub call-swap : (a b : List ℕ) (D : ℕ) (t w : List ℕ) (s : List Float) (t'
     → check a b D t w s .answer .number ≡ 0 → check b a D t' w' s' .answer .number ≡ 0
     → check a b D t w s .answer .status ≢ 3 → check b a D t' w' s' .answer .status ≢ 3
     → (check a b D t w s .answer .status ≡ check b a D t' w' s' .answer .status) × (check a b D t w s .answer .depth ≡ check b a D t' w' s' .answer .depth)
-unfolding checked
 call-swap a b D t w s t' w' s' l z z' g g' =
-    let r = check-answers learnedLimit a b D (lentOf t w s) (number-zero a b D t w s .0 z) in
-    let r' = check-answers learnedLimit b a D (lentOf t' w' s') (number-zero b a D t' w' s' .0 z') in
+    let r = check-answers a b (toDepth D) (lentOf t w s) (number-zero a b D t w s .0 z) in
+    let r' = check-answers b a (toDepth D) (lentOf t' w' s') (number-zero b a D t' w' s' .0 z') in
     let n : Numbered (check a b D t w s .answer) (r .0) (r .1) = check-numbered a b D t w s (r .0) (r .1) (r .2) in
     let n' : Numbered (check b a D t' w' s' .answer) (r' .0) (r' .1) = check-numbered b a D t' w' s' (r' .0) (r' .1) (r' .2) in
-    let q : checkUnder learnedLimit b a D (lentOf t w s) ≡ answered (r' .0) (r' .1) = subst (λ (k : Lent). checkUnder learnedLimit b a D k ≡ answered (r' .0) (r' .1)) l (r' .2) in
-    let v = check-swap learnedLimit .verdict a b D (lentOf t w s) (r .0) (r' .0) (r .1) (r' .1) (r .2) q
+    let q : checked b a (toDepth D) (lentOf t w s) ≡ answered (r' .0) (r' .1) = subst (λ (k : Lent). checked b a (toDepth D) k ≡ answered (r' .0) (r' .1)) l (r' .2) in
+    let v = check-swap .verdict a b (toDepth D) (lentOf t w s) (r .0) (r' .0) (r .1) (r' .1) (r .2) q
     (not-given-up (r .0) _ (n .status-number) g) (not-given-up (r' .0) _ (n' .status-number) g') in
     (n .status-number ∙ ap statusNumber (v .0) ∙ sym (n' .status-number), n .depth ∙ v .1 ∙ sym (n' .depth))
-
-no-refusal-swap : (a b : List ℕ) (D : ℕ) (lent : Lent) (o : Option Refusal) → checkRefusal a b D lent ≡ o → checkRefusal b a D lent ≡ none → o ≡ none
-no-refusal-swap a b D lent none e h = refl
-no-refusal-swap a b D lent (some r) e h =
-    let x = check-swap learnedLimit .refusal a b D lent r (check-refuses learnedLimit a b D lent r .1 e) in
-    let y : checkRefusal b a D lent ≡ some (x .0) = check-refuses learnedLimit b a D lent (x .0) .0 (x .1) in
-    absurd (let z : _≡_ {A = ℕ} 0 1 = cc in omega arith)
 
 -- of the two calls one is refused exactly when the other is
 pub call-swap-refused : (a b : List ℕ) (D : ℕ) (t w : List ℕ) (s : List Float) (t' w' : List ℕ) (s' : List Float) → lentOf t' w' s' ≡ lentOf t w s
     → check b a D t' w' s' .answer .number ≡ 0 → check a b D t w s .answer .number ≡ 0
 call-swap-refused a b D t w s t' w' s' l z =
-    let h : checkRefusal b a D (lentOf t w s) ≡ none = subst (λ (k : Lent). checkRefusal b a D k ≡ none) l (number-zero b a D t' w' s' .0 z) in
-    number-zero a b D t w s .1 (no-refusal-swap a b D (lentOf t w s) (checkRefusal a b D (lentOf t w s)) refl h)
+    let h : checkRefusal b a (toDepth D) (lentOf t w s) ≡ none = subst (λ (k : Lent). checkRefusal b a (toDepth D) k ≡ none) l (number-zero b a D t' w' s' .0 z) in
+    number-zero a b D t w s .1 (refusal-swap b a (toDepth D) (lentOf t w s) h)
 
 -- a record against itself: where the call is not refused it answers Equivalent at depth 1
 pub call-self : (a : List ℕ) (D : ℕ) (t w : List ℕ) (s : List Float) → check a a D t w s .answer .number ≡ 0
     → (check a a D t w s .answer .status ≡ 0) × (check a a D t w s .answer .depth ≡ 1)
-unfolding checked statusNumber
+unfolding statusNumber
 call-self a D t w s z =
-    let r = check-answers learnedLimit a a D (lentOf t w s) (number-zero a a D t w s .0 z) in
+    let r = check-answers a a (toDepth D) (lentOf t w s) (number-zero a a D t w s .0 z) in
     let n : Numbered (check a a D t w s .answer) (r .0) (r .1) = check-numbered a a D t w s (r .0) (r .1) (r .2) in
-    let v = check-self learnedLimit a D (lentOf t w s) (r .0) (r .1) (r .2) in
+    let v = check-self a (toDepth D) (lentOf t w s) (r .0) (r .1) (r .2) in
     (n .status-number ∙ ap statusNumber (v .0), n .depth ∙ v .1)

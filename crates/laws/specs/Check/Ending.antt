@@ -1,15 +1,20 @@
 -- The check always ends with an answer: no query runs out of rounds, so a check is refused or answered with a status and a depth. Assumes nothing.
 use Prim.Native.Nat.{ℕ}
-use native.Mathlib.Omega.{arith}
-use mathlib.Core.Path.{_≡_, refl}
+use mathlib.Core.Path.{_≡_, refl, _∙_}
 use mathlib.Core.List.{List}
 use mathlib.Core.Option.{none}
 use Rattle.model.specs.Answers.{Status}
 use Rattle.model.specs.Answers as Answers
-use Rattle.model.specs.Pair.{Lent, ReadPair, both, refusedPair, readPair, checkRefusalOf, checkRefusal}
+use Rattle.model.specs.Options.{Options}
+use Rattle.model.specs.Netlist.{Design}
+use Rattle.model.specs.Run.{StoredBits, initialBits}
+use Rattle.model.specs.Pair.{Lent, checkRefusal}
 use Rattle.model.specs.Induction.{answered}
-use Rattle.model.specs.Equivalence.{Problem, Verdict, Equivalent, NotEquivalent, Inconclusive, GaveUp, OutOfFuel, notEquivalentAt, proveSequentialEquivalence}
-use Rattle.model.specs.Check.{checkDesigns, checkPair, checkRead, checkOutcome, verdictSays, outcomeSays, checkUnder}
+use Rattle.model.specs.Equivalence.{Problem, Verdict, Equivalent, NotEquivalent, Inconclusive, GaveUp, OutOfFuel, notEquivalentAt}
+use Rattle.model.specs.Check.{problemOf, checkDesigns, verdictSays, checked}
+use Rattle.laws.specs.Terms.{checkedDesigns}
+use Rattle.laws.specs.Induction.Pairs.{Accepted, accepted-pair}
+use Rattle.laws.specs.Check.Call.{checked-is}
 use Rattle.laws.specs.Check.Course.{Decides, differs, closes-named, closes, stops, Course, decides, passes, verdict-course}
 
 -- the verdict is not that a search ran out of rounds
@@ -31,12 +36,6 @@ course-ends : (limit : ℕ) (p : Problem) (D : ℕ) (v : Verdict) → Course lim
 course-ends limit p D v (decides d low high passed w) = decided-ends limit p d v w
 course-ends limit p D v (passes f) = tt
 
--- no verdict is that a search ran out of rounds
-verdict-ends : (limit : ℕ) (p : Problem) (D : ℕ) → Ends (proveSequentialEquivalence limit p D .verdict)
-verdict-ends limit p D = course-ends limit p D _ (verdict-course limit p D)
-
--- ---- the check of two records
-
 -- a verdict that ends has a status and a depth
 ends-answered : (v : Verdict) → Ends v → (status : Status) × (d : ℕ) × (verdictSays v ≡ answered status d)
 unfolding verdictSays
@@ -46,14 +45,15 @@ ends-answered (Inconclusive d) h = (Answers.Inconclusive, d, refl)
 ends-answered (GaveUp d q) h = (Answers.GaveUp, d, refl)
 ends-answered OutOfFuel h = absurd h
 
-read-answered : (limit : ℕ) (r : ReadPair) (D : ℕ) (lent : Lent) → checkRefusalOf r D lent ≡ none
-    → (status : Status) × (d : ℕ) × (outcomeSays (checkRead limit r D lent) ≡ answered status d)
-unfolding checkRead checkRefusalOf checkPair outcomeSays checkDesigns
-read-answered limit (refusedPair q) D lent e = absurd (let z : _≡_ {A = ℕ} 0 1 = cc in omega arith)
-read-answered limit (both gold gate) D lent e = rw e (ends-answered _ (verdict-ends limit _ D))
+-- the check of two designs, from any start bits, answers a status and a depth
+pub designs-answer : (o : Options) (gold gate : Design) (s t : StoredBits) → (status : Status) × (d : ℕ) × (checkedDesigns o gold gate s t ≡ answered status d)
+unfolding checkDesigns
+designs-answer o gold gate s t = ends-answered _ (course-ends (o .limit) (problemOf gold gate s t) (o .depth) _ (verdict-course (o .limit) (problemOf gold gate s t) (o .depth)))
 
--- where no refusal applies, the check answers a status and a depth
-pub check-answers : (limit : ℕ) (a b : List ℕ) (D : ℕ) (lent : Lent) → checkRefusal a b D lent ≡ none
-    → (status : Status) × (d : ℕ) × (checkUnder limit a b D lent ≡ answered status d)
-unfolding checkUnder checkOutcome checkRefusal
-check-answers limit a b D lent e = read-answered limit (readPair a b) D lent e
+-- so does the check of two records, where no refusal applies
+pub check-answers : (a b : List ℕ) (o : Options) (lent : Lent) → checkRefusal a b o lent ≡ none
+    → (status : Status) × (d : ℕ) × (checked a b o lent ≡ answered status d)
+check-answers a b o lent free =
+    let k : Accepted a b o lent = accepted-pair a b o lent free in
+    let x = designs-answer o (k .gold) (k .gate) (initialBits (k .gold)) (initialBits (k .gate)) in
+    (x .0, x .1, checked-is a b o lent (k .gold) (k .gate) free (k .pair) ∙ x .2)

@@ -4,22 +4,25 @@ use native.Mathlib.Omega.{arith}
 use mathlib.Core.Path.{_≡_, sym, ap, _∙_, subst}
 use mathlib.Core.Logic.{_≢_, inl, inr}
 use mathlib.Core.List.{List}
+use mathlib.Core.Option.{none}
 use Rattle.model.specs.Answers.{Status}
 use Rattle.model.specs.Answers as Answers
+use Rattle.model.specs.Options.{Options}
 use Rattle.model.specs.Netlist.{Design}
-use Rattle.model.specs.Pair.{Lent}
+use Rattle.model.specs.Run.{StoredBits, initialBits}
+use Rattle.model.specs.Pair.{Lent, checkFault, ReadPair, both, refusedPair, readPair, checkRefusalOf, checkRefusal}
 use Rattle.model.specs.Induction.{answered}
 use Rattle.model.specs.Sat.{Answer, model, noModel}
-use Rattle.model.specs.Equivalence.{Problem, Query, ask, Verdict, Equivalent, NotEquivalent, Inconclusive, GaveUp, OutOfFuel}
-use Rattle.model.specs.Check.{checkDesigns, checkPair, checkRead, checkOutcome, verdictSays, outcomeSays, checkUnder}
+use Rattle.model.specs.Equivalence.{Problem, Query, ask, Verdict, Equivalent, NotEquivalent, Inconclusive, GaveUp, OutOfFuel, proveSequentialEquivalence}
+use Rattle.model.specs.Check.{problemOf, checkDesigns, verdictSays, checked}
 use Rattle.laws.specs.Check.Course.{Decides, differs, closes-named, closes, stops, Course, decides, passes, verdict-course, course-verdict}
 use Rattle.laws.specs.Search.Limits.{solve-same}
-use Rattle.laws.specs.Terms.{Settled, NoModel, Model, NamedOpen, Passed}
-use Rattle.laws.specs.Induction.Chain.{Accepted, accepted-pair}
-use Rattle.laws.specs.Check.Call.{check-accepts}
+use Rattle.laws.specs.Terms.{checkedDesigns, LargerLimit, Settled, NoModel, Model, NamedOpen, Passed}
+use Rattle.laws.specs.Induction.Pairs.{Accepted, accepted-pair}
+use Rattle.laws.specs.Check.Call.{check-accepts, checked-is}
 
 -- a verdict that neither the limit nor the rounds cut short
-abbrev pub Final : Verdict → Type 0
+abbrev Final : Verdict → Type 0
 Final (Equivalent d) = Unit {0}
 Final (NotEquivalent d m bytes) = Unit {0}
 Final (Inconclusive d) = Unit {0}
@@ -54,26 +57,44 @@ module _ (limit larger : ℕ) (le : limit ≤ larger) where
   course-same p D v h (decides d low high passed w) = decides d low high (λ e a b. passed-same p e (passed e a b)) (decided-same p d v h w)
   course-same p D v h (passes f) = passes (λ e a b. passed-same p e (f e a b))
 
-  designs-same : (gold gate : Design) (D : ℕ) → Final (checkDesigns limit gold gate D .verdict) → checkDesigns larger gold gate D .verdict ≡ checkDesigns limit gold gate D .verdict
-  unfolding checkDesigns
-  designs-same gold gate D h = course-verdict larger _ D _ (course-same _ D _ h (verdict-course limit _ D))
+-- a status other than GaveUp comes of a verdict that was not cut short
+final-says : (v : Verdict) (status : Status) (d : ℕ) → verdictSays v ≡ answered status d → status ≢ Answers.GaveUp → Final v
+unfolding verdictSays
+final-says (Equivalent e) status d h n = tt
+final-says (NotEquivalent e m bytes) status d h n = tt
+final-says (Inconclusive e) status d h n = tt
+final-says (GaveUp e q) status d h n = n (let p : status ≡ Answers.GaveUp = cc in p)
+final-says OutOfFuel status d h n = let z : _≡_ {A = ℕ} 0 1 = cc in omega arith
 
-  -- a status other than GaveUp, with its depth
-  final-says : (v : Verdict) (status : Status) (d : ℕ) → verdictSays v ≡ answered status d → status ≢ Answers.GaveUp → Final v
-  unfolding verdictSays
-  final-says (Equivalent e) status d h n = tt
-  final-says (NotEquivalent e m bytes) status d h n = tt
-  final-says (Inconclusive e) status d h n = tt
-  final-says (GaveUp e q) status d h n = n (let p : status ≡ Answers.GaveUp = cc in p)
-  final-says OutOfFuel status d h n = let z : _≡_ {A = ℕ} 0 1 = cc in omega arith
+module _ (o larger : Options) (le : LargerLimit o larger) where
+  final-same : (gold gate : Design) (s t : StoredBits) → Final (checkDesigns o gold gate s t .verdict) → checkDesigns larger gold gate s t .verdict ≡ checkDesigns o gold gate s t .verdict
+  unfolding checkDesigns
+  final-same gold gate s t h =
+      let p = problemOf gold gate s t in
+      let v = proveSequentialEquivalence (o .limit) p (o .depth) .verdict in
+      let c : Course (larger .limit) p (o .depth) v = course-same (o .limit) (larger .limit) (le .limit) p (o .depth) v h (verdict-course (o .limit) p (o .depth)) in
+      course-verdict (larger .limit) p (larger .depth) v (subst (λ (D : ℕ). Course (larger .limit) p D v) (le .depth) c)
+
+  -- a larger limit keeps the verdict on two designs, trace and all, where its status is not GaveUp
+  pub designs-larger : (gold gate : Design) (s t : StoredBits) (status : Status) (d : ℕ) → checkedDesigns o gold gate s t ≡ answered status d → status ≢ Answers.GaveUp
+      → checkDesigns larger gold gate s t .verdict ≡ checkDesigns o gold gate s t .verdict
+  designs-larger gold gate s t status d h n = final-same gold gate s t (final-says _ status d h n)
+
+  -- a refusal does not depend on the limit
+  refusal-same : (a b : List ℕ) (lent : Lent) → checkRefusal a b o lent ≡ none → checkRefusal a b larger lent ≡ none
+  unfolding checkRefusal
+  refusal-same a b lent h = go (readPair a b) h
+    where
+      go : (p : ReadPair) → checkRefusalOf p o lent ≡ none → checkRefusalOf p larger lent ≡ none
+      go (refusedPair r) e = unfold checkRefusalOf in e
+      go (both gold gate) e = unfold checkRefusalOf checkFault in rw (← (le .depth)) e
 
   -- a larger limit keeps each status other than GaveUp, with its depth
-  pub check-larger : (a b : List ℕ) (D : ℕ) (lent : Lent) (status : Status) (d : ℕ) → checkUnder limit a b D lent ≡ answered status d → status ≢ Answers.GaveUp
-      → checkUnder larger a b D lent ≡ answered status d
-  unfolding checkUnder checkOutcome checkRead checkPair outcomeSays
-  check-larger a b D lent status d h n =
-      let k : Accepted a b D lent = accepted-pair a b D lent (check-accepts limit a b D lent status d h) in
-      let s : verdictSays (checkDesigns limit (k .gold) (k .gate) D .verdict) ≡ answered status d = rw (k .pair, k .free) at h in
-      let t : verdictSays (checkDesigns larger (k .gold) (k .gate) D .verdict) ≡ answered status d =
-      ap verdictSays (designs-same (k .gold) (k .gate) D (final-says _ status d s n)) ∙ s in
-      rw (k .pair, k .free) t
+  pub check-larger : (a b : List ℕ) (lent : Lent) (status : Status) (d : ℕ) → checked a b o lent ≡ answered status d → status ≢ Answers.GaveUp
+      → checked a b larger lent ≡ answered status d
+  check-larger a b lent status d h n =
+      let free = check-accepts a b o lent status d h in
+      let k : Accepted a b o lent = accepted-pair a b o lent free in
+      let s = sym (checked-is a b o lent (k .gold) (k .gate) free (k .pair)) ∙ h in
+      checked-is a b larger lent (k .gold) (k .gate) (refusal-same a b lent free) (k .pair)
+      ∙ ap verdictSays (designs-larger (k .gold) (k .gate) (initialBits (k .gold)) (initialBits (k .gate)) status d s n) ∙ s

@@ -5,25 +5,23 @@ use mathlib.Core.Path.{_≡_, sym, subst}
 use mathlib.Core.Logic.{inl, inr}
 use mathlib.Core.Bool.{Bool, true, false}
 use mathlib.Core.List.{List}
-use mathlib.Core.Option.{none}
 use Rattle.model.specs.Answers as Answers
-use Rattle.model.specs.Names.{namesOf}
-use Rattle.model.specs.Netlist.{Design, inputs, outputs}
-use Rattle.model.specs.Validate.{validate}
-use Rattle.model.specs.Run.{StoredBits, initialBits}
+use Rattle.model.specs.Options.{Options}
+use Rattle.model.specs.Netlist.{Design}
+use Rattle.model.specs.Run.{StoredBits}
 use Rattle.model.specs.Induction.{Query1, Query2, Query3, Query4, Closes, Undecided, UndecidedBelow, Says, notEquivalent, equivalent, inconclusive}
 use Rattle.model.specs.Literal.{Literal}
 use Rattle.model.specs.Aig.{evaluate, aigNodeValues}
 use Rattle.model.specs.Sat.{model, noModel}
-use Rattle.model.specs.Equivalence.{Problem, Query, baseCounterexample, basePreservesNamedState, inductionCloses, ask, firstMismatch, traceBytes, Verdict, Equivalent, NotEquivalent, Inconclusive, GaveUp, OutOfFuel, notEquivalentAt, proveSequentialEquivalence}
-use Rattle.model.specs.Check.{checkDesigns}
-use Rattle.laws.specs.Terms.{NoModel, Model, NamedOpen, Passed}
+use Rattle.model.specs.Equivalence.{Problem, Query, baseCounterexample, basePreservesNamedState, inductionCloses, ask, firstMismatch, traceBytes, Verdict, Equivalent, NotEquivalent, Inconclusive, GaveUp, OutOfFuel, notEquivalentAt}
+use Rattle.model.specs.Check.{problemOf, checkDesigns}
+use Rattle.laws.specs.Terms.{Comparable, TraceGood, NoModel, Model, NamedOpen, Passed}
 use Rattle.laws.specs.Check.Course.{Decides, differs, closes-named, closes, stops, Course, decides, passes, verdict-course}
 use Rattle.laws.specs.Search.Model.{refutes, finds}
 use Rattle.facts.specs.Lists.{All}
-use Rattle.laws.specs.Queries.Base.{problem, problem-initial, Satisfies, query-1-from, query-1-to, query-2-from, query-2-to}
+use Rattle.laws.specs.Queries.Base.{Satisfies, query-1-from, query-1-to, query-2-from, query-2-to}
 use Rattle.laws.specs.Queries.Step.{query-3-from, query-3-to, query-4-from, query-4-to}
-use Rattle.laws.specs.Queries.Replayed.{TraceGood, trace-replays}
+use Rattle.laws.specs.Queries.Replayed.{trace-replays}
 use Rattle.laws.specs.Queries.Formed.{Askable, query-1-askable, query-2-askable, query-3-4-askable}
 
 -- what a model gives of a query
@@ -53,43 +51,42 @@ module _ (limit : ℕ) where
       let r = finds limit (q .aig) (q .assumptions) values n (a .formed) (a .named) (a .inside) h in
       record { environment = r .0; values-are = r .1; satisfies = subst (λ (v : List Bool). All (λ (l : Literal). evaluate v l ≡ true) (q .assumptions)) (r .1) (r .2) }
 
-  module _ (gold gate : Design) (vg : validate gold ≡ none) (vh : validate gate ≡ none) (same : namesOf (inputs gold) ≡ namesOf (inputs gate))
-      (alike : namesOf (outputs gold) ≡ namesOf (outputs gate)) (s t : StoredBits) (D : ℕ) where
+  module _ (gold gate : Design) (c : Comparable gold gate) (s t : StoredBits) where
     -- the problem of the two designs from the start bits
     abbrev p : Problem
-    p = problem gold gate s t
+    p = problemOf gold gate s t
 
     -- a query with no model, and one with a model, answer its question
     pub no-1 : (d : ℕ) → NoModel limit (baseCounterexample p d) → ¬ Query1 gold gate s t d
-    no-1 d x q = let r = query-1-to gold gate vg vh same s t d q in refuted _ (x .0) (query-1-askable p d) (x .1) (r .0) (r .1)
+    no-1 d x q = let r = query-1-to gold gate (c .gold-valid) (c .gate-valid) (c .input-names) s t d q in refuted _ (x .0) (query-1-askable p d) (x .1) (r .0) (r .1)
 
     -- the same of query 2
     pub no-2 : (d : ℕ) → NoModel limit (basePreservesNamedState p d) → ¬ Query2 gold gate s t d
-    no-2 d x q = let r = query-2-to gold gate vg vh same s t d q in refuted _ (x .0) (query-2-askable p d) (x .1) (r .0) (r .1)
+    no-2 d x q = let r = query-2-to gold gate (c .gold-valid) (c .gate-valid) (c .input-names) s t d q in refuted _ (x .0) (query-2-askable p d) (x .1) (r .0) (r .1)
 
     -- of query 3
     pub no-3 : (d : ℕ) → NoModel limit (inductionCloses p true d) → ¬ Query3 gold gate d
-    no-3 d x q = let r = query-3-to gold gate vg vh same s t d q in refuted _ (x .0) (query-3-4-askable p true d) (x .1) (r .0) (r .1)
+    no-3 d x q = let r = query-3-to gold gate (c .gold-valid) (c .gate-valid) (c .input-names) s t d q in refuted _ (x .0) (query-3-4-askable p true d) (x .1) (r .0) (r .1)
 
     -- and of query 4
     pub no-4 : (d : ℕ) → NoModel limit (inductionCloses p false d) → ¬ Query4 gold gate d
-    no-4 d x q = let r = query-4-to gold gate vg vh same s t d q in refuted _ (x .0) (query-3-4-askable p false d) (x .1) (r .0) (r .1)
+    no-4 d x q = let r = query-4-to gold gate (c .gold-valid) (c .gate-valid) (c .input-names) s t d q in refuted _ (x .0) (query-3-4-askable p false d) (x .1) (r .0) (r .1)
 
     -- a model of query 1 is a yes to its question
     pub yes-1 : (d : ℕ) → Model limit (baseCounterexample p d) → Query1 gold gate s t d
-    yes-1 d x = let r = found _ (x .0) (x .1) (query-1-askable p d) (x .2) in query-1-from gold gate vg vh same s t d (r .environment) (r .satisfies)
+    yes-1 d x = let r = found _ (x .0) (x .1) (query-1-askable p d) (x .2) in query-1-from gold gate (c .gold-valid) (c .gate-valid) (c .input-names) s t d (r .environment) (r .satisfies)
 
     -- the same of query 2
     pub yes-2 : (d : ℕ) → Model limit (basePreservesNamedState p d) → Query2 gold gate s t d
-    yes-2 d x = let r = found _ (x .0) (x .1) (query-2-askable p d) (x .2) in query-2-from gold gate vg vh same s t d (r .environment) (r .satisfies)
+    yes-2 d x = let r = found _ (x .0) (x .1) (query-2-askable p d) (x .2) in query-2-from gold gate (c .gold-valid) (c .gate-valid) (c .input-names) s t d (r .environment) (r .satisfies)
 
     -- of query 3
     pub yes-3 : (d : ℕ) → Model limit (inductionCloses p true d) → Query3 gold gate d
-    yes-3 d x = let r = found _ (x .0) (x .1) (query-3-4-askable p true d) (x .2) in query-3-from gold gate vg vh same s t d (r .environment) (r .satisfies)
+    yes-3 d x = let r = found _ (x .0) (x .1) (query-3-4-askable p true d) (x .2) in query-3-from gold gate (c .gold-valid) (c .gate-valid) (c .input-names) s t d (r .environment) (r .satisfies)
 
     -- and of query 4
     pub yes-4 : (d : ℕ) → Model limit (inductionCloses p false d) → Query4 gold gate d
-    yes-4 d x = let r = found _ (x .0) (x .1) (query-3-4-askable p false d) (x .2) in query-4-from gold gate vg vh same s t d (r .environment) (r .satisfies)
+    yes-4 d x = let r = found _ (x .0) (x .1) (query-3-4-askable p false d) (x .2) in query-4-from gold gate (c .gold-valid) (c .gate-valid) (c .input-names) s t d (r .environment) (r .satisfies)
 
     named-open : (d : ℕ) → NamedOpen limit p d → ((¬ Query2 gold gate s t d) × (¬ Query3 gold gate d)) → ⊥
     named-open d (inl x) f = f .0 (yes-2 d x)
@@ -103,30 +100,24 @@ module _ (limit : ℕ) where
         open-ended (inl x) = named-open d (w .named) x
         open-ended (inr x) = x (yes-4 d (w .last))
 
-    decided-spoken : (d : ℕ) (v : Verdict) → 1 ≤ d → d ≤ D → UndecidedBelow gold gate s t d → Decides limit p d v → Spoken gold gate s t D v
+    decided-spoken : (D d : ℕ) (v : Verdict) → 1 ≤ d → d ≤ D → UndecidedBelow gold gate s t d → Decides limit p d v → Spoken gold gate s t D v
     unfolding notEquivalentAt
-    decided-spoken d v low high before (differs values n e) =
+    decided-spoken D d v low high before (differs values n e) =
         let r = found _ values n (query-1-askable p d) e in
         let q = baseCounterexample p d in (
           notEquivalent low high before (yes-1 d (values, n, e)),
           subst (λ (v : List Bool). TraceGood gold gate s t d (firstMismatch v (q .comparisons)) (traceBytes v (q .comparisons) (firstMismatch v (q .comparisons)))) (sym (r .values-are))
-              (trace-replays gold gate vg vh same s t alike d (r .environment) (r .satisfies)),
+              (trace-replays gold gate (c .gold-valid) (c .gate-valid) (c .input-names) s t (c .output-names) d (r .environment) (r .satisfies)),
         )
-    decided-spoken d v low high before (closes-named f x y) = equivalent low high before (no-1 d f) (inl (no-2 d x, no-3 d y))
-    decided-spoken d v low high before (closes f x y) = equivalent low high before (no-1 d f) (inr (no-4 d y))
-    decided-spoken d v low high before (stops x) = tt
+    decided-spoken D d v low high before (closes-named f x y) = equivalent low high before (no-1 d f) (inl (no-2 d x, no-3 d y))
+    decided-spoken D d v low high before (closes f x y) = equivalent low high before (no-1 d f) (inr (no-4 d y))
+    decided-spoken D d v low high before (stops x) = tt
 
-    course-spoken : (v : Verdict) → Course limit p D v → Spoken gold gate s t D v
-    course-spoken v (decides d low high passed w) = decided-spoken d v low high (λ e a b. passed-undecided e (passed e a b)) w
-    course-spoken v (passes f) = inconclusive (λ e a b. passed-undecided e (f e a (omega arith)))
+    course-spoken : (D : ℕ) (v : Verdict) → Course limit p D v → Spoken gold gate s t D v
+    course-spoken D v (decides d low high passed w) = decided-spoken D d v low high (λ e a b. passed-undecided e (passed e a b)) w
+    course-spoken D v (passes f) = inconclusive (λ e a b. passed-undecided e (f e a (omega arith)))
 
-    -- the search's verdict is what k-induction says from the start bits
-    verdict-spoken : Spoken gold gate s t D (proveSequentialEquivalence limit p D .verdict)
-    verdict-spoken = course-spoken _ (verdict-course limit p D)
-
-  -- a check's verdict is what k-induction says from the initial states, and its trace replays yes
-  pub check-says : (gold gate : Design) → validate gold ≡ none → validate gate ≡ none → namesOf (inputs gold) ≡ namesOf (inputs gate) → namesOf (outputs gold) ≡ namesOf (outputs gate) → (D : ℕ)
-      → Spoken gold gate (initialBits gold) (initialBits gate) D (checkDesigns limit gold gate D .verdict)
-  unfolding checkDesigns
-  check-says gold gate vg vh same alike D =
-      rw (problem-initial gold gate vg vh) (verdict-spoken gold gate vg vh same alike (initialBits gold) (initialBits gate) D)
+-- the verdict of a check is what k-induction says from the start bits, and its trace replays yes
+pub designs-speak : (o : Options) (gold gate : Design) → Comparable gold gate → (s t : StoredBits) → Spoken gold gate s t (o .depth) (checkDesigns o gold gate s t .verdict)
+unfolding checkDesigns
+designs-speak o gold gate c s t = course-spoken (o .limit) gold gate c s t (o .depth) _ (verdict-course (o .limit) (problemOf gold gate s t) (o .depth))

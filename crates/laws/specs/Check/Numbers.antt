@@ -2,7 +2,7 @@
 use Prim.Native.Nat.{ℕ, suc, _+_, _*_, _≤_}
 use native.Mathlib.Omega.{arith}
 use native.Mathlib.Nat.{mul-le-mul-right}
-use mathlib.Core.Path.{_≡_, refl, sym, ap, _∙_, subst}
+use mathlib.Core.Path.{_≡_, refl, sym, ap, _∙_}
 use mathlib.Core.Logic.{_≢_}
 use mathlib.Core.Bool.{false}
 use mathlib.Core.List.{List}
@@ -13,20 +13,20 @@ use lib.Ieee.{Float}
 use borrow.Author.Tests.{ltb-false}
 use Rattle.model.specs.Answers.{Status, statusNumber, acceptedAnswer}
 use Rattle.model.specs.Answers as Answers
+use Rattle.model.specs.Options.{toDepth}
 use Rattle.model.specs.Netlist.{Design, inputCount, outputCount}
 use Rattle.model.specs.Run.{initialBits}
 use Rattle.model.specs.Pair.{Lent, traceLength, tooShort, checkRefusal}
 use Rattle.model.specs.Replay.{replay}
-use Rattle.model.specs.Induction.{answered, Says, notEquivalent}
+use Rattle.model.specs.Induction.{answered}
 use Rattle.model.specs.Equivalence.{Verdict, Equivalent, NotEquivalent, Inconclusive, GaveUp, OutOfFuel}
-use Rattle.model.specs.Check.{checkDesigns, checkPair, checkRead, checkOutcome, verdictAnswer, checkAnswer, overwrite, verdictTrace, traceAfter, checkResult, lentOf, learnedLimit, check, checked}
+use Rattle.model.specs.Check.{checkDesigns, verdictAnswer, checkAnswer, overwrite, verdictTrace, traceAfter, CheckResult, checkResult, lentOf, check, checked}
 use Rattle.laws.specs.Terms.{Numbered, Called, TraceLeft}
 use Rattle.facts.specs.Bools.{or-left}
-use Rattle.laws.specs.Induction.Chain.{Accepted, accepted-pair}
-use Rattle.laws.specs.Induction.Pairs.{Facts, facts-of}
-use Rattle.laws.specs.Check.Call.{check-numbered}
-use Rattle.laws.specs.Check.Meaning.{Spoken, check-says}
-use Rattle.laws.specs.Check.Sound.{Comparable, comparable, check-sound, check-replays}
+use Rattle.laws.specs.Induction.Pairs.{Accepted, accepted-pair, Facts, facts-of, comparable}
+use Rattle.laws.specs.Check.Call.{call-is, check-numbered}
+use Rattle.laws.specs.Check.Designs.{designs-trace}
+use Rattle.laws.specs.Check.Records.{check-sound, check-replays}
 use Rattle.laws.specs.Check.Ending.{check-answers}
 
 -- no two statuses have one number
@@ -56,13 +56,13 @@ trace-fits gold D lent m n h l e =
     let k = ltb-false (lent .trace) (suc D * inputCount gold + outputCount gold) (or-left _ (ltb (lent .words) 8388608) (or-left _ (ltb (lent .scores) 65536) h)) in
     omega (arith, k, e, mul-le-mul-right {m = suc m} {n = suc D} (inputCount gold) (omega (arith, l)))
 
-module _ (a b : List ℕ) (D : ℕ) (trace words : List ℕ) (scores : List Float) (free : checkRefusal a b D (lentOf trace words scores) ≡ none) where
+module _ (a b : List ℕ) (D : ℕ) (trace words : List ℕ) (scores : List Float) (free : checkRefusal a b (toDepth D) (lentOf trace words scores) ≡ none) where
   -- an accepted call's numbers
   pub called : Called a b D trace words scores
-  unfolding checked
+  unfolding toDepth
   called =
-      let k : Accepted a b D (lentOf trace words scores) = accepted-pair a b D (lentOf trace words scores) free in
-      let r = check-answers learnedLimit a b D (lentOf trace words scores) free in
+      let k : Accepted a b (toDepth D) (lentOf trace words scores) = accepted-pair a b (toDepth D) (lentOf trace words scores) free in
+      let r = check-answers a b (toDepth D) (lentOf trace words scores) free in
       record {
         gold = k .gold;
         gate = k .gate;
@@ -70,69 +70,63 @@ module _ (a b : List ℕ) (D : ℕ) (trace words : List ℕ) (scores : List Floa
         status = r .0;
         depth = r .1;
         numbered = check-numbered a b D trace words scores (r .0) (r .1) (r .2);
-        says = λ n. check-sound learnedLimit a b D (lentOf trace words scores) (r .0) (r .1) (r .2) n (k .gold) (k .gate) (k .pair);
+        says = λ n. check-sound a b (toDepth D) (lentOf trace words scores) (r .0) (r .1) (r .2) n (k .gold) (k .gate) (k .pair);
       }
 
   -- the call's numbers are what the laws of checks speak of
   pub call-checked : (status : Status) → check a b D trace words scores .answer .status ≡ statusNumber status
-      → checked a b D (lentOf trace words scores) ≡ answered status (check a b D trace words scores .answer .depth)
-  unfolding checked
+      → checked a b (toDepth D) (lentOf trace words scores) ≡ answered status (check a b D trace words scores .answer .depth)
   call-checked status h =
-      let r = check-answers learnedLimit a b D (lentOf trace words scores) free in
+      let r = check-answers a b (toDepth D) (lentOf trace words scores) free in
       let n : Numbered (check a b D trace words scores .answer) (r .0) (r .1) = check-numbered a b D trace words scores (r .0) (r .1) (r .2) in
       let e : r .0 ≡ status = status-injective (r .0) status (sym (n .status-number) ∙ h) in
       r .2 ∙ ap (λ (p : Status). answered p (r .1)) e ∙ ap (answered status) (sym (n .depth))
 
-  module _ (k : Accepted a b D (lentOf trace words scores)) where
-    -- the call, by the verdict
-    call-is : (v : Verdict) → checkDesigns learnedLimit (k .gold) (k .gate) D .verdict ≡ v
-        → (check a b D trace words scores .answer ≡ verdictAnswer v) × (check a b D trace words scores .trace ≡ verdictTrace v trace)
-    unfolding check checkResult checkOutcome checkRead checkPair checkAnswer traceAfter
-    call-is v e = (rw (k .pair, k .free, e), rw (k .pair, k .free, e))
+  module _ (k : Accepted a b (toDepth D) (lentOf trace words scores)) where
+    -- the verdict on its designs
+    abbrev verdict : Verdict
+    verdict = checkDesigns (toDepth D) (k .gold) (k .gate) (initialBits (k .gold)) (initialBits (k .gate)) .verdict
 
-    spoken : (v : Verdict) → checkDesigns learnedLimit (k .gold) (k .gate) D .verdict ≡ v → Spoken (k .gold) (k .gate) (initialBits (k .gold)) (initialBits (k .gate)) D v
-    spoken v e =
-        let c : Comparable (k .gold) (k .gate) = comparable a b D (lentOf trace words scores) (k .gold) (k .gate) free (k .pair) in
-        subst (Spoken (k .gold) (k .gate) (initialBits (k .gold)) (initialBits (k .gate)) D) e
-        (check-says learnedLimit (k .gold) (k .gate) (c .gold-valid) (c .gate-valid) (c .input-names) (c .output-names) D)
-
-    depth-within : (d : ℕ) → Says (k .gold) (k .gate) (initialBits (k .gold)) (initialBits (k .gate)) D Answers.NotEquivalent d → d ≤ D
-    depth-within d (notEquivalent p q u w) = q
+    -- answer and trace, by the verdict
+    by-verdict : (v : Verdict) → verdict ≡ v → (check a b D trace words scores .answer ≡ verdictAnswer v) × (check a b D trace words scores .trace ≡ verdictTrace v trace)
+    unfolding checkResult checkAnswer traceAfter
+    by-verdict v e =
+        let c = call-is a b D trace words scores (k .gold) (k .gate) free (k .pair) in
+        (ap (λ (r : CheckResult). r .answer) c ∙ ap verdictAnswer e, ap (λ (r : CheckResult). r .trace) c ∙ ap (λ (x : Verdict). verdictTrace x trace) e)
 
     not-one : (n : ℕ) (v : Verdict) → verdictAnswer v .status ≡ n → n ≢ 1 → check a b D trace words scores .answer ≡ verdictAnswer v → check a b D trace words scores .answer .status ≡ 1 → ⊥
     not-one n v e h p q = h (sym e ∙ sym (ap (λ x. x .status) p) ∙ q)
 
-    left : (v : Verdict) → checkDesigns learnedLimit (k .gold) (k .gate) D .verdict ≡ v → check a b D trace words scores .answer .status ≡ 1 → TraceLeft a b D trace words scores
-    unfolding verdictAnswer acceptedAnswer statusNumber verdictTrace overwrite lentOf
-    left (Equivalent d) e s = absurd (not-one 0 (Equivalent d) refl (λ q. omega arith) (call-is (Equivalent d) e .0) s)
+    left : (v : Verdict) → verdict ≡ v → check a b D trace words scores .answer .status ≡ 1 → TraceLeft a b D trace words scores
+    unfolding verdictAnswer acceptedAnswer statusNumber verdictTrace overwrite lentOf toDepth
+    left (Equivalent d) e s = absurd (not-one 0 (Equivalent d) refl (λ q. omega arith) (by-verdict (Equivalent d) e .0) s)
     left (NotEquivalent d m bytes) e s =
-        let c = call-is (NotEquivalent d m bytes) e in
-        let x : Spoken (k .gold) (k .gate) (initialBits (k .gold)) (initialBits (k .gate)) D (NotEquivalent d m bytes) = spoken (NotEquivalent d m bytes) e in
-        let f : Facts (k .gold) (k .gate) D (lentOf trace words scores) = facts-of (k .gold) (k .gate) D (lentOf trace words scores) (k .free) in
-        let w : d ≤ D = depth-within d (x .0) in
+        let c = by-verdict (NotEquivalent d m bytes) e in
+        let x = designs-trace (toDepth D) (k .gold) (k .gate) (comparable a b (toDepth D) (lentOf trace words scores) (k .gold) (k .gate) free (k .pair)) (initialBits (k .gold)) (initialBits (k .gate)) d m bytes e in
+        let f : Facts (k .gold) (k .gate) (toDepth D) (lentOf trace words scores) = facts-of (k .gold) (k .gate) (toDepth D) (lentOf trace words scores) (k .free) in
         let q : check a b D trace words scores .answer .mismatch ≡ m = ap (λ y. y .mismatch) (c .0) in
         record {
           bytes = bytes;
-          fits = trace-fits (k .gold) D (lentOf trace words scores) m (length bytes) (f .memory) (omega (arith, w, x .1 .early)) (x .1 .size);
+          fits = trace-fits (k .gold) D (lentOf trace words scores) m (length bytes) (f .memory) (omega (arith, x .0, x .1 .early)) (x .1 .size);
           written = c .1;
-          yes = ap (λ (i : ℕ). replay a b i bytes) q ∙ check-replays learnedLimit a b D (lentOf trace words scores) (k .gold) (k .gate) d m bytes free (k .pair) e;
+          yes = ap (λ (i : ℕ). replay a b i bytes) q ∙ check-replays a b (toDepth D) (lentOf trace words scores) (k .gold) (k .gate) d m bytes free (k .pair) e;
         }
-    left (Inconclusive d) e s = absurd (not-one 2 (Inconclusive d) refl (λ q. omega arith) (call-is (Inconclusive d) e .0) s)
-    left (GaveUp d q) e s = absurd (not-one 3 (GaveUp d q) refl (λ q. omega arith) (call-is (GaveUp d q) e .0) s)
-    left OutOfFuel e s = absurd (not-one 4 OutOfFuel refl (λ q. omega arith) (call-is OutOfFuel e .0) s)
+    left (Inconclusive d) e s = absurd (not-one 2 (Inconclusive d) refl (λ q. omega arith) (by-verdict (Inconclusive d) e .0) s)
+    left (GaveUp d q) e s = absurd (not-one 3 (GaveUp d q) refl (λ q. omega arith) (by-verdict (GaveUp d q) e .0) s)
+    left OutOfFuel e s = absurd (not-one 4 OutOfFuel refl (λ q. omega arith) (by-verdict OutOfFuel e .0) s)
 
-    kept : (v : Verdict) → checkDesigns learnedLimit (k .gold) (k .gate) D .verdict ≡ v → check a b D trace words scores .answer .status ≢ 1 → check a b D trace words scores .trace ≡ trace
+    kept : (v : Verdict) → verdict ≡ v → check a b D trace words scores .answer .status ≢ 1 → check a b D trace words scores .trace ≡ trace
     unfolding verdictAnswer acceptedAnswer statusNumber verdictTrace
-    kept (Equivalent d) e s = call-is (Equivalent d) e .1
-    kept (NotEquivalent d m bytes) e s = absurd (s (ap (λ y. y .status) (call-is (NotEquivalent d m bytes) e .0)))
-    kept (Inconclusive d) e s = call-is (Inconclusive d) e .1
-    kept (GaveUp d q) e s = call-is (GaveUp d q) e .1
-    kept OutOfFuel e s = call-is OutOfFuel e .1
+    kept (Equivalent d) e s = by-verdict (Equivalent d) e .1
+    kept (NotEquivalent d m bytes) e s = absurd (s (ap (λ y. y .status) (by-verdict (NotEquivalent d m bytes) e .0)))
+    kept (Inconclusive d) e s = by-verdict (Inconclusive d) e .1
+    kept (GaveUp d q) e s = by-verdict (GaveUp d q) e .1
+    kept OutOfFuel e s = by-verdict OutOfFuel e .1
 
   -- after status 1 the trace buffer begins with bytes that replay answers with yes, and the others stay
   pub trace-left : check a b D trace words scores .answer .status ≡ 1 → TraceLeft a b D trace words scores
-  trace-left s = left (accepted-pair a b D (lentOf trace words scores) free) _ refl s
+  trace-left s = left (accepted-pair a b (toDepth D) (lentOf trace words scores) free) _ refl s
 
   -- after another status the trace buffer stays
   pub trace-kept : check a b D trace words scores .answer .status ≢ 1 → check a b D trace words scores .trace ≡ trace
-  trace-kept s = kept (accepted-pair a b D (lentOf trace words scores) free) _ refl s
+  trace-kept s = kept (accepted-pair a b (toDepth D) (lentOf trace words scores) free) _ refl s

@@ -9,28 +9,29 @@ use mathlib.Core.List.{List}
 use mathlib.Core.Option.{none}
 use lib.ListN.{length, drop, getD}
 use borrow.Author.Tests.{ltb-false}
+use Rattle.model.specs.Options.{Options}
 use Rattle.model.specs.Netlist.{Design, inputs, outputs, inputCount, outputCount, nodeCount, registerCount}
-use Rattle.model.specs.Run.{StoredBits, initialBits}
+use Rattle.model.specs.Validate.{validate}
+use Rattle.model.specs.Run.{StoredBits}
 use Rattle.model.specs.Pair.{Lent, nodesPerCycle, proofNodes, both, readPair, checkRefusal}
 use Rattle.model.specs.Transition.{fromNetlist}
 use Rattle.model.specs.Literal.{Literal}
 use Rattle.model.specs.Aig.{evaluate, aigNodeValues}
-use Rattle.model.specs.Sat.{Solver, Answer, model, noModel, gaveUp, outOfFuel, encode}
-use Rattle.model.specs.Equivalence.{Problem, Query, baseCounterexample, basePreservesNamedState, inductionCloses, ask}
+use Rattle.model.specs.Sat.{Solver, model, noModel, gaveUp, outOfFuel, encode}
+use Rattle.model.specs.Equivalence.{Problem, Query, ask}
 use Rattle.model.specs.Check.{problemOf}
 use Rattle.facts.specs.Lists.{All, all-from, all-at}
-use Rattle.laws.specs.Terms.{QueryOf, query-1, query-2, query-3, query-4, Asks, literalCount, Reached, GivesUp}
+use Rattle.laws.specs.Terms.{Comparable, QueryOf, query-1, query-2, query-3, query-4, Asks, literalCount, Reached, GivesUp}
 use Rattle.laws.specs.Queries.Formed.{Askable, query-1-askable, query-2-askable, query-3-4-askable}
 use Rattle.laws.specs.Pairwise.{pairs-length}
-use Rattle.laws.specs.Induction.Pairs.{Facts, facts-of}
+use Rattle.laws.specs.Induction.Pairs.{free-of, Facts, facts-of, comparable}
 use Rattle.laws.specs.Lowering.Run.{outputs-at}
 use Rattle.laws.specs.Queries.Bound.{nodeBound, query-1-bound, query-2-bound, query-3-4-bound}
-use Rattle.laws.specs.Queries.Base.{inputs-count, problem, problem-initial}
+use Rattle.laws.specs.Queries.Base.{inputs-count}
 use Rattle.laws.specs.Search.Ending.{solve-not-out}
 use Rattle.laws.specs.Search.Reached.{solve-gives-up}
 use Rattle.laws.specs.Search.Reachable.{reached-total, reached-reachable, Reachable}
 use Rattle.laws.specs.Check.Meaning.{found, refuted, no-1, no-2, no-3, no-4, yes-1, yes-2, yes-3, yes-4}
-use Rattle.laws.specs.Check.Sound.{Comparable, comparable, free-of}
 
 -- each is a query that a solver may be asked
 pub askable : (p : Problem) (d k : ℕ) (q : Query) → QueryOf p d k q → Askable q
@@ -71,69 +72,53 @@ module _ (limit : ℕ) (p : Problem) (d k : ℕ) (q : Query) (w : QueryOf p d k 
   pub query-reachable : (s : Solver) → Reached limit (q .aig) (q .assumptions) s → Reachable limit (q .aig) (q .assumptions) s
   query-reachable s r = let a = askable p d k q w in reached-reachable limit (q .aig) (a .formed) (q .assumptions) (a .inside) s r
 
--- ---- the answers of a check that no refusal applies to
+-- ---- the answers of a check of comparable designs, from any start bits
 
-module _ (limit : ℕ) (a b : List ℕ) (D : ℕ) (lent : Lent) (gold gate : Design) (free : checkRefusal a b D lent ≡ none) (r : readPair a b ≡ both gold gate) where
-  -- the check's problem
-  abbrev p : Problem
-  p = problemOf (fromNetlist gold) (fromNetlist gate)
-
-  -- gold's initial bits
-  abbrev s : StoredBits
-  s = initialBits gold
-
-  -- gate's initial bits
-  abbrev t : StoredBits
-  t = initialBits gate
-
-  c : Comparable gold gate
-  c = comparable a b D lent gold gate free r
-
-  same : p ≡ problem gold gate s t
-  same = problem-initial gold gate (c .gold-valid) (c .gate-valid)
-
-  -- an answer of a query of p is one of the same query from the initial bits
-  moved : (f : Problem → Query) (x : Answer) → ask limit (f p) ≡ x → ask limit (f (problem gold gate s t)) ≡ x
-  moved f x e = subst (λ y. ask limit (f y) ≡ x) same e
-
+module _ (limit : ℕ) (gold gate : Design) (c : Comparable gold gate) (s t : StoredBits) where
   -- no model: the question's answer is no
-  pub no-model-no : (d k : ℕ) (q : Query) (w : QueryOf p d k q) (n : ℕ) → ask limit q ≡ noModel n → Asks gold gate p d k q w → ⊥
-  no-model-no d k q query-1 n e x = no-1 limit gold gate (c .gold-valid) (c .gate-valid) (c .input-names) (c .output-names) s t D d (n, moved (λ y. baseCounterexample y d) (noModel n) e) x
-  no-model-no d k q query-2 n e x = no-2 limit gold gate (c .gold-valid) (c .gate-valid) (c .input-names) (c .output-names) s t D d (n, moved (λ y. basePreservesNamedState y d) (noModel n) e) x
-  no-model-no d k q query-3 n e x = no-3 limit gold gate (c .gold-valid) (c .gate-valid) (c .input-names) (c .output-names) s t D d (n, moved (λ y. inductionCloses y true d) (noModel n) e) x
-  no-model-no d k q query-4 n e x = no-4 limit gold gate (c .gold-valid) (c .gate-valid) (c .input-names) (c .output-names) s t D d (n, moved (λ y. inductionCloses y false d) (noModel n) e) x
+  pub no-model-no : (d k : ℕ) (q : Query) (w : QueryOf (problemOf gold gate s t) d k q) (n : ℕ) → ask limit q ≡ noModel n → Asks gold gate s t d k q w → ⊥
+  no-model-no d k q query-1 n e x = no-1 limit gold gate c s t d (n, e) x
+  no-model-no d k q query-2 n e x = no-2 limit gold gate c s t d (n, e) x
+  no-model-no d k q query-3 n e x = no-3 limit gold gate c s t d (n, e) x
+  no-model-no d k q query-4 n e x = no-4 limit gold gate c s t d (n, e) x
 
   -- a model: it is yes
-  pub model-yes : (d k : ℕ) (q : Query) (w : QueryOf p d k q) (values : List Bool) (n : ℕ) → ask limit q ≡ model values n → Asks gold gate p d k q w
-  model-yes d k q query-1 values n e = yes-1 limit gold gate (c .gold-valid) (c .gate-valid) (c .input-names) (c .output-names) s t D d (values, n, moved (λ y. baseCounterexample y d) (model values n) e)
-  model-yes d k q query-2 values n e = yes-2 limit gold gate (c .gold-valid) (c .gate-valid) (c .input-names) (c .output-names) s t D d (values, n, moved (λ y. basePreservesNamedState y d) (model values n) e)
-  model-yes d k q query-3 values n e = yes-3 limit gold gate (c .gold-valid) (c .gate-valid) (c .input-names) (c .output-names) s t D d (values, n, moved (λ y. inductionCloses y true d) (model values n) e)
-  model-yes d k q query-4 values n e = yes-4 limit gold gate (c .gold-valid) (c .gate-valid) (c .input-names) (c .output-names) s t D d (values, n, moved (λ y. inductionCloses y false d) (model values n) e)
+  pub model-yes : (d k : ℕ) (q : Query) (w : QueryOf (problemOf gold gate s t) d k q) (values : List Bool) (n : ℕ) → ask limit q ≡ model values n → Asks gold gate s t d k q w
+  model-yes d k q query-1 values n e = yes-1 limit gold gate c s t d (values, n, e)
+  model-yes d k q query-2 values n e = yes-2 limit gold gate c s t d (values, n, e)
+  model-yes d k q query-3 values n e = yes-3 limit gold gate c s t d (values, n, e)
+  model-yes d k q query-4 values n e = yes-4 limit gold gate c s t d (values, n, e)
 
-  -- ---- 23: how large its graph is
+-- ---- 23: how large its graph is
 
+module _ (gold gate : Design) (valid : validate gold ≡ none) where
   outputs-many : length (fromNetlist gold .outputs) ≡ length (outputs gold)
-  outputs-many = pairs-length _ (fromNetlist gold .outputs) (outputs gold) (outputs-at gold (c .gold-valid))
+  outputs-many = pairs-length _ (fromNetlist gold .outputs) (outputs gold) (outputs-at gold valid)
 
   bound-is : (d : ℕ) → nodeBound gold gate d ≡ proofNodes gold gate d
   unfolding proofNodes nodesPerCycle inputCount outputCount nodeCount registerCount
   bound-is d =
       ap (λ i. suc d * (i + 3 * (length (gold .nodes) + length (gate .nodes)) + 10 * (length (gold .registers) + length (gate .registers)) + 4 * length (fromNetlist gold .outputs) + 1)
-      + (length (gold .registers) + length (gate .registers))) (inputs-count gold (c .gold-valid))
+      + (length (gold .registers) + length (gate .registers))) (inputs-count gold valid)
       ∙ ap (λ o. suc d * (length (inputs gold) + 3 * (length (gold .nodes) + length (gate .nodes)) + 10 * (length (gold .registers) + length (gate .registers)) + 4 * o + 1)
       + (length (gold .registers) + length (gate .registers))) outputs-many
 
-  query-bound : (d k : ℕ) (q : Query) → QueryOf p d k q → length (q .aig) ≤ nodeBound gold gate d
-  query-bound d k q query-1 = query-1-bound gold gate d
-  query-bound d k q query-2 = query-2-bound gold gate d
-  query-bound d k q query-3 = query-3-4-bound gold gate true d
-  query-bound d k q query-4 = query-3-4-bound gold gate false d
+query-bound : (gold gate : Design) (s t : StoredBits) (d k : ℕ) (q : Query) → QueryOf (problemOf gold gate s t) d k q → length (q .aig) ≤ nodeBound gold gate d
+query-bound gold gate s t d k q query-1 = query-1-bound gold gate s t d
+query-bound gold gate s t d k q query-2 = query-2-bound gold gate s t d
+query-bound gold gate s t d k q query-3 = query-3-4-bound gold gate s t true d
+query-bound gold gate s t d k q query-4 = query-3-4-bound gold gate s t false d
 
-  -- the graph of each query up to the maximum depth has at most 65,535 nodes
-  pub query-fits : (d k : ℕ) (q : Query) → QueryOf p d k q → d ≤ D → length (q .aig) ≤ 65535
-  unfolding proofNodes
-  query-fits d k q w h =
-      let f : Facts gold gate D lent = facts-of gold gate D lent (free-of a b D lent gold gate free r) in
-      let small = ltb-false 65535 (proofNodes gold gate D) (f .small) in
-      let more = mul-le-mul-right {m = suc d} {n = suc D} (nodesPerCycle gold gate) (omega arith) in
-      omega (arith, query-bound d k q w, bound-is d, small, more)
+-- the graph of a query of depth d, from any start bits, has at most (d + 1) × F + R nodes
+pub query-size : (gold gate : Design) → Comparable gold gate → (s t : StoredBits) (d k : ℕ) (q : Query) → QueryOf (problemOf gold gate s t) d k q → length (q .aig) ≤ proofNodes gold gate d
+query-size gold gate c s t d k q w = subst (λ (n : ℕ). length (q .aig) ≤ n) (bound-is gold gate (c .gold-valid) d) (query-bound gold gate s t d k q w)
+
+-- so where no refusal applies, those up to the maximum depth have at most 65,535
+pub query-fits : (a b : List ℕ) (o : Options) (lent : Lent) (gold gate : Design) → checkRefusal a b o lent ≡ none → readPair a b ≡ both gold gate
+    → (s t : StoredBits) (d k : ℕ) (q : Query) → QueryOf (problemOf gold gate s t) d k q → d ≤ o .depth → length (q .aig) ≤ 65535
+unfolding proofNodes
+query-fits a b o lent gold gate free r s t d k q w h =
+    let f : Facts gold gate o lent = facts-of gold gate o lent (free-of a b o lent gold gate free r) in
+    let small = ltb-false 65535 (proofNodes gold gate (o .depth)) (f .small) in
+    let more = mul-le-mul-right {m = suc d} {n = suc (o .depth)} (nodesPerCycle gold gate) (omega arith) in
+    omega (arith, query-size gold gate (comparable a b o lent gold gate free r) s t d k q w, small, more)

@@ -8,6 +8,7 @@ use mathlib.Core.Option.{Option, none, some}
 use lib.ListN.{length, getD}
 use lib.Dec.{leb, eqb}
 use Rattle.model.specs.Answers.{Refusal}
+use Rattle.model.specs.Options.{Options}
 use Rattle.model.specs.Names.{Name, Place}
 use Rattle.model.specs.Netlist.{Node, Register, Design}
 use Rattle.model.specs.Record.{Step, got, refused, Reader, refuse, pure, goOn, _>>=_, tested, guard, bytes, byte, number, code, codeBelow, nameBytes, name, nameIf, valueIf, numbers, node, nodesFrom, nodes, enableFor, resetFor, register, registersFrom, registers, end, version1, versionOf, Read, parsed, refusedRecord, lengthFits, finished, parseFields, parseSized, parse}
@@ -15,7 +16,7 @@ use Rattle.model.specs.Validate.{_otherwise_, refuseIf, nodeFault, nodesFault, 
 use Rattle.model.specs.Pair.{Lent, interfaceFault, resetsFault, initialFault, checkFault, ReadPair, both, refusedPair, onGate, withGate, withGold, readPair, checkRefusalOf, checkRefusal}
 use Rattle.laws.specs.Terms.{Real}
 
--- a step of a reader that refuses with a number of document 01, if it refuses
+-- a step of a reader that refuses with a number of the specification, if it refuses
 abbrev RealStep : {A : Type 0} → Step A → Type 0
 RealStep (got a i) = Unit {0}
 RealStep (refused r) = Real r
@@ -239,9 +240,9 @@ unfolding resetsFault
 real-resets side rs [] = tt
 real-resets side rs (p ∷ ps) = or-real _ _ (if-real 22 side (p .number) _ (omega arith) (omega arith)) (real-resets side rs ps)
 
-real-fault : (gold gate : Design) (D : ℕ) (lent : Lent) → RealOption (checkFault gold gate D lent)
+real-fault : (gold gate : Design) (o : Options) (lent : Lent) → RealOption (checkFault gold gate o lent)
 unfolding checkFault interfaceFault initialFault
-real-fault gold gate D lent =
+real-fault gold gate o lent =
     or-real _ _ (if-real 16 0 0 _ (omega arith) (omega arith)) (or-real _ _ (if-real 17 0 0 _ (omega arith) (omega arith))
     (or-real _ _
     (or-real _ _ (if-real 18 0 0 _ (omega arith) (omega arith)) (or-real _ _ (if-real 19 0 0 _ (omega arith) (omega arith)) (or-real _ _ (if-real 20 0 0 _ (omega arith) (omega arith))
@@ -263,12 +264,12 @@ unfolding withGold
 gold-real (parsed gold) b h = gate-real gold (readRecord b) (read-real b)
 gold-real (refusedRecord r) b h = h
 
-of-real : (p : ReadPair) (D : ℕ) (lent : Lent) → RealPair p → RealOption (checkRefusalOf p D lent)
+of-real : (p : ReadPair) (o : Options) (lent : Lent) → RealPair p → RealOption (checkRefusalOf p o lent)
 unfolding checkRefusalOf
-of-real (refusedPair r) D lent h = h
-of-real (both gold gate) D lent h = real-fault gold gate D lent
+of-real (refusedPair r) o lent h = h
+of-real (both gold gate) o lent h = real-fault gold gate o lent
 
 -- every refusal of a check
-pub check-real : (a b : List ℕ) (D : ℕ) (lent : Lent) (r : Refusal) → checkRefusal a b D lent ≡ some r → Real r
+pub check-real : (a b : List ℕ) (o : Options) (lent : Lent) (r : Refusal) → checkRefusal a b o lent ≡ some r → Real r
 unfolding checkRefusal readPair
-check-real a b D lent r e = subst RealOption e (of-real (withGold (readRecord a) b) D lent (gold-real (readRecord a) b (read-real a)))
+check-real a b o lent r e = subst RealOption e (of-real (withGold (readRecord a) b) o lent (gold-real (readRecord a) b (read-real a)))

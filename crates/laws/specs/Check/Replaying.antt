@@ -18,8 +18,8 @@ use Rattle.laws.specs.Names.Order.{Distinct, sort-increasing}
 use Rattle.laws.specs.Names.Sets.{SameSet, increasing-unique, inputs-distinct, outputs-distinct}
 use Rattle.laws.specs.Record.Accepted.{otherwise-none, refuseIf-none, accepted-parsed}
 use Rattle.laws.specs.Replay.{replays-yes}
-use Rattle.laws.specs.Induction.Chain.{readPair-both, same-names, output-length}
-use Rattle.laws.specs.Induction.Pairs.{names-refl}
+use Rattle.laws.specs.Induction.Chain.{output-length}
+use Rattle.laws.specs.Induction.Pairs.{readPair-both, same-names, names-refl}
 
 -- the output names of two designs that a replay does not refuse
 names-alike : (gold gate : Design) (cycle : ℕ) (claim : List ℕ) → replayFault gold gate cycle claim ≡ none → namesOf (outputs gold) ≡ namesOf (outputs gate)

@@ -1,26 +1,26 @@
--- The self law of the check, under any limit of learned literals: a record against itself, not refused, is Equivalent at depth 1. Assumes nothing.
-use Prim.Native.Nat.{ℕ, zero, suc, _≤_}
-use native.Mathlib.Omega.{arith}
+-- The self law of the check, under any options: a design against itself from the same start bits, and a record against itself, is Equivalent at depth 1. Assumes nothing.
+use Prim.Native.Nat.{ℕ, suc, _≤_}
 use mathlib.Core.Path.{_≡_, sym, ap, _∙_}
 use mathlib.Core.Bool.{false}
 use mathlib.Core.List.{List, [], _∷_}
 use mathlib.Core.Option.{none}
-use borrow.Author.Tests.{eqb-false}
 use Rattle.model.specs.Answers as Answers
+use Rattle.model.specs.Options.{Options}
 use Rattle.model.specs.Names.{Name, sameName, memberName}
 use Rattle.model.specs.Netlist.{Node, Register, Design}
 use Rattle.model.specs.Validate.{nodesFault, registersFault, validate}
-use Rattle.model.specs.Pair.{readPair}
+use Rattle.model.specs.Run.{StoredBits, initialBits}
+use Rattle.model.specs.Pair.{Lent, checkRefusal}
 use Rattle.model.specs.Induction.{answered, SelfLaw}
-use Rattle.model.specs.Equivalence.{Outcome, Equivalent}
-use Rattle.model.specs.Check.{checkDesigns, checkPair, checkRead, checkOutcome, verdictSays, outcomeSays, checkUnder}
+use Rattle.model.specs.Equivalence.{Outcome}
+use Rattle.model.specs.Check.{verdictSays, checked}
 use Rattle.facts.specs.Bools.{or-left, or-right}
+use Rattle.laws.specs.Terms.{checkedDesigns}
 use Rattle.laws.specs.Record.Accepted.{register-new, otherwise-none, accepted-parsed}
 use Rattle.laws.specs.Names.Sorting.{Apart, Distinct, namesBy}
-use Rattle.laws.specs.Induction.Chain.{Accepted, accepted-pair, readPair-both, one-design}
-use Rattle.laws.specs.Induction.Pairs.{Facts, facts-of}
+use Rattle.laws.specs.Induction.Pairs.{readPair-both, one-design, Accepted, accepted-pair, depth-positive}
 use Rattle.laws.specs.Queries.Self.{registerName, design-self}
-use Rattle.laws.specs.Check.Call.{check-accepts}
+use Rattle.laws.specs.Check.Call.{check-accepts, checked-is}
 
 -- ---- the registers of an accepted design have distinct names
 
@@ -50,24 +50,23 @@ distinct-registers d h =
 
 -- ---- the law
 
-designs-self : (limit D : ℕ) (gold gate : Design) → 1 ≤ D → gold ≡ gate → validate gold ≡ none
-    → verdictSays (checkDesigns limit gold gate D .verdict) ≡ answered Answers.Equivalent 1
+-- a valid design against itself, from the same start bits: Equivalent at depth 1
+pub designs-self : (o : Options) (d : Design) (s : StoredBits) → validate d ≡ none → 1 ≤ o .depth → checkedDesigns o d d s s ≡ answered Answers.Equivalent 1
 unfolding verdictSays
-designs-self limit zero gold gate l e h = absurd (omega arith)
-designs-self limit (suc n) gold gate l e h =
-    ap (λ (g : Design). verdictSays (checkDesigns limit gold g (suc n) .verdict)) (sym e)
-    ∙ ap (λ (o : Outcome). verdictSays (o .verdict)) (design-self limit n gold (distinct-registers gold h))
+designs-self o d s v l = ap (λ (x : Outcome). verdictSays (x .verdict)) (design-self o d s l (distinct-registers d v))
+
+-- a record against itself, where no refusal applies: Equivalent at depth 1
+pub check-self-depth : (a : List ℕ) (o : Options) (lent : Lent) → checkRefusal a a o lent ≡ none → checked a a o lent ≡ answered Answers.Equivalent 1
+check-self-depth a o lent free =
+    let k : Accepted a a o lent = accepted-pair a a o lent free in
+    let r = readPair-both a a (k .gold) (k .gate) (k .pair) in
+    let same : k .gate ≡ k .gold = one-design a (k .gate) (k .gold) (r .1) (r .0) in
+    checked-is a a o lent (k .gold) (k .gate) free (k .pair)
+    ∙ ap (λ (g : Design). checkedDesigns o (k .gold) g (initialBits (k .gold)) (initialBits g)) same
+    ∙ designs-self o (k .gold) (initialBits (k .gold)) (accepted-parsed a (k .gold) (r .0) .1) (depth-positive (k .gold) (k .gate) o lent (k .free))
 
 -- the self law of the check
-pub check-self : (limit : ℕ) → SelfLaw (checkUnder limit)
-unfolding checkUnder checkOutcome checkRead checkPair outcomeSays
-check-self limit a D lent status d e =
-    let k : Accepted a a D lent = accepted-pair a a D lent (check-accepts limit a a D lent status d e) in
-    let r = readPair-both a a (k .gold) (k .gate) (k .pair) in
-    let same : k .gold ≡ k .gate = one-design a (k .gold) (k .gate) (r .0) (r .1) in
-    let f : Facts (k .gold) (k .gate) D lent = facts-of (k .gold) (k .gate) D lent (k .free) in
-    let p : 1 ≤ D = omega (arith, eqb-false D 0 (f .depth-low)) in
-    let s : outcomeSays (checkRead limit (readPair a a) D lent) ≡ answered Answers.Equivalent 1 =
-    rw (k .pair, k .free) (designs-self limit D (k .gold) (k .gate) p same (accepted-parsed a (k .gold) (r .0) .1)) in
-    let t : answered status d ≡ answered Answers.Equivalent 1 = sym e ∙ s in
+pub check-self : SelfLaw checked
+check-self a o lent status d e =
+    let t : answered status d ≡ answered Answers.Equivalent 1 = sym e ∙ check-self-depth a o lent (check-accepts a a o lent status d e) in
     (let u : status ≡ Answers.Equivalent = cc in u, let u : d ≡ 1 = cc in u)

@@ -13,7 +13,7 @@ use Rattle.model.specs.Literal.{Literal, FALSE, TRUE, node, inverted, negate}
 use Rattle.model.specs.Lists.{position, nextPlace, snoc}
 use Rattle.model.specs.Aig.{Node, Constant, Variable, And, Aig, Built, variable, isAnd, andFound, andShortcut, andUnless, and, or, xorShortcut, xorUnless, xor, muxShortcut, muxUnless, mux, evaluate, aigNodeValue, aigValuesFrom, aigNodeValues}
 use Rattle.laws.specs.Lists.{length-snoc, getD-snoc-new}
-use Rattle.laws.specs.Graph.Values.{Below, InOrder, at-node, values-snoc, length-values, Grounded, node-negate, lit-neg, lit-0, lit-1, Sound, and-shortcut-sound, lit-even}
+use Rattle.laws.specs.Graph.Values.{Below, InOrder, at-node, values-snoc, length-values, Grounded, node-negate, lit-neg, lit-0, lit-1, Conjoined, and-shortcut-sound, lit-even}
 use Rattle.facts.specs.Bools.{and-left, and-right, by-cond, xor-self, cond-same}
 
 -- ---- the hash
@@ -128,7 +128,7 @@ module _ (environment : ℕ → Bool) where
   found-means g w a b ha hb none h = snoc-means g w (And a b) (ha, hb)
 
   unless-means : (g : Aig) → Formed g → (a b : Literal) → node a < length g → node b < length g
-      → (o : Option Literal) → Sound (aigNodeValues environment g) (length g) a b o
+      → (o : Option Literal) → Conjoined (aigNodeValues environment g) (length g) a b o
       → Means environment g (evaluate (aigNodeValues environment g) a && evaluate (aigNodeValues environment g) b) (andUnless g (min a b) (max a b) o)
   unfolding andUnless
   unless-means g w a b ha hb (some l) h = same-graph g _ l w (h .1) (h .0)

@@ -137,23 +137,23 @@ module _ (vs : List Bool) where
   lit-1 g = rw g
 
   -- what the conjunction of a and b may be, among k nodes
-  abbrev pub Sound : ℕ → ℕ → ℕ → Option ℕ → Type 0
-  Sound k a b none = Unit {0}
-  Sound k a b (some l) = (evaluate vs l ≡ evaluate vs a && evaluate vs b) × (node l < k)
+  abbrev pub Conjoined : ℕ → ℕ → ℕ → Option ℕ → Type 0
+  Conjoined k a b none = Unit {0}
+  Conjoined k a b (some l) = (evaluate vs l ≡ evaluate vs a && evaluate vs b) × (node l < k)
 
   -- what `and` answers without a node has the conjunction's value
-  pub and-shortcut-sound : Grounded vs → (k a b : ℕ) → node a < k → node b < k → Sound k a b (andShortcut a b)
+  pub and-shortcut-sound : Grounded vs → (k a b : ℕ) → node a < k → node b < k → Conjoined k a b (andShortcut a b)
   unfolding andShortcut node
   and-shortcut-sound g k a b ha hb =
-      by-cond (Sound k a b) {x = some 0}
+      by-cond (Conjoined k a b) {x = some 0}
       (by-or (λ e. (rw (eqb-true a 0 e, lit-0 g) refl, omega arith)) (λ e. (rw (eqb-true b 0 e, lit-0 g, and-false), omega arith)))
       λ _.
-      by-cond (Sound k a b)
+      by-cond (Conjoined k a b)
       {x = some b} (λ e. (rw (eqb-true a 1 e, lit-1 g), hb))
       λ _.
-      by-cond (Sound k a b) {x = some a}
+      by-cond (Conjoined k a b) {x = some a}
       (by-or (λ e. (rw (eqb-true b 1 e, lit-1 g, and-true), ha)) (λ e. (rw (eqb-true a b e, and-self), ha)))
-      λ _. by-cond (Sound k a b) {x = some 0} (λ e. (rw (eqb-true a (negate b) e, lit-neg, lit-0 g, not-and-self), omega arith)) (λ _. tt)
+      λ _. by-cond (Conjoined k a b) {x = some 0} (λ e. (rw (eqb-true a (negate b) e, lit-neg, lit-0 g, not-and-self), omega arith)) (λ _. tt)
 
   -- the plain literal of a node has the node's value
   pub lit-even : (i : ℕ) → evaluate vs (i * 2) ≡ getD vs i false

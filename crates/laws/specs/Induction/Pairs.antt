@@ -1,7 +1,6 @@
--- Pairs of designs: what an accepted pair has, that it stays accepted when swapped, and the swap law of checks. Assumes nothing.
-use Prim.Native.Nat.{ℕ}
+-- Pairs of records and designs: what an accepted pair has, and that it stays accepted when swapped. Assumes nothing.
+use Prim.Native.Nat.{ℕ, _≤_}
 use mathlib.Core.Path.{_≡_, refl, sym, ap, ap₂, _∙_, subst}
-use mathlib.Core.Logic.{_≢_}
 use mathlib.Core.Bool.{true, false, not, _&&_}
 use mathlib.Core.List.{List, [], _∷_}
 use mathlib.Core.Option.{Option, none, some}
@@ -9,25 +8,80 @@ use native.Mathlib.Omega.{arith}
 use native.Mathlib.Nat.{add-comm}
 use lib.ListN.{length, length-map}
 use lib.Dec.{eqb, ltb}
-use borrow.Author.Tests.{not-false}
-use Rattle.model.specs.Answers.{Refusal, Status, GaveUp}
-use Rattle.model.specs.Names.{Name, Place, sameNames, namesOf}
-use Rattle.laws.specs.Names.Order.{same-refl, same-sym}
+use borrow.Author.Tests.{not-false, eqb-false}
+use Rattle.model.specs.Options.{Options}
+use Rattle.model.specs.Names.{Name, Place, sameName, sameNames, namesOf}
+use Rattle.facts.specs.Bools.{and-left, and-right}
+use Rattle.laws.specs.Terms.{Comparable}
+use Rattle.laws.specs.Names.Order.{same-eq, same-refl, same-sym}
 use Rattle.model.specs.Netlist.{Edge, Rising, Falling, Register, Design, inputs, outputs, registersByName, inputCount, outputCount, nodeCount, registerCount}
-use Rattle.model.specs.Record.{parsed}
+use Rattle.model.specs.Record.{Read, parsed, refusedRecord}
 use Rattle.model.specs.Validate.{refuseIf, readRecord}
 use Rattle.laws.specs.Record.Accepted.{otherwise-none, refuseIf-none, accepted-parsed, none-otherwise, pass}
-use Rattle.model.specs.Run.{initialBits}
-use Rattle.model.specs.Pair.{Domain, sameEdge, sameDomain, manyDomains, domain, domainsDiffer, inputsDiffer, outputsDiffer, interfaceFault, resetsFault, initialFault, nodesPerCycle, proofNodes, Lent, traceLength, tooShort, checkFault, both, withGate, withGold, readPair, checkRefusalOf, checkRefusal}
-use Rattle.model.specs.Induction.{refused, answered, Check, Accepts, Refuses, Sound, SwapLaw}
-use Rattle.laws.specs.Induction.Sound.{functional}
-use Rattle.laws.specs.Induction.Swap.{unique-registers, says-swap}
-use Rattle.laws.specs.Induction.Chain.{Accepted, accepted-pair, readPair-both, same-names}
+use Rattle.model.specs.Pair.{Domain, sameEdge, sameDomain, manyDomains, domain, domainsDiffer, inputsDiffer, outputsDiffer, interfaceFault, resetsFault, initialFault, nodesPerCycle, proofNodes, Lent, traceLength, tooShort, checkFault, ReadPair, both, refusedPair, withGate, withGold, readPair, checkRefusalOf, checkRefusal}
+
+-- ---- both records read
+
+withGate-both : (g x y : Design) (r : Read) → withGate g r ≡ both x y → (g ≡ x) × (r ≡ parsed y)
+unfolding withGate
+withGate-both g x y (parsed h) e = (cc, let f : h ≡ y = cc in cc)
+withGate-both g x y (refusedRecord q) e = absurd (let z : _≡_ {A = ℕ} 0 1 = cc in omega arith)
+
+withGold-both : (r : Read) (b : List ℕ) (x y : Design) → withGold r b ≡ both x y → (r ≡ parsed x) × (readRecord b ≡ parsed y)
+unfolding withGold
+withGold-both (parsed g) b x y e = let w = withGate-both g x y (readRecord b) e in let f : g ≡ x = w .0 in (cc, w .1)
+withGold-both (refusedRecord q) b x y e = absurd (let z : _≡_ {A = ℕ} 0 1 = cc in omega arith)
+
+-- a pair that is read: both records are accepted
+pub readPair-both : (a b : List ℕ) (x y : Design) → readPair a b ≡ both x y → (readRecord a ≡ parsed x) × (readRecord b ≡ parsed y)
+unfolding readPair
+readPair-both a b x y e = withGold-both (readRecord a) b x y e
+
+-- and the other way round
+pub readPair-of : (a b : List ℕ) (g h : Design) → readRecord a ≡ parsed g → readRecord b ≡ parsed h → readPair a b ≡ both g h
+unfolding readPair withGold withGate
+readPair-of a b g h p q = rw (p, q)
+
+-- a record has one design
+pub one-design : (a : List ℕ) (g h : Design) → readRecord a ≡ parsed g → readRecord a ≡ parsed h → g ≡ h
+one-design a g h p q = cc
+
+-- the designs of a pair that no refusal of a check applies to
+pub record Accepted (a b : List ℕ) (o : Options) (lent : Lent) : Type 0 where
+  pub gold : Design
+  pub gate : Design
+  pub pair : readPair a b ≡ both gold gate
+  pub free : checkFault gold gate o lent ≡ none
+
+accepted-at : (a b : List ℕ) (o : Options) (lent : Lent) (r : ReadPair) → readPair a b ≡ r → checkRefusalOf r o lent ≡ none → Accepted a b o lent
+unfolding checkRefusalOf
+accepted-at a b o lent (both g h) e n = record { gold = g; gate = h; pair = e; free = n }
+accepted-at a b o lent (refusedPair q) e n = absurd (let z : _≡_ {A = ℕ} 0 1 = cc in omega arith)
+
+-- a check that is not refused has two designs
+pub accepted-pair : (a b : List ℕ) (o : Options) (lent : Lent) → checkRefusal a b o lent ≡ none → Accepted a b o lent
+unfolding checkRefusal
+accepted-pair a b o lent n = accepted-at a b o lent (readPair a b) refl n
+
+-- to them no refusal of 16 to 24 applies
+pub free-of : (a b : List ℕ) (o : Options) (lent : Lent) (gold gate : Design) → checkRefusal a b o lent ≡ none → readPair a b ≡ both gold gate → checkFault gold gate o lent ≡ none
+unfolding checkRefusal checkRefusalOf
+free-of a b o lent gold gate h r = subst (λ (x : ReadPair). checkRefusalOf x o lent ≡ none) r h
+
+-- ---- what an accepted pair has
+
+-- names that are tested to be the same are
+pub same-names : (xs ys : List Name) → sameNames xs ys ≡ true → xs ≡ ys
+unfolding sameNames
+same-names [] [] h = refl
+same-names [] (y ∷ ys) h = absurd (let z : _≡_ {A = ℕ} 0 1 = cc in omega arith)
+same-names (x ∷ xs) [] h = absurd (let z : _≡_ {A = ℕ} 0 1 = cc in omega arith)
+same-names (x ∷ xs) (y ∷ ys) h = ap₂ _∷_ (same-eq x y (and-left (sameName x y) _ h)) (same-names xs ys (and-right (sameName x y) _ h))
 
 -- what holds of a pair that no refusal of 16 to 24 applies to
-pub record Facts (gold gate : Design) (D : ℕ) (lent : Lent) : Type 0 where
-  pub depth-low : eqb D 0 ≡ false
-  pub depth-high : ltb 64 D ≡ false
+pub record Facts (gold gate : Design) (o : Options) (lent : Lent) : Type 0 where
+  pub depth-low : eqb (o .depth) 0 ≡ false
+  pub depth-high : ltb 64 (o .depth) ≡ false
   pub input-names : inputsDiffer gold gate ≡ false
   pub output-names : outputsDiffer gold gate ≡ false
   pub gold-domain : manyDomains (gold .nodes) (gold .registers) ≡ false
@@ -35,13 +89,13 @@ pub record Facts (gold gate : Design) (D : ℕ) (lent : Lent) : Type 0 where
   pub domains : domainsDiffer (domain (gold .nodes) (gold .registers)) (domain (gate .nodes) (gate .registers)) ≡ false
   pub gold-resets : resetsFault 0 (gold .registers) (registersByName gold) ≡ none
   pub gate-resets : resetsFault 1 (gate .registers) (registersByName gate) ≡ none
-  pub small : ltb 65535 (proofNodes gold gate D) ≡ false
-  pub memory : tooShort gold D lent ≡ false
+  pub small : ltb 65535 (proofNodes gold gate (o .depth)) ≡ false
+  pub memory : tooShort gold (o .depth) lent ≡ false
 
 -- what a pair has where no refusal of 16 to 24 applies
-pub facts-of : (gold gate : Design) (D : ℕ) (lent : Lent) → checkFault gold gate D lent ≡ none → Facts gold gate D lent
+pub facts-of : (gold gate : Design) (o : Options) (lent : Lent) → checkFault gold gate o lent ≡ none → Facts gold gate o lent
 unfolding checkFault interfaceFault initialFault
-facts-of gold gate D lent h =
+facts-of gold gate o lent h =
     let a16 = otherwise-none (refuseIf 16 0 0 _) _ h in
     let a17 = otherwise-none (refuseIf 17 0 0 _) _ (a16 .1) in
     let face = otherwise-none (interfaceFault gold gate) _ (a17 .1) in
@@ -66,9 +120,26 @@ facts-of gold gate D lent h =
       memory = refuseIf-none 24 0 0 _ (a23 .1);
     }
 
-no-fault : (gold gate : Design) (D : ℕ) (lent : Lent) → Facts gold gate D lent → checkFault gold gate D lent ≡ none
+-- the designs of a check that is not refused are comparable
+pub comparable : (a b : List ℕ) (o : Options) (lent : Lent) (gold gate : Design) → checkRefusal a b o lent ≡ none → readPair a b ≡ both gold gate → Comparable gold gate
+unfolding inputsDiffer outputsDiffer
+comparable a b o lent gold gate h r =
+    let f : Facts gold gate o lent = facts-of gold gate o lent (free-of a b o lent gold gate h r) in
+    let x = readPair-both a b gold gate r in
+    record {
+      gold-valid = accepted-parsed a gold (x .0) .1;
+      gate-valid = accepted-parsed b gate (x .1) .1;
+      input-names = same-names (namesOf (inputs gold)) (namesOf (inputs gate)) (not-false _ (f .input-names));
+      output-names = same-names (namesOf (outputs gold)) (namesOf (outputs gate)) (not-false _ (f .output-names));
+    }
+
+-- and it is to depth 1 or more
+pub depth-positive : (gold gate : Design) (o : Options) (lent : Lent) → checkFault gold gate o lent ≡ none → 1 ≤ o .depth
+depth-positive gold gate o lent h = omega (arith, eqb-false (o .depth) 0 (facts-of gold gate o lent h .depth-low))
+
+no-fault : (gold gate : Design) (o : Options) (lent : Lent) → Facts gold gate o lent → checkFault gold gate o lent ≡ none
 unfolding checkFault interfaceFault initialFault
-no-fault gold gate D lent f =
+no-fault gold gate o lent f =
     none-otherwise _ _ (pass 16 0 0 _ (f .depth-low))
     (none-otherwise _ _ (pass 17 0 0 _ (f .depth-high))
     (none-otherwise _ _ (none-otherwise _ _ (pass 18 0 0 _ (f .input-names))
@@ -123,11 +194,11 @@ tooShort-swap : (gold gate : Design) (D : ℕ) (lent : Lent) → inputCount gold
 unfolding tooShort traceLength
 tooShort-swap gold gate D lent i o = rw (i, o)
 
-facts-swap : (gold gate : Design) (D : ℕ) (lent : Lent) → Facts gold gate D lent → Facts gate gold D lent
+facts-swap : (gold gate : Design) (o : Options) (lent : Lent) → Facts gold gate o lent → Facts gate gold o lent
 unfolding inputsDiffer outputsDiffer inputCount outputCount
-facts-swap gold gate D lent f =
+facts-swap gold gate o lent f =
     let i : inputCount gold ≡ inputCount gate = names-length (inputs gold) (inputs gate) (f .input-names) in
-    let o : outputCount gold ≡ outputCount gate = names-length (outputs gold) (outputs gate) (f .output-names) in
+    let n : outputCount gold ≡ outputCount gate = names-length (outputs gold) (outputs gate) (f .output-names) in
     record {
       depth-low = f .depth-low;
       depth-high = f .depth-high;
@@ -138,45 +209,14 @@ facts-swap gold gate D lent f =
       domains = domains-swap _ _ ∙ f .domains;
       gold-resets = resets-side 1 0 (gate .registers) (registersByName gate) (f .gate-resets);
       gate-resets = resets-side 0 1 (gold .registers) (registersByName gold) (f .gold-resets);
-      small = ap (ltb 65535) (sym (proofNodes-swap gold gate D i o)) ∙ f .small;
-      memory = sym (tooShort-swap gold gate D lent i o) ∙ f .memory;
+      small = ap (ltb 65535) (sym (proofNodes-swap gold gate (o .depth) i n)) ∙ f .small;
+      memory = sym (tooShort-swap gold gate (o .depth) lent i n) ∙ f .memory;
     }
 
--- both records read, in either order
-readPair-of : (a b : List ℕ) (g h : Design) → readRecord a ≡ parsed g → readRecord b ≡ parsed h → readPair a b ≡ both g h
-unfolding readPair withGold withGate
-readPair-of a b g h p q = rw (p, q)
-
-refusal-swap : (a b : List ℕ) (D : ℕ) (lent : Lent) → checkRefusal a b D lent ≡ none → checkRefusal b a D lent ≡ none
+-- a swapped pair is accepted where the pair is
+pub refusal-swap : (a b : List ℕ) (o : Options) (lent : Lent) → checkRefusal a b o lent ≡ none → checkRefusal b a o lent ≡ none
 unfolding checkRefusal checkRefusalOf
-refusal-swap a b D lent h =
-    let k : Accepted a b D lent = accepted-pair a b D lent h in
+refusal-swap a b o lent h =
+    let k : Accepted a b o lent = accepted-pair a b o lent h in
     let r = readPair-both a b (k .gold) (k .gate) (k .pair) in
-    rw (readPair-of b a (k .gate) (k .gold) (r .1) (r .0)) (no-fault (k .gate) (k .gold) D lent (facts-swap (k .gold) (k .gate) D lent (facts-of (k .gold) (k .gate) D lent (k .free))))
-
--- ---- the swap law
-
-module _ (check : Check) (sound : Sound check) (accepts : Accepts check) (refuses : Refuses check) where
-  verdict-swap : (a b : List ℕ) (D : ℕ) (lent : Lent) (p q : Status) (d e : ℕ) → check a b D lent ≡ answered p d → check b a D lent ≡ answered q e → p ≢ GaveUp → q ≢ GaveUp → (p ≡ q) × (d ≡ e)
-  verdict-swap a b D lent p q d e x y u v =
-      let k : Accepted a b D lent = accepted-pair a b D lent (accepts a b D lent p d x) in
-      let r = readPair-both a b (k .gold) (k .gate) (k .pair) in
-      let g = accepted-parsed a (k .gold) (r .0) .1 in
-      let h = accepted-parsed b (k .gate) (r .1) .1 in
-      let s = sound a b D lent p d x u (k .gold) (k .gate) (k .pair) in
-      let t = sound b a D lent q e y v (k .gate) (k .gold) (readPair-of b a (k .gate) (k .gold) (r .1) (r .0)) in
-      functional s (says-swap (k .gate) (k .gold) (unique-registers (k .gate) h) (unique-registers (k .gold) g) (initialBits (k .gate)) (initialBits (k .gold)) D t)
-
-  refused-swap : (a b : List ℕ) (D : ℕ) (lent : Lent) (r : Refusal) → check a b D lent ≡ refused r → (q : Refusal) × (check b a D lent ≡ refused q)
-  refused-swap a b D lent r e = go (checkRefusal b a D lent) refl
-    where
-      go : (o : Option Refusal) → checkRefusal b a D lent ≡ o → (q : Refusal) × (check b a D lent ≡ refused q)
-      go (some q) f = (q, refuses b a D lent q .1 f)
-      go none f =
-          let n : checkRefusal a b D lent ≡ none = refusal-swap b a D lent f in
-          let m : checkRefusal a b D lent ≡ some r = refuses a b D lent r .0 e in
-          absurd (let z : _≡_ {A = ℕ} 0 1 = cc in omega arith)
-
-  -- the swap law of a check that is sound and refuses exactly where a refusal applies
-  pub swap-law : SwapLaw check
-  swap-law = record { verdict = verdict-swap; refusal = refused-swap }
+    rw (readPair-of b a (k .gate) (k .gold) (r .1) (r .0)) (no-fault (k .gate) (k .gold) o lent (facts-swap (k .gold) (k .gate) o lent (facts-of (k .gold) (k .gate) o lent (k .free))))

@@ -8,7 +8,7 @@ use mathlib.Core.Option.{Option, none, some}
 use Rattle.model.specs.Names.{Name, Place, sameName, namesOf}
 use Rattle.model.specs.Netlist.{Design, inputs, registersByName}
 use Rattle.model.specs.Validate.{validate}
-use Rattle.model.specs.Run.{InputBits, InputSequence, StoredBits, bitAt, nodeValues, nextStored, outputBits, storedAt, outputsAt}
+use Rattle.model.specs.Run.{InputBits, InputSequence, StoredBits, bitAt, nodeValues, nextStored, outputBits, storedAt, outputsAt, byName}
 use Rattle.model.specs.Replay.{bitsDiffer, differAt}
 use Rattle.model.specs.Induction.{alikeIf, numberOf, alikeIn, namedAlike, storedDiffer, namedDifferAt, eitherDifferAt}
 use Rattle.model.specs.Lists.{zip}
@@ -16,7 +16,7 @@ use Rattle.model.specs.Transition.{StateBit, fromNetlist}
 use Rattle.model.specs.Equivalence.{stateLiteral, consPair, namedPairs}
 use Rattle.laws.specs.Lowering.SystemRun.{systemOutputs, systemNext, pairsDiffer, systemOutputsDiffer, systemStatesDiffer, outputsDifferWithin, statesDifferWithin, cycleDiffers, assumptionBits}
 use Rattle.laws.specs.Pairwise.{Pairwise}
-use Rattle.laws.specs.Lowering.Run.{rowOf, byName, outputs-right, next-right, states-named}
+use Rattle.laws.specs.Lowering.Run.{rowOf, outputs-right, next-right, states-named}
 
 bits-differ : (xs ys : List Bool) → pairsDiffer (zip xs ys) ≡ bitsDiffer xs ys
 unfolding pairsDiffer zip bitsDiffer

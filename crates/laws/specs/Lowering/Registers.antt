@@ -12,7 +12,7 @@ use borrow.Author.Tests.{not-false, eqb-true, eqb-false, eq-eqb, ne-eqb}
 use Rattle.model.specs.Names.{Name, Place}
 use Rattle.model.specs.Netlist.{Node, Enable, Reset, Register, registerPlaces}
 use Rattle.model.specs.Validate.{Driver, driver, driverFrom, refuseIf, isRegisterOutputAt, registerFault, registersFault}
-use Rattle.model.specs.Run.{InputBits, StoredBits, bitAt, enabledBit, resetBit, nextBit, initialBit}
+use Rattle.model.specs.Run.{InputBits, StoredBits, bitAt, enabledBit, resetBit, nextBit}
 use Rattle.model.specs.Literal.{Literal, FALSE, node}
 use Rattle.model.specs.Lists.{snoc, member, lookup}
 use Rattle.model.specs.Aig.{Aig, Built}
@@ -49,23 +49,21 @@ module _ (e : ℕ → Bool) where
       let m = enabled-means g w nets values h (r .enable) (netLiteral nets (r .«data»)) s _ b (net-has e g w nets values h (r .«data»)) p in
       reset-next-means g _ _ m nets values (list-later e (grown e m) nets values h) (r .reset)
 
-  module _ (stored values next initial : List Bool) where
+  module _ (stored values next : List Bool) where
     -- a state beside its register's place, with its bits
     pub record StateAt (g : Aig) (s : StateBit) (p : Place) : Type 0 where
       pub name : s .name ≡ p .name
       pub next-bit : Has e g (s .next) (bitAt next (p .number))
       pub variable-bit : e (s .variable) ≡ bitAt stored (p .number)
-      pub initial-is : s .initial ≡ bitAt initial (p .number)
 
     state-later : {g h : Aig} → Grown e g h → (s : StateBit) (p : Place) → StateAt g s p → StateAt h s p
-    state-later r s p k = record { name = k .name; next-bit = has-later e r (s .next) _ (k .next-bit); variable-bit = k .variable-bit; initial-is = k .initial-is }
+    state-later r s p k = record { name = k .name; next-bit = has-later e r (s .next) _ (k .next-bit); variable-bit = k .variable-bit }
 
     -- what is known of register k
     pub record KnownAt (w : Lowering) (k : ℕ) (r : Register) : Type 0 where
       pub state : Has e (w .aig) (lookup FALSE (w .stateVariables) (r .output)) (bitAt stored k)
       pub variable : e (node (lookup FALSE (w .stateVariables) (r .output))) ≡ bitAt stored k
       pub next-is : bitAt next k ≡ nextBit values (bitAt stored k) r
-      pub initial-is : bitAt initial k ≡ initialBit (r .reset)
 
     -- each register's output has its state variable
     abbrev pub Known : Lowering → ℕ → List Register → Type 0
@@ -90,7 +88,7 @@ module _ (e : ℕ → Bool) where
           since = grown-trans e (h .since) (grown e m);
           states =
               pairs-append (StateAt (b .aig)) (g .states) ps _ _ (pairs-weaken (StateAt (g .aig)) (StateAt (b .aig)) (state-later (grown e m)) (g .states) ps (h .states))
-              (record { name = refl; next-bit = (z .0 ∙ sym (q .next-is), z .1); variable-bit = q .variable; initial-is = sym (q .initial-is) }, tt);
+              (record { name = refl; next-bit = (z .0 ∙ sym (q .next-is), z .1); variable-bit = q .variable }, tt);
         }
 
     -- all registers, beside their places in record order

@@ -10,13 +10,13 @@ use lib.Seq.{getD-append-seam}
 use Rattle.model.specs.Names.{Name, Place, sameName, before, memberName, insertByName, sortByName, sort, namesOf, rank}
 use Rattle.model.specs.Netlist.{Node, Register, Design, registerPlaces, portsFrom, inputName, inputs, registersByName}
 use Rattle.model.specs.Validate.{validate, nodesFault, registersFault}
-use Rattle.model.specs.Run.{InputBits, StoredBits, bitAt}
+use Rattle.model.specs.Run.{InputBits, StoredBits, bitAt, byName}
 use Rattle.facts.specs.Bools.{or-true}
 use Rattle.facts.specs.Lists.{All, all-map}
 use Rattle.laws.specs.Names.Order.{same-eq, same-refl, Above, Increasing, Distinct, sort-increasing}
 use Rattle.laws.specs.Names.Sets.{before-irreflexive, before-trans, inputs-distinct}
 use Rattle.laws.specs.Record.Accepted.{register-new, otherwise-none}
-use Rattle.laws.specs.Lowering.Run.{rowOf, byName}
+use Rattle.laws.specs.Lowering.Run.{rowOf}
 
 -- ---- increasing places
 

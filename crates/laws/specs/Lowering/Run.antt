@@ -12,13 +12,12 @@ use Rattle.model.specs.Names.{Place}
 use Rattle.model.specs.Netlist.{Register, Design, registerPlaces, portsFrom, inputName, outputName, inputs, outputs, registersByName}
 use Rattle.model.specs.Validate.{driver, validate, nodesFault, registersFault, connectionFault}
 use Rattle.model.specs.Equivalence.{frameVariables}
-use Rattle.model.specs.Run.{InputBits, StoredBits, bitAt, nodeValues, valuesFrom, nextBit, nextFrom, nextStored, outputBits, initialBit, initialBits}
+use Rattle.model.specs.Run.{InputBits, StoredBits, bitAt, nodeValues, valuesFrom, nextBit, nextFrom, nextStored, outputBits, byName}
 use Rattle.model.specs.Literal.{node}
 use Rattle.model.specs.Lists.{zip, lookup}
 use Rattle.model.specs.Aig.{evaluate, aigNodeValues}
 use Rattle.model.specs.Transition.{Port, StateBit, Lowering, Registers, netLiteral, lowerNodes, noNodes, lowerRegisters, systemOf, withRegisters, fromNetlist}
 use Rattle.laws.specs.Lowering.SystemRun.{cycleValues, systemOutputs, systemNext}
-use Rattle.model.specs.Check.{systemInitialBits}
 use Rattle.facts.specs.Lists.{In, All, all-append}
 use Rattle.laws.specs.Pairwise.{Pairwise, pairs-weaken, pairs-map, pairs-all}
 use Rattle.laws.specs.Record.Accepted.{otherwise-none}
@@ -32,10 +31,6 @@ use Rattle.laws.specs.Lowering.Fits.{walkBits, no-nodes-mean, own-fits, 
 -- a design's input bits in byte order of names
 unfoldable pub rowOf : Design → InputBits → List Bool
 rowOf d inp = map (λ (p : Place). inp (p .name)) (inputs d)
-
--- a design's stored bits in byte order of its registers' names
-unfoldable pub byName : Design → StoredBits → List Bool
-byName d stored = map (λ (p : Place). bitAt stored (p .number)) (registersByName d)
 
 module _ (d : Design) (v : validate d ≡ none) where
   -- the walk over all nodes
@@ -88,22 +83,17 @@ module _ (d : Design) (v : validate d ≡ none) where
     abbrev next : List Bool
     next = nextFrom values stored 0 (d .registers)
 
-    -- the initial bits of the registers
-    abbrev start : List Bool
-    start = map (λ (r : Register). initialBit (r .reset)) (d .registers)
-
     module _ (e : ℕ → Bool) (fits : Fits e (d .registers) inp stored noNodes 0 (d .nodes)) where
       walk : WalkMeans e (d .registers) inp stored walked values
       walk = walk-means e (d .registers) inp stored noNodes [] 0 (d .nodes) (no-nodes-mean e (d .registers) inp stored) fits
 
-      known : (done first : List Bool) (k : ℕ) (taken : List ℕ) (rs : List Register) → length done ≡ k → length first ≡ k → next ≡ done ++ nextFrom values stored k rs
-          → start ≡ first ++ map (λ (r : Register). initialBit (r .reset)) rs → OutputsFine (d .nodes) taken rs → Drives (d .registers) k rs
-          → Known e stored values next start walked k rs
+      known : (done : List Bool) (k : ℕ) (taken : List ℕ) (rs : List Register) → length done ≡ k → next ≡ done ++ nextFrom values stored k rs
+          → OutputsFine (d .nodes) taken rs → Drives (d .registers) k rs
+          → Known e stored values next walked k rs
       unfolding nextFrom
-      known done first k taken [] a b p q f g = tt
-      known done first k taken (r ∷ rs) a b p q f g =
+      known done k taken [] a p f g = tt
+      known done k taken (r ∷ rs) a p f g =
           let x = nextBit values (bitAt stored k) r in
-          let y = initialBit (r .reset) in
           let key = rw zero-add at (register-key (d .registers) noNodes 0 (d .nodes) (r .output) (f .0 .register)) in
           let s = lookup-has e (d .registers) inp stored (walked .aig) (walked .stateVariables) (r .output) (walk .states) key in
           let t : storedBit stored (driver (d .registers) (r .output)) ≡ bitAt stored k = ap (storedBit stored) (g .0) ∙ bit-known k r in (
@@ -111,10 +101,8 @@ module _ (d : Design) (v : validate d ≡ none) where
               state = (s .0 .0 ∙ t, s .0 .1);
               variable = s .1 ∙ t;
               next-is = ap (λ (l : List Bool). bitAt l k) p ∙ seam done x _ k a;
-              initial-is = ap (λ (l : List Bool). bitAt l k) q ∙ seam first y _ k b;
             },
-            known (done ++ (x ∷ [])) (first ++ (y ∷ [])) (suc k) (r .output ∷ taken) rs (longer done x k a) (longer first y k b)
-                (p ∙ sym (append-assoc done (x ∷ []) _)) (q ∙ sym (append-assoc first (y ∷ []) _)) (f .1) (g .1),
+            known (done ++ (x ∷ [])) (suc k) (r .output ∷ taken) rs (longer done x k a) (p ∙ sym (append-assoc done (x ∷ []) _)) (f .1) (g .1),
           )
         where
           seam : (done : List Bool) (x : Bool) (rest : List Bool) (k : ℕ) → length done ≡ k → bitAt (done ++ (x ∷ rest)) k ≡ x
@@ -126,17 +114,17 @@ module _ (d : Design) (v : validate d ≡ none) where
           bit-known : (k : ℕ) (r : Register) → storedBit stored (some (record { number = k; register = r })) ≡ bitAt stored k
           bit-known k r = unfold storedBit in refl
 
-      registers : RegistersMean e stored values next start (walked .aig) lowered (registerPlaces 0 (d .registers))
+      registers : RegistersMean e stored values next (walked .aig) lowered (registerPlaces 0 (d .registers))
       registers =
-          registers-mean e stored values next start walked (record { aig = walked .aig; states = [] }) 0 (d .registers) [] (walk .nets)
-          (known [] [] 0 [] (d .registers) refl refl refl refl fine driving)
+          registers-mean e stored values next walked (record { aig = walked .aig; states = [] }) 0 (d .registers) [] (walk .nets)
+          (known [] 0 [] (d .registers) refl refl fine driving)
           (record { since = grown-refl e (walked .aig) (walk .formed); states = tt })
 
       -- the system's states beside the registers by name
-      states-at : Pairwise (StateAt e stored values next start (fromNetlist d .aig)) (fromNetlist d .states) (registersByName d)
+      states-at : Pairwise (StateAt e stored values next (fromNetlist d .aig)) (fromNetlist d .states) (registersByName d)
       unfolding fromNetlist withRegisters systemOf registersByName
       states-at =
-          sort-pairs (λ (s : StateBit). s .name) (StateAt e stored values next start (lowered .aig)) (λ s p r. r .name) (lowered .states) (registerPlaces 0 (d .registers)) (registers .states)
+          sort-pairs (λ (s : StateBit). s .name) (StateAt e stored values next (lowered .aig)) (λ s p r. r .name) (lowered .states) (registerPlaces 0 (d .registers)) (registers .states)
 
       -- under an environment that fits, each output's literal has the plain run's output bit
       outputs-mean : map (λ (p : Port). evaluate (aigNodeValues e (fromNetlist d .aig)) (p .literal)) (fromNetlist d .outputs) ≡ outputBits d (nodeValues d inp stored)
@@ -153,16 +141,11 @@ module _ (d : Design) (v : validate d ≡ none) where
       -- and each state's next literal the next stored bit
       next-mean : map (λ (s : StateBit). evaluate (aigNodeValues e (fromNetlist d .aig)) (s .next)) (fromNetlist d .states) ≡ byName d (nextStored d (nodeValues d inp stored) stored)
       unfolding byName nextStored nodeValues
-      next-mean = pairs-map (StateAt e stored values next start (fromNetlist d .aig)) _ _ (λ s p r. r .next-bit .0) (fromNetlist d .states) (registersByName d) states-at
-
-      -- and each state's initial bit is its register's
-      initial-mean : systemInitialBits (fromNetlist d) ≡ byName d (initialBits d)
-      unfolding byName systemInitialBits initialBits
-      initial-mean = pairs-map (StateAt e stored values next start (fromNetlist d .aig)) _ _ (λ s p r. r .initial-is) (fromNetlist d .states) (registersByName d) states-at
+      next-mean = pairs-map (StateAt e stored values next (fromNetlist d .aig)) _ _ (λ s p r. r .next-bit .0) (fromNetlist d .states) (registersByName d) states-at
 
       names-mean : Pairwise (λ (s : StateBit) (p : Place). s .name ≡ p .name) (fromNetlist d .states) (registersByName d)
       names-mean =
-          pairs-weaken (StateAt e stored values next start (fromNetlist d .aig)) (λ (s : StateBit) (p : Place). s .name ≡ p .name) (λ s p r. r .name) (fromNetlist d .states) (registersByName d) states-at
+          pairs-weaken (StateAt e stored values next (fromNetlist d .aig)) (λ (s : StateBit) (p : Place). s .name ≡ p .name) (λ s p r. r .name) (fromNetlist d .states) (registersByName d) states-at
 
     -- ---- the environment of the walk's own bits
 
@@ -188,7 +171,7 @@ module _ (d : Design) (v : validate d ≡ none) where
     input-right : (p : Port) (q : Place) → InputAt p q → ownEnv (node (p .literal)) ≡ inp (q .name)
     input-right p q r = r .1 ∙ ap inp (r .0 .name)
 
-    state-right : (s : StateBit) (p : Place) → StateAt ownEnv stored values next start (fromNetlist d .aig) s p → ownEnv (s .variable) ≡ bitAt stored (p .number)
+    state-right : (s : StateBit) (p : Place) → StateAt ownEnv stored values next (fromNetlist d .aig) s p → ownEnv (s .variable) ≡ bitAt stored (p .number)
     state-right s p r = r .variable-bit
 
     -- the bits of a plain cycle
@@ -200,7 +183,7 @@ module _ (d : Design) (v : validate d ≡ none) where
     bits-agree =
         all-append (Agree ownEnv) (zip (map (λ (p : Port). node (p .literal)) (fromNetlist d .inputs)) (map (λ (p : Place). inp (p .name)) (inputs d))) _
         (zip-agree ownEnv InputAt _ _ input-right (fromNetlist d .inputs) (inputs d) input-bits)
-        (zip-agree ownEnv (StateAt ownEnv stored values next start (fromNetlist d .aig)) _ _ state-right (fromNetlist d .states) (registersByName d) (states-at ownEnv own))
+        (zip-agree ownEnv (StateAt ownEnv stored values next (fromNetlist d .aig)) _ _ state-right (fromNetlist d .states) (registersByName d) (states-at ownEnv own))
 
     input-listed : (k : ℕ) → In k (map (λ (p : Port). node (p .literal)) (walked .inputs)) → In k (map (λ (p : ℕ × Bool). p .0) cycleBits)
     unfolding frameVariables rowOf byName fromNetlist withRegisters systemOf
@@ -214,7 +197,7 @@ module _ (d : Design) (v : validate d ≡ none) where
     state-listed k i =
         in-map-right (λ (p : ℕ × Bool). p .0) k (zip (map (λ (p : Port). node (p .literal)) (fromNetlist d .inputs)) (map (λ (p : Place). inp (p .name)) (inputs d)))
         (zip (map (λ (s : StateBit). s .variable) (fromNetlist d .states)) (map (λ (p : Place). bitAt stored (p .number)) (registersByName d)))
-        (zip-in ownEnv (StateAt ownEnv stored values next start (fromNetlist d .aig)) (λ (s : StateBit). s .variable) (λ (p : Place). bitAt stored (p .number)) state-right k
+        (zip-in ownEnv (StateAt ownEnv stored values next (fromNetlist d .aig)) (λ (s : StateBit). s .variable) (λ (p : Place). bitAt stored (p .number)) state-right k
         (fromNetlist d .states) (registersByName d) (states-at ownEnv own)
         (in-sort (λ (s : StateBit). s .name) (λ (s : StateBit). s .variable) k (lowered .states) i))
 
@@ -236,10 +219,6 @@ module _ (d : Design) (v : validate d ≡ none) where
     pub next-right : systemNext (fromNetlist d) (rowOf d inp) (byName d stored) ≡ byName d (nextStored d (nodeValues d inp stored) stored)
     unfolding systemNext cycleValues
     next-right = next-mean (lookup false cycleBits) cycle-fits
-
-  -- the initial bits of the system are the design's
-  pub initial-right : systemInitialBits (fromNetlist d) ≡ byName d (initialBits d)
-  initial-right = initial-mean (λ n. false) [] (ownEnv (λ n. false) []) (own (λ n. false) [])
 
   -- the system's states have the registers' names
   pub states-named : Pairwise (λ (s : StateBit) (p : Place). s .name ≡ p .name) (fromNetlist d .states) (registersByName d)

@@ -12,7 +12,7 @@ use borrow.Author.Tests.{not-true}
 use Rattle.model.specs.Names.{namesOf}
 use Rattle.model.specs.Netlist.{Design, inputs, registersByName}
 use Rattle.model.specs.Validate.{validate}
-use Rattle.model.specs.Run.{InputSequence, StoredBits, storedAt, initialBits}
+use Rattle.model.specs.Run.{InputSequence, StoredBits, storedAt, byName}
 use Rattle.model.specs.Replay.{differAt}
 use Rattle.model.specs.Induction.{namedDifferAt, Query1, Query2}
 use Rattle.model.specs.Literal.{Literal}
@@ -27,21 +27,10 @@ use Rattle.laws.specs.Pairwise.{pairs-length}
 use Rattle.facts.specs.Bools.{or-true}
 use Rattle.laws.specs.Queries.Bits.{bitsFrom, inputRows, stateRows, inductionRows, inductionLast}
 use Rattle.laws.specs.Queries.Inputs.{Rows, valuesFor, rows-reached}
-use Rattle.laws.specs.Lowering.Run.{rowOf, byName, inputs-named, states-named, initial-right}
+use Rattle.laws.specs.Lowering.Run.{rowOf, inputs-named, states-named}
 use Rattle.laws.specs.Lowering.Rows.{bitsOfRow, row-back}
 use Rattle.laws.specs.Lowering.Pair.{anyFrom, inductionBits, rowsOf, outputs-within, states-within}
 use Rattle.laws.specs.Queries.States.{stateValues, state-rows-reached}
-
--- the problem of two designs begun at stored bits
-unfoldable pub problem : Design → Design → StoredBits → StoredBits → Problem
-problem gold gate s t = record { gold = fromNetlist gold; gate = fromNetlist gate; goldStart = byName gold s; gateStart = byName gate t }
-
--- the check's problem begins at the initial bits
-pub problem-initial : (gold gate : Design) → validate gold ≡ none → validate gate ≡ none
-    → problemOf (fromNetlist gold) (fromNetlist gate) ≡ problem gold gate (initialBits gold) (initialBits gate)
-unfolding problemOf problem
-problem-initial gold gate vg vh =
-    ap₂ (λ (a b : List Bool). record { gold = fromNetlist gold; gate = fromNetlist gate; goldStart = a; gateStart = b }) (initial-right gold vg) (initial-right gate vh)
 
 -- the environment makes every assumption of the query true
 abbrev pub Satisfies : (ℕ → Bool) → Query → Type 0
@@ -162,10 +151,10 @@ module _ (gold gate : Design) (vg : validate gold ≡ none) (vh : validate gate 
 
   module _ (s t : StoredBits) (d : ℕ) where
     -- query 1: an environment that makes its assumption true is a yes
-    pub query-1-from : (e : ℕ → Bool) → Satisfies e (baseCounterexample (problem gold gate s t) d) → Query1 gold gate s t d
-    unfolding baseCounterexample baseQuery problem storedAt
+    pub query-1-from : (e : ℕ → Bool) → Satisfies e (baseCounterexample (problemOf gold gate s t) d) → Query1 gold gate s t d
+    unfolding baseCounterexample baseQuery problemOf storedAt
     query-1-from e h =
-        let p = problem gold gate s t in
+        let p = problemOf gold gate s t in
         let rows = inputRows e p (suc d) (baseStart p) in
         let f = input-rows-fit e p (suc d) (baseStart p) in
         let ins = sequenceOf gold rows in
@@ -176,10 +165,10 @@ module _ (gold gate : Design) (vg : validate gold ≡ none) (vh : validate gate 
         record { ins = ins; cycle = x .0; within = omega (arith, x .1); differ = x .2 }
 
     -- and a yes gives such an environment
-    pub query-1-to : Query1 gold gate s t d → (e : ℕ → Bool) × Satisfies e (baseCounterexample (problem gold gate s t) d)
-    unfolding baseCounterexample baseQuery problem storedAt
+    pub query-1-to : Query1 gold gate s t d → (e : ℕ → Bool) × Satisfies e (baseCounterexample (problemOf gold gate s t) d)
+    unfolding baseCounterexample baseQuery problemOf storedAt
     query-1-to q =
-        let p = problem gold gate s t in
+        let p = problemOf gold gate s t in
         let rows = rowsOf gold (q .ins) 0 (suc d) in
         let f = rows-fit gold vg (q .ins) 0 (suc d) in
         let e = valuesFor p (baseStart p) rows in
@@ -190,10 +179,10 @@ module _ (gold gate : Design) (vg : validate gold ≡ none) (vh : validate gate 
         (e, (m ∙ ap (outputsDifferWithin (fromNetlist gold) (fromNetlist gate) (byName gold s) (byName gate t)) r ∙ w ∙ a, tt))
 
     -- query 2
-    pub query-2-from : (e : ℕ → Bool) → Satisfies e (basePreservesNamedState (problem gold gate s t) d) → Query2 gold gate s t d
-    unfolding basePreservesNamedState baseQuery problem storedAt
+    pub query-2-from : (e : ℕ → Bool) → Satisfies e (basePreservesNamedState (problemOf gold gate s t) d) → Query2 gold gate s t d
+    unfolding basePreservesNamedState baseQuery problemOf storedAt
     query-2-from e h =
-        let p = problem gold gate s t in
+        let p = problemOf gold gate s t in
         let rows = stateRows e p (suc d) (baseStart p) in
         let f = state-rows-fit e p (suc d) (baseStart p) in
         let ins = sequenceOf gold rows in
@@ -204,10 +193,10 @@ module _ (gold gate : Design) (vg : validate gold ≡ none) (vh : validate gate 
         record { ins = ins; cycle = x .0; within = omega (arith, x .1); differ = x .2 }
 
     -- and a yes gives such an environment
-    pub query-2-to : Query2 gold gate s t d → (e : ℕ → Bool) × Satisfies e (basePreservesNamedState (problem gold gate s t) d)
-    unfolding basePreservesNamedState baseQuery problem storedAt
+    pub query-2-to : Query2 gold gate s t d → (e : ℕ → Bool) × Satisfies e (basePreservesNamedState (problemOf gold gate s t) d)
+    unfolding basePreservesNamedState baseQuery problemOf storedAt
     query-2-to q =
-        let p = problem gold gate s t in
+        let p = problemOf gold gate s t in
         let rows = rowsOf gold (q .ins) 0 (suc d) in
         let f = rows-fit gold vg (q .ins) 0 (suc d) in
         let e = stateValues p (baseStart p) rows in

@@ -1,4 +1,4 @@
--- How many nodes a query's graph has: at most (depth + 1) × F + R, with document 01's F. Assumes nothing.
+-- How many nodes a query's graph has: at most (depth + 1) × F + R, with the specification's F. Assumes nothing.
 use Prim.Native.Nat.{ℕ, zero, suc, _+_, _*_, _≤_}
 use native.Mathlib.Omega.{arith}
 use native.Mathlib.Nat.{zero-add, suc-mul, mul-suc, mul-le-mul-left}
@@ -13,6 +13,7 @@ use Rattle.model.specs.Aig.{Node, Constant, Variable, And, Aig, Built, new, var
 use Rattle.model.specs.Netlist.{Node as Node′, Input, Constant as Constant′, RegisterOutput, Not, Output, And as And′, Or, Xor, Mux, Enable, Reset, Register, Design}
 use Rattle.model.specs.Transition.{StateBit, TransitionSystem, Lowering, assertedLiteral, netLiteral, driverReset, withNet, withLiteral, lowerInput, lowerOutput, resetMux, shown, lowerShown, lowerRegisterOutput, lowerNode, lowerNodes, noNodes, enabled, resetNext, Registers, withState, lowerRegister, lowerRegisters, systemOf, withRegisters, fromNetlist}
 use Rattle.model.specs.Validate.{driver}
+use Rattle.model.specs.Run.{StoredBits}
 use Rattle.model.specs.Equivalence.{Problem, remapLiteral, Import, withImported, importNode, importNodes, importAig, frameVariables, frameOf, importFrame, LiteralList, withBuilt, newVariables, proofInputs, stateLiteral, consPair, namedPairs, orMismatch, anyDifference, comparePairs, compareNamedState, compareOutputs, Cycle, importFrames, cycleOf, comparedCycle, Base, baseStart, baseQuery, counterexampleNext, counterexampleCompared, counterexampleCycle, counterexampleCycles, baseCounterexample, namedStateNext, namedStateCompared, namedStateCycle, namedStateCycles, basePreservesNamedState, Induction, gateVariable, matched, gateVariables, freeProductState, cycleMismatch, inductionNext, inductionCompared, inductionCycle, inductionCycles, inductionQuery, inductionCloses}
 use Rattle.model.specs.Check.{problemOf}
 use Rattle.laws.specs.Lists.{length-snoc}
@@ -279,7 +280,7 @@ states-length d = sort-length (λ (s : StateBit). s .name) _ ∙ registers-lengt
 -- ---- the queries, for designs
 
 module _ (gold gate : Design) where
-  -- document 01's F, with I and O of gold, and N and R of both sides
+  -- the specification's F, with I and O of gold, and N and R of both sides
   abbrev pub frameBound : ℕ
   frameBound =
       length (fromNetlist gold .inputs) + 3 * (length (gold .nodes) + length (gate .nodes))
@@ -291,26 +292,27 @@ module _ (gold gate : Design) where
   abbrev pub nodeBound : ℕ → ℕ
   nodeBound depth = suc depth * frameBound + (length (gold .registers) + length (gate .registers))
 
-  cycle-fits : suc (cycleNodes (problemOf (fromNetlist gold) (fromNetlist gate))) ≤ frameBound
-  unfolding problemOf
-  cycle-fits = omega (arith, system-ands gold, system-ands gate, states-length gold)
+  module _ (s t : StoredBits) where
+    cycle-fits : suc (cycleNodes (problemOf gold gate s t)) ≤ frameBound
+    unfolding problemOf
+    cycle-fits = omega (arith, system-ands gold, system-ands gate, states-length gold)
 
-  cycles-fit : (depth : ℕ) → suc depth + suc depth * cycleNodes (problemOf (fromNetlist gold) (fromNetlist gate)) ≤ suc depth * frameBound
-  cycles-fit depth =
-      let c = cycleNodes (problemOf (fromNetlist gold) (fromNetlist gate)) in
-      omega (arith, mul-suc (suc depth) c, mul-le-mul-left {m = suc c} {n = frameBound} (suc depth) cycle-fits)
+    cycles-fit : (depth : ℕ) → suc depth + suc depth * cycleNodes (problemOf gold gate s t) ≤ suc depth * frameBound
+    cycles-fit depth =
+        let c = cycleNodes (problemOf gold gate s t) in
+        omega (arith, mul-suc (suc depth) c, mul-le-mul-left {m = suc c} {n = frameBound} (suc depth) cycle-fits)
 
-  -- the nodes of query 1
-  pub query-1-bound : (depth : ℕ) → length (baseCounterexample (problemOf (fromNetlist gold) (fromNetlist gate)) depth .aig) ≤ nodeBound depth
-  query-1-bound depth = omega (arith, cycles-fit depth, query-1-nodes (problemOf (fromNetlist gold) (fromNetlist gate)) depth)
+    -- the nodes of query 1
+    pub query-1-bound : (depth : ℕ) → length (baseCounterexample (problemOf gold gate s t) depth .aig) ≤ nodeBound depth
+    query-1-bound depth = omega (arith, cycles-fit depth, query-1-nodes (problemOf gold gate s t) depth)
 
-  -- of query 2
-  pub query-2-bound : (depth : ℕ) → length (basePreservesNamedState (problemOf (fromNetlist gold) (fromNetlist gate)) depth .aig) ≤ nodeBound depth
-  query-2-bound depth = omega (arith, cycles-fit depth, query-2-nodes (problemOf (fromNetlist gold) (fromNetlist gate)) depth)
+    -- of query 2
+    pub query-2-bound : (depth : ℕ) → length (basePreservesNamedState (problemOf gold gate s t) depth .aig) ≤ nodeBound depth
+    query-2-bound depth = omega (arith, cycles-fit depth, query-2-nodes (problemOf gold gate s t) depth)
 
-  -- of queries 3 and 4
-  pub query-3-4-bound : (include : Bool) (depth : ℕ)
-      → length (inductionCloses (problemOf (fromNetlist gold) (fromNetlist gate)) include depth .aig) ≤ nodeBound depth
-  unfolding problemOf
-  query-3-4-bound include depth =
-      omega (arith, cycles-fit depth, query-3-nodes (problemOf (fromNetlist gold) (fromNetlist gate)) include depth, states-length gold, states-length gate)
+    -- of queries 3 and 4
+    pub query-3-4-bound : (include : Bool) (depth : ℕ)
+        → length (inductionCloses (problemOf gold gate s t) include depth .aig) ≤ nodeBound depth
+    unfolding problemOf
+    query-3-4-bound include depth =
+        omega (arith, cycles-fit depth, query-3-nodes (problemOf gold gate s t) include depth, states-length gold, states-length gate)

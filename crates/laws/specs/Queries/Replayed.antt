@@ -13,23 +13,25 @@ use Rattle.model.specs.Names.{Place, sameName, namesOf, rank}
 use Rattle.model.specs.Netlist.{Design, inputs, outputs, inputCount, outputCount}
 use Rattle.model.specs.Record.{bit}
 use Rattle.model.specs.Validate.{validate}
-use Rattle.model.specs.Run.{InputSequence, StoredBits, bitAt, outputBits, storedAt, outputsAt}
+use Rattle.model.specs.Run.{InputSequence, StoredBits, bitAt, outputBits, storedAt, outputsAt, byName}
 use Rattle.model.specs.Pair.{traceLength, allBits}
 use Rattle.model.specs.Replay.{claimBit, claimInputs, bitsDiffer, differAt, replays}
 use Rattle.model.specs.Lists.{zip, position, nextPlace, concat}
 use Rattle.model.specs.Aig.{evaluate, aigNodeValues}
 use Rattle.model.specs.Transition.{fromNetlist}
+use Rattle.model.specs.Check.{problemOf}
 use Rattle.model.specs.Equivalence.{Problem, FrameComparison, baseStart, baseQuery, baseCounterexample, counterexampleCycles, byte, firstMismatch, traceBytes}
+use Rattle.laws.specs.Terms.{TraceGood}
 use Rattle.laws.specs.Queries.Cycles.{query-1-means, start-means}
 use Rattle.laws.specs.Lowering.SystemRun.{systemOutputs, systemNext, systemOutputsDiffer, outputsDifferWithin}
 use Rattle.facts.specs.Lists.{All, all-map}
 use Rattle.laws.specs.Names.Order.{same-refl}
 use Rattle.laws.specs.Replay.{replays-yes}
 use Rattle.laws.specs.Queries.Bits.{inputRows}
-use Rattle.laws.specs.Lowering.Run.{rowOf, byName, outputs-right, next-right}
+use Rattle.laws.specs.Lowering.Run.{rowOf, outputs-right, next-right}
 use Rattle.laws.specs.Lowering.Rows.{ranked-inputs, map-same}
 use Rattle.laws.specs.Lowering.Pair.{anyFrom, rowsOf, row-same, outputs-gate, A, B, goldNext, gateNext, cycle-outputs, outputs-within}
-use Rattle.laws.specs.Queries.Base.{problem, Satisfies, input-rows-fit, inputs-count, sequenceOf, rows-back}
+use Rattle.laws.specs.Queries.Base.{Satisfies, input-rows-fit, inputs-count, sequenceOf, rows-back}
 use Rattle.laws.specs.Queries.Trace.{Moment, moments, marksOf, momentMarks, comparisons-mean, position-mean, inputs-mean-bytes, marks-mean}
 
 -- ---- bytes
@@ -116,13 +118,6 @@ unfolding byteRows concat
 rows-fine d ins c zero = unfold allBits in refl
 rows-fine d ins c (suc n) = fine-append (map byte (rowOf d (ins c))) _ (bytes-fine (λ b. b) (rowOf d (ins c))) (rows-fine d ins (suc c) n)
 
--- a trace that replays yes, with a byte for each input of cycles 0 to m and for each output
-pub record TraceGood (gold gate : Design) (s t : StoredBits) (d m : ℕ) (bytes : List ℕ) : Type 0 where
-  pub replay : replays gold gate s t m bytes ≡ true
-  pub early : m ≤ d
-  pub size : length bytes ≡ traceLength gold m
-  pub bits : allBits bytes ≡ true
-
 -- ---- ranks of inputs
 
 cond-below : (b : Bool) (r n : ℕ) → r < n → cond b 0 (suc r) < suc n
@@ -175,7 +170,7 @@ record First (P : ℕ → Bool) (c n : ℕ) (o : Option ℕ) : Type 0 where
 module _ (gold gate : Design) (vg : validate gold ≡ none) (vh : validate gate ≡ none) (same : namesOf (inputs gold) ≡ namesOf (inputs gate)) (s t : StoredBits) where
   -- the problem of the two designs from the start bits
   abbrev p : Problem
-  p = problem gold gate s t
+  p = problemOf gold gate s t
 
   module _ (ins : InputSequence) where
     -- the plain cycles of the run
@@ -184,7 +179,7 @@ module _ (gold gate : Design) (vg : validate gold ≡ none) (vh : validate gate 
     runMoments c (suc n) = record { row = rowOf gold (ins c); gold = A gold gate vg vh same s t ins c; gate = B gold gate vg vh same s t ins c } ∷ runMoments (suc c) n
 
     moments-are : (c n : ℕ) → moments p (A gold gate vg vh same s t ins c) (B gold gate vg vh same s t ins c) (rowsOf gold ins c n) ≡ runMoments c n
-    unfolding moments runMoments rowsOf problem
+    unfolding moments runMoments rowsOf problemOf
     moments-are c zero = refl
     moments-are c (suc n) =
         ap (λ (l : List Moment). record { row = rowOf gold (ins c); gold = A gold gate vg vh same s t ins c; gate = B gold gate vg vh same s t ins c } ∷ l)
@@ -219,7 +214,7 @@ module _ (gold gate : Design) (vg : validate gold ≡ none) (vh : validate gate 
     moment-bytes c (suc n) (suc j) h = ap (λ (l : List (List ℕ)). map byte (rowOf gold (ins c)) ∷ l) (moment-bytes (suc c) n j (omega arith))
 
     run-marks : (c n m : ℕ) → m < n → momentMarks p (drop m (runMoments c n)) ≡ marksOf (outputsAt gold s ins (c + m)) (outputsAt gate t ins (c + m))
-    unfolding runMoments momentMarks problem outputsAt
+    unfolding runMoments momentMarks problemOf outputsAt
     run-marks c zero m h = absurd (omega arith)
     run-marks c (suc n) zero h =
         let q : c + 0 ≡ c = omega arith in
@@ -302,7 +297,7 @@ module _ (gold gate : Design) (vg : validate gold ≡ none) (vh : validate gate 
       let values = aigNodeValues e (q .aig) in
       let m = firstMismatch values (q .comparisons) in
       TraceGood gold gate s t d m (traceBytes values (q .comparisons) m))
-  unfolding baseCounterexample baseQuery baseStart problem storedAt traceBytes claim
+  unfolding baseCounterexample baseQuery baseStart problemOf storedAt traceBytes claim
   trace-replays alike d e h =
       let b = counterexampleCycles p (suc d) (baseStart p) in
       let values = aigNodeValues e (b .aig) in

@@ -1,5 +1,5 @@
 -- A system against itself: the three queries asked at depth 1 have no model and learn nothing, so it is Equivalent at depth 1. Assumes nothing.
-use Prim.Native.Nat.{ℕ, zero, suc}
+use Prim.Native.Nat.{ℕ, zero, suc, _≤_}
 use native.Mathlib.Omega.{arith}
 use mathlib.Core.Path.{_≡_, refl, sym, ap, _∙_}
 use mathlib.Core.Bool.{Bool, true, false}
@@ -10,8 +10,10 @@ use Rattle.model.specs.Literal.{Literal, FALSE}
 use Rattle.model.specs.Lists.{snoc, zip}
 use Rattle.model.specs.Aig.{Aig, Built, new}
 use Rattle.model.specs.Sat.{noModel}
+use Rattle.model.specs.Options.{Options}
 use Rattle.model.specs.Names.{Name}
 use Rattle.model.specs.Netlist.{Register, Design}
+use Rattle.model.specs.Run.{StoredBits, byName}
 use Rattle.model.specs.Transition.{StateBit, TransitionSystem, Lowering, Registers, withState, lowerRegister, lowerRegisters, systemOf, withRegisters, fromNetlist}
 use Rattle.model.specs.Equivalence.{Problem, Frame, LiteralList, newVariables, stateLiteral, consPair, namedPairs, orMismatch, compareNamedState, compareOutputs, Cycle, importFrames, cycleOf, comparedCycle, Base, baseStart, baseQuery, counterexampleNext, counterexampleCompared, counterexampleCycle, counterexampleCycles, baseCounterexample, namedStateNext, namedStateCompared, namedStateCycle, namedStateCycles, basePreservesNamedState, Induction, gateVariable, matched, gateVariables, freeProductState, cycleMismatch, assumed, inductionNext, inductionCompared, inductionCycle, inductionCycles, inductionQuery, inductionCloses, ask, Verdict, Equivalent, Asked, decided, askedToo, afterQuery3, afterQuery2, afterQuery1, query1, atDepth, depths, proveSequentialEquivalence}
 use Rattle.laws.specs.Queries.Bits.{literals-length}
@@ -19,7 +21,7 @@ use Rattle.laws.specs.Graph.Import.{frame-again, or-false, Alike, compar
 use Rattle.laws.specs.Search.Adding.{solve-false}
 use Rattle.laws.specs.Names.Order.{same-refl}
 use Rattle.laws.specs.Names.Sorting.{Apart, Distinct, namesBy, distinct-sort}
-use Rattle.model.specs.Check.{systemInitialBits, problemOf, checkDesigns}
+use Rattle.model.specs.Check.{problemOf, checkDesigns}
 
 -- the name of a state
 abbrev stateName : StateBit → Name
@@ -225,8 +227,12 @@ distinct-states : (d : Design) → Distinct (namesBy registerName (d .registers)
 unfolding fromNetlist withRegisters systemOf
 distinct-states d h = distinct-sort stateName _ (rw (names-lowered _ (record { aig = _; states = [] }) (d .registers)) h)
 
--- a design whose registers have distinct names, against itself: Equivalent, depth 1, and no learned literal
-pub design-self : (limit n : ℕ) (d : Design) → Distinct (namesBy registerName (d .registers))
-    → checkDesigns limit d d (suc n) ≡ record { verdict = Equivalent 1; asked = askedOfSelf 1 }
+-- a design whose registers have distinct names, against itself from the same start bits: Equivalent, depth 1, and no learned literal
+pub design-self : (o : Options) (d : Design) (s : StoredBits) → 1 ≤ o .depth → Distinct (namesBy registerName (d .registers))
+    → checkDesigns o d d s s ≡ record { verdict = Equivalent 1; asked = askedOfSelf 1 }
 unfolding checkDesigns problemOf
-design-self limit n d h = self-equivalent (fromNetlist d) (systemInitialBits (fromNetlist d)) (distinct-states d h) limit n
+design-self o d s l h = to-depth (o .depth) l
+  where
+    to-depth : (D : ℕ) → 1 ≤ D → proveSequentialEquivalence (o .limit) (self (fromNetlist d) (byName d s) (distinct-states d h)) D ≡ record { verdict = Equivalent 1; asked = askedOfSelf 1 }
+    to-depth zero z = absurd (omega arith)
+    to-depth (suc n) z = self-equivalent (fromNetlist d) (byName d s) (distinct-states d h) (o .limit) n

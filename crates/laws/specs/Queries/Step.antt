@@ -10,11 +10,12 @@ use lib.ListN.{length, length-map}
 use Rattle.model.specs.Names.{namesOf}
 use Rattle.model.specs.Netlist.{Design, inputs}
 use Rattle.model.specs.Validate.{validate}
-use Rattle.model.specs.Run.{InputSequence, StoredBits, storedAt}
+use Rattle.model.specs.Run.{InputSequence, StoredBits, storedAt, byName}
 use Rattle.model.specs.Induction.{namedAlike, storedDiffer, Query3, Query4}
 use Rattle.model.specs.Literal.{Literal}
 use Rattle.model.specs.Aig.{Aig, evaluate, aigNodeValues}
 use Rattle.model.specs.Transition.{StateBit, fromNetlist}
+use Rattle.model.specs.Check.{problemOf}
 use Rattle.model.specs.Equivalence.{stateLiteral, consPair, namedPairs, matched, inductionCloses, freeProductState}
 use Rattle.laws.specs.Queries.Cycles.{query-3-4-mean}
 use Rattle.laws.specs.Lowering.SystemRun.{pairsDiffer, systemStatesDiffer, assumptionBits}
@@ -24,11 +25,11 @@ use Rattle.facts.specs.Bools.{or-both, xor-equal, xor-self}
 use Rattle.laws.specs.Queries.Frame.{Has}
 use Rattle.laws.specs.Queries.Bits.{bitsFrom, inductionRows, inductionLast, sharedBit, sharedNumber, gateBits}
 use Rattle.laws.specs.Induction.Swap.{unique-registers, stored-swap}
-use Rattle.laws.specs.Lowering.Run.{rowOf, byName}
+use Rattle.laws.specs.Lowering.Run.{rowOf}
 use Rattle.laws.specs.Lowering.Rows.{storedOf, stored-back}
 use Rattle.laws.specs.Lowering.Pair.{inductionBits, rowsOf, states-differ-right, differs, assumptions-right}
 use Rattle.laws.specs.Queries.States.{SharedBit, SharedBits, freeValues, free-reached}
-use Rattle.laws.specs.Queries.Base.{problem, Satisfies, bits-length, induction-rows-fit, sequenceOf, row-at, rows-back, rows-fit, inputs-count, states-count, by-name-count, True, bits-yes, bits-there}
+use Rattle.laws.specs.Queries.Base.{Satisfies, bits-length, induction-rows-fit, sequenceOf, row-at, rows-back, rows-fit, inputs-count, states-count, by-name-count, True, bits-yes, bits-there}
 
 -- ---- shared bits
 
@@ -89,15 +90,15 @@ module _ (gold gate : Design) (vg : validate gold ≡ none) (vh : validate gate 
   shared-same s t = stored-swap gold gate (unique-registers gold vg) (unique-registers gate vh) s t ∙ sym (states-differ-right gate gold vh vg t s)
 
   module _ (u w : StoredBits) (d : ℕ) where
-    free-from : (include : Bool) (e : ℕ → Bool) → Satisfies e (inductionCloses (problem gold gate u w) include d)
+    free-from : (include : Bool) (e : ℕ → Bool) → Satisfies e (inductionCloses (problemOf gold gate u w) include d)
         → (let xs = bitsFrom e 1 (length (fromNetlist gold .states)) in
         let ys = gateBits e include (fromNetlist gold .states) xs (1 + length (fromNetlist gold .states)) (fromNetlist gate .states) in
         (ins : InputSequence) × ((c : ℕ) → c < d → differs gold gate vg vh same (storedOf gold xs) (storedOf gate ys) ins include c ≡ false)
         × (differs gold gate vg vh same (storedOf gold xs) (storedOf gate ys) ins include d ≡ true)
         × (byName gold (storedOf gold xs) ≡ xs) × (byName gate (storedOf gate ys) ≡ ys))
-    unfolding problem storedAt
+    unfolding problemOf storedAt
     free-from include e h =
-        let q = problem gold gate u w in
+        let q = problemOf gold gate u w in
         let xs = bitsFrom e 1 (length (fromNetlist gold .states)) in
         let ys = gateBits e include (fromNetlist gold .states) xs (1 + length (fromNetlist gold .states)) (fromNetlist gate .states) in
         let b = freeProductState q include in
@@ -117,7 +118,7 @@ module _ (gold gate : Design) (vg : validate gold ≡ none) (vh : validate gate 
         (ins, (λ c i. rw zero-add at (z .0 c i)), rw zero-add at (z .1), x, y)
 
     -- query 3: an environment that makes its assumptions true is a yes
-    pub query-3-from : (e : ℕ → Bool) → Satisfies e (inductionCloses (problem gold gate u w) true d) → Query3 gold gate d
+    pub query-3-from : (e : ℕ → Bool) → Satisfies e (inductionCloses (problemOf gold gate u w) true d) → Query3 gold gate d
     query-3-from e h =
         let xs = bitsFrom e 1 (length (fromNetlist gold .states)) in
         let ys = gateBits e true (fromNetlist gold .states) xs (1 + length (fromNetlist gold .states)) (fromNetlist gate .states) in
@@ -133,7 +134,7 @@ module _ (gold gate : Design) (vg : validate gold ≡ none) (vh : validate gate 
         }
 
     -- query 4: the same without sharing
-    pub query-4-from : (e : ℕ → Bool) → Satisfies e (inductionCloses (problem gold gate u w) false d) → Query4 gold gate d
+    pub query-4-from : (e : ℕ → Bool) → Satisfies e (inductionCloses (problemOf gold gate u w) false d) → Query4 gold gate d
     query-4-from e h =
         let xs = bitsFrom e 1 (length (fromNetlist gold .states)) in
         let ys = gateBits e false (fromNetlist gold .states) xs (1 + length (fromNetlist gold .states)) (fromNetlist gate .states) in
@@ -143,10 +144,10 @@ module _ (gold gate : Design) (vg : validate gold ≡ none) (vh : validate gate 
     free-to : (include : Bool) (s t : StoredBits) (ins : InputSequence)
         → SharedBits include (fromNetlist gold .states) (byName gold s) (fromNetlist gate .states) (byName gate t)
         → ((c : ℕ) → c < d → differs gold gate vg vh same s t ins include c ≡ false) → differs gold gate vg vh same s t ins include d ≡ true
-        → (e : ℕ → Bool) × Satisfies e (inductionCloses (problem gold gate u w) include d)
-    unfolding problem storedAt rowOf
+        → (e : ℕ → Bool) × Satisfies e (inductionCloses (problemOf gold gate u w) include d)
+    unfolding problemOf storedAt rowOf
     free-to include s t ins m eq ne =
-        let q = problem gold gate u w in
+        let q = problemOf gold gate u w in
         let xs = byName gold s in
         let ys = byName gate t in
         let rows = rowsOf gold ins 0 d in
@@ -164,14 +165,14 @@ module _ (gold gate : Design) (vg : validate gold ≡ none) (vh : validate gate 
         (e, true-bits e (inductionCloses q include d .aig) (inductionCloses q include d .assumptions) (inductionBits (differs gold gate vg vh same s t ins include) 0 d) (rw (g, h, j, l, a) at k) z)
 
     -- a yes of query 3 gives an environment that makes its assumptions true
-    pub query-3-to : Query3 gold gate d → (e : ℕ → Bool) × Satisfies e (inductionCloses (problem gold gate u w) true d)
+    pub query-3-to : Query3 gold gate d → (e : ℕ → Bool) × Satisfies e (inductionCloses (problemOf gold gate u w) true d)
     query-3-to q =
         free-to true (q .s) (q .t) (q .ins)
         (shared-back (fromNetlist gold .states) (byName gold (q .s)) (fromNetlist gate .states) (byName gate (q .t)) (by-name-count gate vh (q .t)) (sym (shared-same (q .s) (q .t)) ∙ q .shared))
         (q .equal) (q .differ)
 
     -- and one of query 4
-    pub query-4-to : Query4 gold gate d → (e : ℕ → Bool) × Satisfies e (inductionCloses (problem gold gate u w) false d)
+    pub query-4-to : Query4 gold gate d → (e : ℕ → Bool) × Satisfies e (inductionCloses (problemOf gold gate u w) false d)
     query-4-to q =
         free-to false (q .s) (q .t) (q .ins)
         (unshared (fromNetlist gold .states) (byName gold (q .s)) (fromNetlist gate .states) (byName gate (q .t)) (by-name-count gate vh (q .t)))

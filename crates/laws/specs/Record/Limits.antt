@@ -7,6 +7,7 @@ use native.Mathlib.Omega.{arith}
 use lib.ListN.{length, length-append}
 use lib.Dec.{eqb, leb}
 use borrow.Author.Tests.{leb-true, leb-false, not-true}
+use Rattle.model.specs.Kinds.{inputKind, outputKind}
 use Rattle.model.specs.Netlist.{Node, Register, Design, inputName, outputName, portsFrom}
 use Rattle.model.specs.Record.{got, Reader, pure, number, code, guard, room, nameIf, valueIf, hasName, hasValue, numbers, inputsPerKind, nodeOf, node, nodesFrom, nodes, register, registersFrom, registers, end, name, listedKind, version1, parsed, parse}
 use Rattle.facts.specs.Bools.{and-both}
@@ -43,13 +44,13 @@ node-ports listed ns n s i j h li lo =
     let b = bind-got (guard 6 (room ns) (code listed)) _ s i n j h in
     let k : ℕ = b .value in
     let g = guard-got 6 (room ns) (code listed) s i k (b .at) (b .first) in
-    let r = and-both (not (eqb k 0x00 && leb 64 (length (portsFrom inputName 0 ns)))) (not (eqb k 0x11 && leb 64 (length (portsFrom outputName 0 ns)))) (g .passes) in
+    let r = and-both (not (eqb k inputKind && leb 64 (length (portsFrom inputName 0 ns)))) (not (eqb k outputKind && leb 64 (length (portsFrom outputName 0 ns)))) (g .passes) in
     let c = bind-got (nameIf (hasName k)) _ s (b .at) n j (b .second) in
     let d = bind-got (valueIf (hasValue k)) _ s (c .at) n j (c .second) in
     let e = bind-got (numbers (inputsPerKind k)) _ s (d .at) n j (d .second) in
     let f : nodeOf k (c .value) (d .value) (e .value) ≡ n = cc in
-    let x = room-count (eqb k 0x00) (length (portsFrom inputName 0 ns)) (r .0) li in
-    let y = room-count (eqb k 0x11) (length (portsFrom outputName 0 ns)) (r .1) lo in
+    let x = room-count (eqb k inputKind) (length (portsFrom inputName 0 ns)) (r .0) li in
+    let y = room-count (eqb k outputKind) (length (portsFrom outputName 0 ns)) (r .1) lo in
     rw (← f) (omega (arith, inputs-append k (c .value) (d .value) (e .value) 0 ns, x), omega (arith, outputs-append k (c .value) (d .value) (e .value) 0 ns, y))
 
 nodesFrom-ports : (listed : ℕ → Bool) (k : ℕ) (ns ms : List Node) (s : List ℕ) (i j : ℕ) → nodesFrom listed k ns s i ≡ got ms j → length (portsFrom inputName 0 ns) ≤ 64 → length (portsFrom outputName 0 ns) ≤ 64 → (length (portsFrom inputName 0 ms) ≤ 64) × (length (portsFrom outputName 0 ms) ≤ 64)
@@ -68,7 +69,7 @@ nodes-ports listed ms s i j h =
 
 -- ---- a parsed design
 
--- a design within document 01's counts
+-- a design within the specification's counts
 pub record Limits (d : Design) : Type 0 where
   pub registers : length (d .registers) ≤ 128
   pub inputs : length (portsFrom inputName 0 (d .nodes)) ≤ 64

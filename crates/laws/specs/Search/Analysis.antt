@@ -12,7 +12,7 @@ use Rattle.model.specs.Literal.{Literal, node, negate}
 use Rattle.model.specs.Sat.{Clause, Assignment, Solver, Analysis, seeLiterals, pivotIndex, Resolution, resolving, resolved, reasonOf, closePivot, resolveNext, resolvePivot, resolveBelow, resolveRound, resolveRounds, noAnalysis, analyze}
 use Rattle.laws.specs.Graph.Values.{node-negate}
 use Rattle.laws.specs.Search.Resolvent.{Meaning, Pending, pending-means, close-ok, close-means, last-holds}
-use Rattle.laws.specs.Search.Seeing.{current-level, Learned, AnalysisOk, Ready, literals-ok, literals-mark, literals-new}
+use Rattle.laws.specs.Search.Seeing.{current-level, Learned, AnalysisOk, PivotOrFalse, literals-ok, literals-mark, literals-new}
 use Rattle.facts.specs.Lists.{getD-replicate, All, all-from, all-map}
 use Rattle.facts.specs.Numbers.{by-eq}
 use Rattle.laws.specs.Search.Clauses.{lits, clauseValue, Satisfied}
@@ -57,7 +57,7 @@ module _ (n : ℕ) (t : Assignment) (inv : TrailInv n t) (d : ℕ) (top : length
     ResolutionOk k (resolving a i id v) = Going k a i id v
     ResolutionOk k (resolved a p) = Resolved a p
 
-    ready-from : (j id : ℕ) (x : Literal) → Before t j (lits cs id) x → (i : ℕ) → i < length (lits cs id) → Ready n t inv d top j x (getD (lits cs id) i 0)
+    ready-from : (j id : ℕ) (x : Literal) → Before t j (lits cs id) x → (i : ℕ) → i < length (lits cs id) → PivotOrFalse n t inv d top j x (getD (lits cs id) i 0)
     ready-from j id x b i h = (in-range id i h, b i h)
 
     -- a pivot with others open is no decision
@@ -122,7 +122,7 @@ module _ (n : ℕ) (t : Assignment) (inv : TrailInv n t) (d : ℕ) (top : length
     round-ok k a i id v w =
         let x = w .pivot in
         let ready = ready-from i id x (w .before) in
-        let ok = literals-ok n t inv d top i x a (lits cs id) (w .inside) (all-from (Ready n t inv d top i x) (lits cs id) ready) (w .ok) in
+        let ok = literals-ok n t inv d top i x a (lits cs id) (w .inside) (all-from (PivotOrFalse n t inv d top i x) (lits cs id) ready) (w .ok) in
         subst (λ u. ResolutionOk k (resolveBelow t (seeLiterals t u a (lits cs id)) i)) (w .same)
         (below-ok k (seeLiterals t (node x) a (lits cs id)) i ok (w .inside) (w .fuel) (w .live)
         (λ vs sat. pending-means n t inv d top vs (sat .1) i x a (lits cs id) (w .inside) (w .ok .seen-size) (w .away) ready (sat .0 id (w .known)) ok (w .pending vs sat)))

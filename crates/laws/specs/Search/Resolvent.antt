@@ -11,7 +11,7 @@ use Rattle.model.specs.Literal.{Literal, node, negate}
 use Rattle.model.specs.Aig.{evaluate}
 use Rattle.model.specs.Sat.{Assignment, Analysis, seeVariable, seeUnless, skipped, seeLiterals, closePivot}
 use Rattle.laws.specs.Graph.Values.{lit-neg}
-use Rattle.laws.specs.Search.Seeing.{level, current-level, bottom-place, earlier-node, Learned, AnalysisOk, Ready, literals-mark, literals-new}
+use Rattle.laws.specs.Search.Seeing.{level, current-level, bottom-place, earlier-node, Learned, AnalysisOk, PivotOrFalse, literals-mark, literals-new}
 use Rattle.facts.specs.Bools.{or-true}
 use Rattle.facts.specs.Lists.{getD-set-default, all-map}
 use Rattle.facts.specs.Numbers.{by-eq, by-lt}
@@ -53,7 +53,7 @@ module _ (n : ℕ) (t : Assignment) (inv : TrailInv n t) (d : ℕ) (top : length
 
   -- a true clause whose pivot is false brings the meaning
   pub pending-means : (vs : List Bool) → Ground vs t → (i : ℕ) (x : Literal) (a : Analysis) (ls : List Literal) → i ≤ length (t .trail) → length (a .seen) ≡ n
-      → ((q : ℕ) → q < i → node (entry t q) ≢ node x) → ((k : ℕ) → k < length ls → Ready n t inv d top i x (getD ls k 0)) → clauseValue vs ls ≡ true
+      → ((q : ℕ) → q < i → node (entry t q) ≢ node x) → ((k : ℕ) → k < length ls → PivotOrFalse n t inv d top i x (getD ls k 0)) → clauseValue vs ls ≡ true
       → AnalysisOk n t inv d top (seeLiterals t (node x) a ls) i → Pending vs a i x → Meaning vs (seeLiterals t (node x) a ls) i
   pending-means vs g i x a ls hi size away ready e w (inl m) = meaning-grows vs i (node x) a ls m
   pending-means vs g i x a ls hi size away ready e w (inr off) = go (true-literal vs ls e)

@@ -83,8 +83,8 @@ module _ (n : ℕ) (t : Assignment) (inv : TrailInv n t) (d : ℕ) (top : length
       all-map (Learned seen) (Learned more) (λ l w. record { range = w .range; below = w .below; marked = f (node l) (w .marked); placed = w .placed }) ls h
 
   -- a literal of a clause: the pivot x, or false before place i
-  abbrev pub Ready : ℕ → Literal → Literal → Type 0
-  Ready i x l = Range n l × ((l ≡ x) ⊎ Earlier t i l)
+  abbrev pub PivotOrFalse : ℕ → Literal → Literal → Type 0
+  PivotOrFalse i x l = Range n l × ((l ≡ x) ⊎ Earlier t i l)
 
   module _ (a : Analysis) (i : ℕ) (l : Literal) (hi : i ≤ length (t .trail)) (h : Range n l) (q : Earlier t i l) (new : getD (a .seen) (node l) false ≡ false) (w : AnalysisOk a i) where
     -- what is seen after l
@@ -170,7 +170,7 @@ module _ (n : ℕ) (t : Assignment) (inv : TrailInv n t) (d : ℕ) (top : length
       go false true p q = absurd (false≢true (sym (rw (p, q) at e)))
       go false false p q = record { other = eqb-false (node l) v p; unseen = q }
 
-  unless-ok : (a : Analysis) (i : ℕ) (x l : Literal) (b : Bool) → skipped t (node x) a l ≡ b → i ≤ length (t .trail) → Ready i x l → AnalysisOk a i → AnalysisOk (seeUnless t a l b) i
+  unless-ok : (a : Analysis) (i : ℕ) (x l : Literal) (b : Bool) → skipped t (node x) a l ≡ b → i ≤ length (t .trail) → PivotOrFalse i x l → AnalysisOk a i → AnalysisOk (seeUnless t a l b) i
   unfolding seeUnless decisionLevel
   unless-ok a i x l true e hi h w = w
   unless-ok a i x l false e hi h w = go (h .1)
@@ -180,7 +180,7 @@ module _ (n : ℕ) (t : Assignment) (inv : TrailInv n t) (d : ℕ) (top : length
       go (inr z) = see-ok a i l hi (h .0) z (not-skipped a (node x) l e .unseen) w (eqb (level l) (length (t .trailLimits))) refl
 
   -- the literals of a clause in turn
-  pub literals-ok : (i : ℕ) (x : Literal) (a : Analysis) (ls : List Literal) → i ≤ length (t .trail) → All (Ready i x) ls → AnalysisOk a i → AnalysisOk (seeLiterals t (node x) a ls) i
+  pub literals-ok : (i : ℕ) (x : Literal) (a : Analysis) (ls : List Literal) → i ≤ length (t .trail) → All (PivotOrFalse i x) ls → AnalysisOk a i → AnalysisOk (seeLiterals t (node x) a ls) i
   unfolding seeLiterals
   literals-ok i x a [] hi h w = w
   literals-ok i x a (l ∷ ls) hi h w =

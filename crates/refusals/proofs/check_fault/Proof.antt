@@ -1,7 +1,7 @@
 -- `check_fault` takes the depth's fault, or the pair's where there is none. Assumes nothing.
 use mathlib.Core.Path.{sym, ap, _∙_}
-use Rattle.pair.specs.PairChecks.{faultOf}
-use Rattle.pair.specs.PairCheckLaws.{first-refuses, second-decides}
+use Rattle.calls.specs.Faults.{faultOf, first-refuses, second-decides}
+use Rattle.calls.specs.Options.{optionsOf}
 use Rattle.refusals.specs.Refusals.{depthFault}
 use Rattle.refusals.specs.RefusalLaws.{check-of, depth-small}
 use borrow.Author.Needs.{needs}
@@ -13,19 +13,20 @@ unfolding faultOf
 pair-fault-requires c κs =
     let d = c .before .before in
     let p = d .before .before .before in
-    (p .pre .0, p .pre .1, depth-small (p .args .depth) (sym (d .depth-fault .ensures) ∙ ap faultOf (c .enum-told .given .1)))
+    (p .pre .0, p .pre .1, depth-small (p .args .options .depth) (sym (d .depth-fault .ensures) ∙ ap faultOf (c .enum-told .given .1)))
 
 returns : tie.Need-returns
-unfolding faultOf
+unfolding faultOf optionsOf
 returns c =
     let d = c .before .before .before in
-    first-refuses (depthFault _) _ _ (sym (d .depth-fault .ensures) ∙ ap faultOf (c .before .first .given .1)) ∙ check-of _ _ _ _
+    first-refuses (depthFault _) _ _ (sym (d .depth-fault .ensures) ∙ ap faultOf (c .before .first .given .1)) ∙ check-of _ _ (optionsOf (d .before .before .before .args .options)) _
 
 returns-2 : tie.Need-returns-2
-unfolding faultOf
+unfolding faultOf optionsOf
 returns-2 c =
     let d = c .before .before .before in
-    c .pair-fault .ensures ∙ second-decides (depthFault _) _ (sym (d .depth-fault .ensures) ∙ ap faultOf (c .before .enum-told .given .1)) ∙ check-of _ _ _ _
+    c .pair-fault .ensures ∙ second-decides (depthFault _) _ (sym (d .depth-fault .ensures) ∙ ap faultOf (c .before .enum-told .given .1))
+    ∙ check-of _ _ (optionsOf (d .before .before .before .args .options)) _
 
 pub check-fault-spec : {M : Type 1} → statement M
 check-fault-spec = tie.close (tie.spec (λ c κs. search needs) (λ c. search needs) (λ c. search needs) pair-fault-requires returns returns-2)

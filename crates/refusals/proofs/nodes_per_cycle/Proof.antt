@@ -1,4 +1,4 @@
--- `nodes_per_cycle` is document 01's F. Assumes nothing.
+-- `nodes_per_cycle` is the specification's F. Assumes nothing.
 use mathlib.Core.Path.{refl}
 use native.Mathlib.Omega.{arith}
 use Rattle.refusals.specs.Refusals.{framesBy}

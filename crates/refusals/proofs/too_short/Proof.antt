@@ -3,7 +3,8 @@ use Prim.Native.Nat.{_+_, _*_}
 use mathlib.Core.Path.{sym, _∙_}
 use native.Mathlib.Omega.{arith}
 use borrow.Author.Tests.{lt-ltb, le-ltb}
-use Rattle.refusals.specs.Refusals.{lentOf}
+use Rattle.words.specs.Layout.{LENT}
+use Rattle.calls.specs.Options.{lentOf}
 use Rattle.refusals.specs.RefusalLaws.{product-small, short-within}
 use borrow.Author.Needs.{needs}
 use Rattle.refusals.proofs.too_short.Statement.{statement}
@@ -25,13 +26,13 @@ returns-2 : tie.Need-returns-2
 unfolding lentOf
 returns-2 c =
     let a = c .before .before .before .before .args in
-    sym (short-within (a .inputs) (a .outputs) (a .depth) (lentOf (a .lent)) ∙ rw (le-ltb (a .lent .trace) ((a .depth + 1) * a .inputs + a .outputs) (c .before .before .if1 .left), lt-ltb (a .lent .words) 8388608 (c .if2 .taken)))
+    sym (short-within (a .inputs) (a .outputs) (a .depth) (lentOf (a .lent)) ∙ rw (le-ltb (a .lent .trace) ((a .depth + 1) * a .inputs + a .outputs) (c .before .before .if1 .left), lt-ltb (a .lent .words) LENT (c .if2 .taken)))
 
 returns-3 : tie.Need-returns-3
 unfolding lentOf
 returns-3 c =
     let a = c .before .before .before .before .before .args in
-    sym (short-within (a .inputs) (a .outputs) (a .depth) (lentOf (a .lent)) ∙ rw (le-ltb (a .lent .trace) ((a .depth + 1) * a .inputs + a .outputs) (c .before .before .before .if1 .left), le-ltb (a .lent .words) 8388608 (c .before .if2 .left)))
+    sym (short-within (a .inputs) (a .outputs) (a .depth) (lentOf (a .lent)) ∙ rw (le-ltb (a .lent .trace) ((a .depth + 1) * a .inputs + a .outputs) (c .before .before .before .if1 .left), le-ltb (a .lent .words) LENT (c .before .if2 .left)))
 
 pub too-short-spec : {M : Type 1} → statement M
 too-short-spec = tie.close (tie.spec (λ c. search needs) mul-if1 add-if1 returns returns-2 returns-3)

@@ -3,7 +3,6 @@ use mathlib.Core.Path.{_≡_, refl}
 use Prim.Native.Nat.{_-_, _≤_}
 use native.Mathlib.Omega.{arith}
 use lib.ListN.{length}
-use Rattle.aig.specs.Made.{heads-all}
 use Rattle.solver.specs.QueryLaws.{Partly, partly-none, partly-more, partly-refused, refused, rebuilt-all}
 use borrow.Author.Needs.{needs}
 use Rattle.solver.proofs.rebuild.Statement.{statement}
@@ -14,9 +13,6 @@ Inv-loop words₀ nodes count aig₀ i₀ words aig i = (i ≤ count) × (length
 
 abbrev μ-loop : tie.MeasureT-loop
 μ-loop words₀ nodes count aig₀ i₀ words aig i = count - i
-
-new-requires : tie.Need-new-requires Inv-loop μ-loop
-new-requires c κs = (search needs, search needs, heads-all _)
 
 loop-holds : tie.Need-loop-holds Inv-loop μ-loop
 loop-holds c = let n = c .before .before .new .ensures in (search needs, search needs, partly-none _ _ _ (n .0) (n .1) (n .2))
@@ -53,4 +49,4 @@ mul-bound c = omega (arith, c .before .before .before .before .loop .inv .2 .few
 pub rebuild-spec : {M : Type 1} → statement M
 rebuild-spec =
     tie.close
-    (tie.spec Inv-loop μ-loop new-requires loop-holds (λ c. search needs) (λ c. search needs) (λ c. search needs) (λ c. search needs) (λ c. search needs) (λ c. search needs) (λ c. search needs) mul-bound (λ c. search needs) returns (λ c. search needs) returns-2 with-node-requires (λ c. search needs) (λ c. search needs) loop-again (λ c. search needs) returns-3)
+    (tie.spec Inv-loop μ-loop (λ c κs. search needs) loop-holds (λ c. search needs) (λ c. search needs) (λ c. search needs) (λ c. search needs) (λ c. search needs) (λ c. search needs) (λ c. search needs) mul-bound (λ c. search needs) returns (λ c. search needs) returns-2 with-node-requires (λ c. search needs) (λ c. search needs) loop-again (λ c. search needs) returns-3)

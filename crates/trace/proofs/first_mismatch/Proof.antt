@@ -2,15 +2,16 @@
 use mathlib.Core.Path.{_≡_, sym, _∙_}
 use Prim.Native.Nat.{_-_, _≤_}
 use native.Mathlib.Omega.{arith}
+use Rattle.words.specs.Layout.{FRAMES}
 use Rattle.words.specs.Region.{region}
-use Rattle.trace.specs.Trace.{modelOf}
+use Rattle.assignment.specs.State.{modelOf}
 use Rattle.trace.specs.Cycles.{Equal, equal-none, equal-more, no-mismatch, first-mismatch}
 use borrow.Author.Needs.{needs}
 use Rattle.trace.proofs.first_mismatch.Statement.{statement}
 use Rattle.trace.proofs.first_mismatch.Tie as tie
 
 abbrev Inv-loop : tie.InvT-loop
-Inv-loop words nodes cycles cycle₀ cycle = (cycle ≤ cycles) × Equal (modelOf nodes words) cycle (region 524288 words)
+Inv-loop words nodes cycles cycle₀ cycle = (cycle ≤ cycles) × Equal (modelOf nodes words) cycle (region FRAMES words)
 
 abbrev μ-loop : tie.MeasureT-loop
 μ-loop words nodes cycles cycle₀ cycle = cycles - cycle

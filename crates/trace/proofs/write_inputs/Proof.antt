@@ -3,8 +3,9 @@ use mathlib.Core.Path.{_≡_, refl}
 use Prim.Native.Nat.{_-_, _≤_}
 use native.Mathlib.Omega.{arith}
 use lib.ListN.{length}
+use Rattle.words.specs.Layout.{FRAMES}
 use Rattle.words.specs.Region.{region}
-use Rattle.trace.specs.Trace.{modelOf}
+use Rattle.assignment.specs.State.{modelOf}
 use Rattle.trace.specs.Writing.{Wrote, wrote-none, wrote-append}
 use Rattle.trace.specs.Cycles.{inputsOf, inputs-none, inputs-more, length-inputs, row-room}
 use borrow.Author.Needs.{needs}
@@ -13,7 +14,7 @@ use Rattle.trace.proofs.write_inputs.Tie as tie
 
 abbrev Inv-loop : tie.InvT-loop
 Inv-loop words trace₀ nodes input-count n cycle₀ trace cycle =
-    (cycle ≤ n) × (length trace ≡ length trace₀) × Wrote 0 (inputsOf (modelOf nodes words) input-count cycle (region 524288 words)) trace₀ trace
+    (cycle ≤ n) × (length trace ≡ length trace₀) × Wrote 0 (inputsOf (modelOf nodes words) input-count cycle (region FRAMES words)) trace₀ trace
 
 abbrev μ-loop : tie.MeasureT-loop
 μ-loop words trace₀ nodes input-count n cycle₀ trace cycle = n - cycle
@@ -46,7 +47,7 @@ loop-again c =
     let a = t .before .before .before .before .before .before in (
       omega (arith, t .before .before .loop-test .taken),
       search needs,
-      rw inputs-more (wrote-append _ _ _ _ _ _ _ (omega (arith, length-inputs (modelOf (a .args .nodes) (a .args .words .now)) (region 524288 (a .args .words .now)) (a .args .input-count) (l .cycle))) (l .inv .2) (t .write-values .ensures)),
+      rw inputs-more (wrote-append _ _ _ _ _ _ _ (omega (arith, length-inputs (modelOf (a .args .nodes) (a .args .words .now)) (region FRAMES (a .args .words .now)) (a .args .input-count) (l .cycle))) (l .inv .2) (t .write-values .ensures)),
     )
 
 returns : tie.Need-returns Inv-loop μ-loop

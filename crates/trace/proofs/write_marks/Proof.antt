@@ -4,10 +4,11 @@ use Prim.Native.Nat.{ℕ, _+_, _-_, _≤_}
 use native.Mathlib.Omega.{arith}
 use mathlib.Core.Bool.{Bool, xor as xorBool}
 use lib.ListN.{length, getD}
+use Rattle.words.specs.Layout.{FRAMES, GOLD-OUTPUTS, GATE-OUTPUTS}
 use Rattle.words.specs.Region.{region}
 use Rattle.model.specs.Aig.{evaluate}
 use Rattle.model.specs.Equivalence.{byte}
-use Rattle.trace.specs.Trace.{modelOf}
+use Rattle.assignment.specs.State.{modelOf}
 use Rattle.trace.specs.Writing.{Wrote, wrote-none, wrote-more}
 use Rattle.trace.specs.Cycles.{marksOf, marks-none, marks-more, length-marks}
 use borrow.Author.Needs.{needs}
@@ -16,7 +17,7 @@ use Rattle.trace.proofs.write_marks.Tie as tie
 
 abbrev Inv-loop : tie.InvT-loop
 Inv-loop words trace₀ nodes row place n i₀ trace i =
-    (i ≤ n) × (length trace ≡ length trace₀) × Wrote place (marksOf (modelOf nodes words) i (row + 128) (row + 256) (region 524288 words)) trace₀ trace
+    (i ≤ n) × (length trace ≡ length trace₀) × Wrote place (marksOf (modelOf nodes words) i (row + GOLD-OUTPUTS) (row + GATE-OUTPUTS) (region FRAMES words)) trace₀ trace
 
 abbrev μ-loop : tie.MeasureT-loop
 μ-loop words trace₀ nodes row place n i₀ trace i = n - i
@@ -30,8 +31,8 @@ loop-again c =
     let v = t .before .before .before in
     let l = t .before .before .before .before .before .before .loop in
     let a = t .before .before .before .before .before .before .before .before .before in
-    let at : ℕ → Bool = λ k. evaluate (modelOf (a .args .nodes) (a .args .words .now)) (getD (region 524288 (a .args .words .now)) k 0) in
-    let e : t .before .mark .result ≡ byte (xorBool (at (a .args .row + 128 + l .i)) (at (a .args .row + 256 + l .i))) = t .before .mark .ensures ∙ rw (v .value-at2 .ensures, v .before .value-at .ensures) in (
+    let at : ℕ → Bool = λ k. evaluate (modelOf (a .args .nodes) (a .args .words .now)) (getD (region FRAMES (a .args .words .now)) k 0) in
+    let e : t .before .mark .result ≡ byte (xorBool (at (a .args .row + GOLD-OUTPUTS + l .i)) (at (a .args .row + GATE-OUTPUTS + l .i))) = t .before .mark .ensures ∙ rw (v .value-at2 .ensures, v .before .value-at .ensures) in (
       omega (arith, t .before .before .before .before .before .loop-test .taken),
       search needs,
       rw (t .put .ensures, marks-more, ← e)

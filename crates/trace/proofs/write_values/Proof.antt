@@ -3,10 +3,11 @@ use mathlib.Core.Path.{_≡_, refl, ap, sym, _∙_}
 use Prim.Native.Nat.{ℕ, _+_, _-_, _≤_}
 use native.Mathlib.Omega.{arith}
 use lib.ListN.{length, getD}
+use Rattle.words.specs.Layout.{FRAMES}
 use Rattle.words.specs.Region.{region}
 use Rattle.model.specs.Aig.{evaluate}
 use Rattle.model.specs.Equivalence.{byte}
-use Rattle.trace.specs.Trace.{modelOf}
+use Rattle.assignment.specs.State.{modelOf}
 use Rattle.trace.specs.Writing.{Wrote, wrote-none, wrote-more}
 use Rattle.trace.specs.Cycles.{bytesOf, bytes-none, bytes-more, length-bytes}
 use borrow.Author.Needs.{needs}
@@ -15,7 +16,7 @@ use Rattle.trace.proofs.write_values.Tie as tie
 
 abbrev Inv-loop : tie.InvT-loop
 Inv-loop words trace₀ nodes row place n i₀ trace i =
-    (i ≤ n) × (length trace ≡ length trace₀) × Wrote place (bytesOf (modelOf nodes words) i row (region 524288 words)) trace₀ trace
+    (i ≤ n) × (length trace ≡ length trace₀) × Wrote place (bytesOf (modelOf nodes words) i row (region FRAMES words)) trace₀ trace
 
 abbrev μ-loop : tie.MeasureT-loop
 μ-loop words trace₀ nodes row place n i₀ trace i = n - i
@@ -28,7 +29,7 @@ loop-again c =
     let t = c .before .before in
     let l = t .before .before .before .before .before .loop in
     let a = t .before .before .before .before .before .before .before .before in
-    let e : t .before .byte .result ≡ byte (evaluate (modelOf (a .args .nodes) (a .args .words .now)) (getD (region 524288 (a .args .words .now)) (a .args .row + l .i) 0)) =
+    let e : t .before .byte .result ≡ byte (evaluate (modelOf (a .args .nodes) (a .args .words .now)) (getD (region FRAMES (a .args .words .now)) (a .args .row + l .i) 0)) =
     t .before .byte .ensures ∙ ap byte (t .before .before .value-at .ensures) in (
       omega (arith, t .before .before .before .before .loop-test .taken),
       search needs,

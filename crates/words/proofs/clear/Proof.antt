@@ -3,13 +3,14 @@ use mathlib.Core.Path.{_≡_, sym, _∙_, ap}
 use Prim.Native.Nat.{_≤_, _-_}
 use native.Mathlib.Omega.{arith}
 use lib.ListN.{length}
+use Rattle.words.specs.Layout.{LENT}
 use Rattle.words.specs.Region.{cleared, cleared-none, cleared-more, length-cleared}
 use borrow.Author.Needs.{needs}
 use Rattle.words.proofs.clear.Statement.{statement}
 use Rattle.words.proofs.clear.Tie as tie
 
 abbrev Inv-loop : tie.InvT-loop
-Inv-loop words₀ base size n i₀ words i = (i ≤ n) × (8388608 ≤ length words) × (words ≡ cleared base words₀ i)
+Inv-loop words₀ base size n i₀ words i = (i ≤ n) × (LENT ≤ length words) × (words ≡ cleared base words₀ i)
 
 abbrev μ-loop : tie.MeasureT-loop
 μ-loop words₀ base size n i₀ words i = n - i

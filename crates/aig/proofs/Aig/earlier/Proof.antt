@@ -3,6 +3,7 @@ use mathlib.Core.Path.{_≡_, refl, ap, sym, _∙_}
 use Prim.Native.Nat.{ℕ, _≤_, _<_}
 use native.Mathlib.Omega.{arith}
 use lib.ListN.{getD}
+use Rattle.words.specs.Layout.{GRAPH-LHS, GRAPH-RHS, AND-NEXT, AND-HEADS}
 use Rattle.words.specs.Region.{region}
 use Rattle.aig.specs.Index.{chained}
 use Rattle.aig.specs.Lookup.{Link, chained-hit, chained-miss, chained-end, link-head, link-next, link-found}
@@ -12,8 +13,8 @@ use Rattle.aig.proofs.Aig.earlier.Tie as tie
 
 abbrev Inv-loop : tie.InvT-loop
 Inv-loop words lhs rhs at₀ at =
-    (at ≤ at₀) × (0 < at → getD (region 65536 words) at 0 ≡ rhs)
-    × (chained (region 0 words) (region 65536 words) lhs rhs at ≡ chained (region 0 words) (region 65536 words) lhs rhs at₀)
+    (at ≤ at₀) × (0 < at → getD (region GRAPH-RHS words) at 0 ≡ rhs)
+    × (chained (region GRAPH-LHS words) (region GRAPH-RHS words) lhs rhs at ≡ chained (region GRAPH-LHS words) (region GRAPH-RHS words) lhs rhs at₀)
 
 abbrev μ-loop : tie.MeasureT-loop
 μ-loop words lhs rhs at₀ at = at
@@ -22,7 +23,7 @@ abbrev μ-loop : tie.MeasureT-loop
 head : (c : tie.After-fetch Inv-loop μ-loop) → let s = c .before .before .before in Link (s .args .words .now) (s .args .lhs) (s .args .rhs) (s .args .self .count) (c .fetch .result)
 head c =
     let s = c .before .before .before in
-    link-head (s .args .self .count) _ (s .pre .0) _ _ (s .pre .1) (omega arith) _ (c .fetch .ensures ∙ ap (λ (i : ℕ). getD (region 1572864 (s .args .words .now)) i 0) (c .before .wide .ensures))
+    link-head (s .args .self .count) _ (s .pre .0) _ _ (s .pre .1) (omega arith) _ (c .fetch .ensures ∙ ap (λ (i : ℕ). getD (region AND-HEADS (s .args .words .now)) i 0) (c .before .wide .ensures))
 
 loop-holds : tie.Need-loop-holds Inv-loop μ-loop
 loop-holds c = (omega arith, head c .has, refl)
@@ -34,8 +35,8 @@ returns c =
     let f = c .before .before .before .before .before in
     let k = head f in
     let p : 0 < l .at = omega arith in
-    let e : getD (region 0 (s .args .words .now)) (l .at) 0 ≡ s .args .lhs =
-    ap (λ (i : ℕ). getD (region 0 (s .args .words .now)) i 0) (sym (c .before .before .wide2 .ensures)) ∙ sym (c .before .fetch2 .ensures) ∙ c .if1 .taken in
+    let e : getD (region GRAPH-LHS (s .args .words .now)) (l .at) 0 ≡ s .args .lhs =
+    ap (λ (i : ℕ). getD (region GRAPH-LHS (s .args .words .now)) i 0) (sym (c .before .before .wide2 .ensures)) ∙ sym (c .before .fetch2 .ensures) ∙ c .if1 .taken in
     (link-found _ _ (s .pre .0) _ _ (s .pre .1) (f .fetch .result) (l .at) k (sym (chained-hit _ _ _ _ _ p e) ∙ l .inv .2), omega (arith, k .earlier))
 
 -- the node after the one in hand
@@ -47,7 +48,7 @@ next c =
     let k = head (c .before .before .before .before .before .before .before) in
     let p : 0 < l .at = omega arith in
     link-next (s .args .self .count) _ (s .pre .0) _ _ (s .pre .1) (l .at) _ p (omega (arith, k .earlier)) (l .inv .1 p)
-    (c .fetch3 .ensures ∙ ap (λ (i : ℕ). getD (region 131072 (s .args .words .now)) i 0) (c .before .wide3 .ensures))
+    (c .fetch3 .ensures ∙ ap (λ (i : ℕ). getD (region AND-NEXT (s .args .words .now)) i 0) (c .before .wide3 .ensures))
 
 loop-less : tie.Need-loop-less Inv-loop μ-loop
 loop-less c = next c .earlier
@@ -59,7 +60,7 @@ loop-again c =
     let l = c .before .before .before .before .before .before .loop in
     let k = next c in
     let p : 0 < l .at = omega arith in
-    (omega (arith, k .earlier), k .has, k .finds ∙ sym (chained-miss _ _ _ _ _ p (λ x. c .before .before .if1 .left (f .fetch2 .ensures ∙ ap (λ (i : ℕ). getD (region 0 (s .args .words .now)) i 0) (f .before .wide2 .ensures) ∙ x))) ∙ l .inv .2)
+    (omega (arith, k .earlier), k .has, k .finds ∙ sym (chained-miss _ _ _ _ _ p (λ x. c .before .before .if1 .left (f .fetch2 .ensures ∙ ap (λ (i : ℕ). getD (region GRAPH-LHS (s .args .words .now)) i 0) (f .before .wide2 .ensures) ∙ x))) ∙ l .inv .2)
 
 returns-2 : tie.Need-returns-2 Inv-loop μ-loop
 returns-2 c =
@@ -67,7 +68,7 @@ returns-2 c =
     let l = c .before .loop in
     let f = c .before .before in
     let e : l .at ≡ 0 = omega arith in
-    (link-found _ _ (s .pre .0) _ _ (s .pre .1) (f .fetch .result) 0 (head f) (sym (chained-end _ _ _ _) ∙ ap (λ (i : ℕ). chained (region 0 (s .args .words .now)) (region 65536 (s .args .words .now)) (s .args .lhs) (s .args .rhs) i) (sym e) ∙ l .inv .2), s .pre .0 .positive)
+    (link-found _ _ (s .pre .0) _ _ (s .pre .1) (f .fetch .result) 0 (head f) (sym (chained-end _ _ _ _) ∙ ap (λ (i : ℕ). chained (region GRAPH-LHS (s .args .words .now)) (region GRAPH-RHS (s .args .words .now)) (s .args .lhs) (s .args .rhs) i) (sym e) ∙ l .inv .2), s .pre .0 .positive)
 
 pub earlier-spec : {M : Type 1} → statement M
 earlier-spec =

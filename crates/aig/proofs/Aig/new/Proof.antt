@@ -7,11 +7,11 @@ use Rattle.aig.proofs.Aig.new.Tie as tie
 
 returns : tie.Need-returns
 returns c =
-    let a = c .before .before .before .before .before .before .before .before .before .before .before .before .before .before in
-    let e : c .before .before .stash2 .last .0 ≡ emptied (a .args .words .now) (a .args .used) = cc in
-    (refl, rw e (graph-new (a .args .used) _ (a .pre .0) (a .pre .2)), rw e (ready-new (a .args .used) _ (a .pre .0) (a .pre .2)), rw e (same-new (a .args .used) _ (a .pre .0) (a .pre .2)))
+    let a = c .before .before .before .before .before .before .before .before .before .before .before .before .before in
+    let e : c .before .before .stash2 .last .0 ≡ emptied (a .args .words .now) = cc in
+    (refl, rw e (graph-new _ (a .pre)), rw e (ready-new _ (a .pre)), rw e (same-new _ (a .pre)))
 
 pub new-spec : {M : Type 1} → statement M
 new-spec =
     tie.close
-    (tie.spec (λ c κs. search needs) (λ c. search needs) (λ c κs. search needs) (λ c κs. search needs) (λ c κs. search needs) (λ c. search needs) returns)
+    (tie.spec (λ c κs. search needs) (λ c κs. search needs) (λ c κs. search needs) (λ c. search needs) returns)

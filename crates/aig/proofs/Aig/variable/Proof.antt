@@ -2,6 +2,7 @@
 use Prim.Native.Nat.{ℕ}
 use mathlib.Core.Path.{_≡_, ap, ap₂, _∙_}
 use mathlib.Core.List.{List}
+use Rattle.words.specs.Layout.{GRAPH-LHS, GRAPH-RHS}
 use Rattle.words.specs.Region.{stored}
 use native.Mathlib.Omega.{arith}
 use Rattle.aig.specs.Made.{pushedVariable, made-variable}
@@ -14,8 +15,8 @@ returns c =
     let a = c .before .before .before .before .before .before .before .before .before .before .before in
     let s = c .before .before .before in
     let at = s .before .before .before .before .before .before .wide .ensures in
-    let first = s .before .before .before .before .stash .ensures .0 ∙ ap (λ (i : ℕ). stored 0 (a .args .words .now) i 0) at in
-    let e : s .stash2 .last .0 ≡ pushedVariable (a .args .words .now) (a .args .self .count) = s .stash2 .ensures .0 ∙ ap₂ (λ (x : List ℕ) (i : ℕ). stored 65536 x i 0) first at in
+    let first = s .before .before .before .before .stash .ensures .0 ∙ ap (λ (i : ℕ). stored GRAPH-LHS (a .args .words .now) i 0) at in
+    let e : s .stash2 .last .0 ≡ pushedVariable (a .args .words .now) (a .args .self .count) = s .stash2 .ensures .0 ∙ ap₂ (λ (x : List ℕ) (i : ℕ). stored GRAPH-RHS x i 0) first at in
     rw (e, c .of .ensures) (made-variable (a .args .self .count) _ (a .pre .0) (omega arith))
 
 pub variable-spec : {M : Type 1} → statement M

@@ -3,6 +3,7 @@ use Prim.Native.Nat.{ℕ, _≤_, _-_, _/_}
 use native.Mathlib.Omega.{arith}
 use lib.Ieee as Ieee
 use lib.ListN.{length, getD}
+use Rattle.words.specs.Layout.{LITERALS}
 use Rattle.words.specs.Region.{region, length-region}
 use Rattle.model.specs.Sat as Sat
 use Rattle.assignment.specs.ChooseLaws.{AddingOnes, adding-start, adding-step, adds-ones}
@@ -11,7 +12,7 @@ use Rattle.assignment.proofs.scores.add_ones.Statement.{statement}
 use Rattle.assignment.proofs.scores.add_ones.Tie as tie
 
 abbrev Inv-loop : tie.InvT-loop
-Inv-loop words scores₀ n start end i₀ scores i = AddingOnes n (region 4718592 words) start end scores₀ i scores
+Inv-loop words scores₀ n start end i₀ scores i = AddingOnes n (region LITERALS words) start end scores₀ i scores
 
 abbrev μ-loop : tie.MeasureT-loop
 μ-loop words scores₀ n start end i₀ scores i = end - i
@@ -27,8 +28,8 @@ loop-again c =
     let l = f .before .before in
     let s = l .before .before .before in
     let w = s .args .words .now in
-    let k : s .args .end ≤ length (region 4718592 w) = omega (arith, length-region 4718592 w (omega arith)) in
-    let e : d .before .wide .result ≡ getD (region 4718592 w) (l .loop .i) 0 / 2 = d .before .wide .ensures ∙ ap (λ (x : ℕ). x / 2) (f .fetch .ensures) in
+    let k : s .args .end ≤ length (region LITERALS w) = omega (arith, length-region LITERALS w (omega arith)) in
+    let e : d .before .wide .result ≡ getD (region LITERALS w) (l .loop .i) 0 / 2 = d .before .wide .ensures ∙ ap (λ (x : ℕ). x / 2) (f .fetch .ensures) in
     adding-step _ _ _ _ _ _ _ _ _ k (l .loop .inv) (f .before .loop-test .taken) e (d .add-score .ensures)
 
 same-length : tie.Need-same-length Inv-loop μ-loop

@@ -1,4 +1,5 @@
 use mathlib.Core.Path.{_≡_}
+use Rattle.words.specs.Layout.{PHASES}
 use Rattle.assignment.specs.DecideLaws.{decision-false, decision-true}
 use lib.ListN.{getD}
 use Rattle.assignment.specs.State.{column}
@@ -8,7 +9,7 @@ use Rattle.assignment.proofs.trail.decision.Tie as tie
 
 -- the word that was read is the variable's
 read : (c : tie.After-fetch-below) → let a = c .before .before .before .args in
-    c .fetch-below .result ≡ getD (column (a .t .variables) 851968 (a .words .now)) (a .variable) 0
+    c .fetch-below .result ≡ getD (column (a .t .variables) PHASES (a .words .now)) (a .variable) 0
 read c = cc
 
 returns : tie.Need-returns

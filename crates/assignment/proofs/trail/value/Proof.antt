@@ -1,6 +1,7 @@
 use mathlib.Core.Path.{_≡_, ap, sym, _∙_}
 use Prim.Native.Nat.{ℕ, _/_}
 use lib.ListN.{getD}
+use Rattle.words.specs.Layout.{VALUES}
 use Rattle.model.specs.Sat as Sat
 use Rattle.model.specs.Literal as Literals
 use Rattle.assignment.specs.State.{assignmentOf, wordValue, column}
@@ -14,8 +15,8 @@ read : (c : tie.After-fetch-below) → let a = c .before .before .before .args i
     Sat.value (assignmentOf (a .t) (a .words .now)) (a .literal) ≡ Sat.literalValue (Literals.inverted (a .literal)) (wordValue (c .fetch-below .result))
 read c =
     let a = c .before .before .before .args in
-    let e : c .fetch-below .result ≡ getD (column (a .t .variables) 655360 (a .words .now)) (a .literal / 2) 0 =
-    c .fetch-below .ensures ∙ ap (λ (i : ℕ). getD (column (a .t .variables) 655360 (a .words .now)) i 0) (c .before .wide .ensures) in
+    let e : c .fetch-below .result ≡ getD (column (a .t .variables) VALUES (a .words .now)) (a .literal / 2) 0 =
+    c .fetch-below .ensures ∙ ap (λ (i : ℕ). getD (column (a .t .variables) VALUES (a .words .now)) i 0) (c .before .wide .ensures) in
     rw e (value-is (a .t) (a .words .now) (a .literal))
 
 returns : tie.Need-returns

@@ -2,6 +2,7 @@
 use Prim.Native.Nat.{ℕ, _+_, _*_}
 use mathlib.Core.Path.{ap, _∙_}
 use mathlib.Core.List.{List}
+use Rattle.words.specs.Layout.{WATCHED}
 use Rattle.words.specs.Region.{stored}
 use Rattle.clauses.specs.State.{sealedWords}
 use borrow.Author.Needs.{needs}
@@ -15,8 +16,8 @@ returns c =
     let zero = last .before .before .before .before in
     let start = zero .before .before .before .before in
     let a = start .before .before .before .args in
-    let x = zero .stash2 .ensures .0 ∙ ap (λ (w : List ℕ). stored 2621440 w (a .id * 2) 0) (start .stash .ensures .0) in
-    (last .stash3 .ensures .0 ∙ ap (λ (w : List ℕ). stored 2621440 w (a .id * 2 + 1) (a .place)) x, search needs)
+    let x = zero .stash2 .ensures .0 ∙ ap (λ (w : List ℕ). stored WATCHED w (a .id * 2) 0) (start .stash .ensures .0) in
+    (last .stash3 .ensures .0 ∙ ap (λ (w : List ℕ). stored WATCHED w (a .id * 2 + 1) (a .place)) x, search needs)
 
 pub seal-spec : {M : Type 1} → statement M
 seal-spec =

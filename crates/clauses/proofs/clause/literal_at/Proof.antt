@@ -2,6 +2,7 @@
 use Prim.Native.Nat.{ℕ, _+_, _<_, _≤_}
 use mathlib.Core.Path.{_≡_, ap, ap₂, sym, _∙_}
 use lib.ListN.{getD}
+use Rattle.words.specs.Layout.{LITERALS}
 use Rattle.words.specs.Region.{region}
 use native.Mathlib.Omega.{arith}
 use Rattle.clauses.specs.ClauseLaws.{literal-in, literal-out}
@@ -16,7 +17,7 @@ returns c =
     let e : i .before .before .before .wide .result + i .before .before .wide2 .result ≡ a .c .start + a .place =
     ap₂ _+_ (i .before .before .before .wide .ensures) (i .before .before .wide2 .ensures) in
     let h : a .c .start + a .place < a .c .end = omega (arith, i .if1 .taken, i .before .wide3 .ensures) in
-    c .fetch .ensures ∙ ap (λ (k : ℕ). getD (region 4718592 (a .words .now)) k 0) e ∙ sym (literal-in (a .c) (a .words .now) (a .place) h)
+    c .fetch .ensures ∙ ap (λ (k : ℕ). getD (region LITERALS (a .words .now)) k 0) e ∙ sym (literal-in (a .c) (a .words .now) (a .place) h)
 
 returns-2 : tie.Need-returns-2
 returns-2 c =

@@ -4,6 +4,7 @@ use mathlib.Core.Path.{_≡_, sym, _∙_}
 use native.Mathlib.Omega.{arith}
 use mathlib.Core.Bool.{true, false}
 use lib.ListN.{drop, getD, length}
+use Rattle.words.specs.Layout.{POOL}
 use Rattle.model.specs.Sat as Sat
 use Rattle.assignment.specs.State.{assignmentOf}
 use Rattle.clauses.specs.State.{clauseOf}
@@ -14,7 +15,7 @@ use Rattle.clauses.proofs.clause.replacement.Tie as tie
 
 abbrev Inv-loop : tie.InvT-loop
 Inv-loop words t c start end i₀ i =
-    (i ≤ 786432)
+    (i ≤ POOL)
     × (Sat.replacementFrom (assignmentOf t words) (clauseOf c words) i (drop i (clauseOf c words .literals)) ≡ Sat.replacement (assignmentOf t words) (clauseOf c words))
 
 abbrev μ-loop : tie.MeasureT-loop

@@ -2,6 +2,7 @@
 use Prim.Native.Nat.{ℕ, _+_}
 use mathlib.Core.Path.{ap, ap₂, _∙_}
 use mathlib.Core.List.{List}
+use Rattle.words.specs.Layout.{WATCH-TAILS, WATCH-COUNTS}
 use Rattle.words.specs.Region.{stored}
 use Rattle.clauses.specs.Queue.{pushedWords}
 use borrow.Author.Needs.{needs}
@@ -16,8 +17,8 @@ returns c =
     let first = tail .before .before .before .before in
     let read = first .before .before in
     let a = read .before .before .before .args in
-    let x = tail .stash .ensures .0 ∙ ap (λ (w : List ℕ). stored 1835008 w (a .l) (a .cell)) (first .link .ensures .0) in
-    (count .stash2 .ensures .0 ∙ ap₂ (λ (w : List ℕ) (n : ℕ). stored 1966080 w (a .l) (n + 1)) x (read .fetch .ensures), search needs)
+    let x = tail .stash .ensures .0 ∙ ap (λ (w : List ℕ). stored WATCH-TAILS w (a .l) (a .cell)) (first .link .ensures .0) in
+    (count .stash2 .ensures .0 ∙ ap₂ (λ (w : List ℕ) (n : ℕ). stored WATCH-COUNTS w (a .l) (n + 1)) x (read .fetch .ensures), search needs)
 
 pub push-back-spec : {M : Type 1} → statement M
 push-back-spec =

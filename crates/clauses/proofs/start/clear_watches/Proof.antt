@@ -2,6 +2,7 @@
 use Prim.Native.Nat.{ℕ}
 use mathlib.Core.Path.{ap, _∙_}
 use mathlib.Core.List.{List}
+use Rattle.words.specs.Layout.{CLAUSE-STARTS}
 use Rattle.words.specs.Region.{stored}
 use Rattle.clauses.specs.State.{clearedWords}
 use Rattle.clauses.specs.ClearLaws.{no-clause}
@@ -15,7 +16,7 @@ returns c =
     let k = c .before .before in
     let n = k .before .before .before .before in
     let s = n .before .before .before in
-    no-clause (s .args .words .now) (s .pre) _ (k .stash .ensures .0 ∙ ap (λ (x : List ℕ). stored 2097152 x 0 0) (n .clear .ensures .0))
+    no-clause (s .args .words .now) (s .pre) _ (k .stash .ensures .0 ∙ ap (λ (x : List ℕ). stored CLAUSE-STARTS x 0 0) (n .clear .ensures .0))
 
 pub clear-watches-spec : {M : Type 1} → statement M
 clear-watches-spec = tie.close (tie.spec (λ c κs. search needs) (λ c κs. search needs) (λ c. search needs) returns)

@@ -10,7 +10,7 @@ named-state-cycles-requires c κs =
     let n = c .before .before .before in
     let a = n .before .before .before in
     let e = n .new .ensures .0 in
-    (rw e (startable-base (a .args .gold) (a .args .gate) _ _ _ (a .args .used) (a .args .depth) _ _ (a .pre) (n .new .ensures .3) (n .new .ensures .2)), a .pre .matches, rw e (omega arith))
+    (rw e (startable-base (a .args .gold) (a .args .gate) _ _ _ (a .args .depth) _ _ (a .pre) (n .new .ensures .3) (n .new .ensures .2)), a .pre .matches, rw e (omega arith))
 
 returns : tie.Need-returns
 returns c =
@@ -18,7 +18,7 @@ returns c =
     let n = k .before .before .before .before in
     let a = n .before .before .before in
     let left = rw (n .new .ensures .0) at (k .named-state-cycles .ensures) in
-    preserves (a .args .gold) (a .args .gate) _ _ _ (a .args .used) (a .args .depth) _ _ (a .pre) (n .new .ensures .3) (n .new .ensures .2) _ _ _ _ _ (n .new .ensures .1) left
+    preserves (a .args .gold) (a .args .gate) _ _ _ (a .args .depth) _ _ (a .pre) (n .new .ensures .3) (n .new .ensures .2) _ _ _ _ _ (n .new .ensures .1) left
 
 pub base-preserves-named-state-spec : {M : Type 1} → statement M
 base-preserves-named-state-spec =

@@ -10,7 +10,7 @@ counterexample-cycles-requires c κs =
     let n = c .before .before .before in
     let a = n .before .before .before in
     let e = n .new .ensures .0 in
-    (rw e (startable-compared (a .args .gold) (a .args .gate) _ _ (a .args .used) (a .args .depth) _ _ (a .pre) (n .new .ensures .3) (n .new .ensures .2)), rw e (omega arith), omega (arith, a .pre .depth-small))
+    (rw e (startable-compared (a .args .gold) (a .args .gate) _ _ (a .args .depth) _ _ (a .pre) (n .new .ensures .3) (n .new .ensures .2)), rw e (omega arith), omega (arith, a .pre .depth-small))
 
 returns : tie.Need-returns
 returns c =
@@ -18,7 +18,7 @@ returns c =
     let n = k .before .before .before .before in
     let a = n .before .before .before in
     let left = rw (n .new .ensures .0) at (k .counterexample-cycles .ensures) in
-    compares (a .args .gold) (a .args .gate) _ _ (a .args .used) (a .args .depth) _ _ (a .pre) (n .new .ensures .3) (n .new .ensures .2) _ _ _ _ _ (n .new .ensures .1) left
+    compares (a .args .gold) (a .args .gate) _ _ (a .args .depth) _ _ (a .pre) (n .new .ensures .3) (n .new .ensures .2) _ _ _ _ _ (n .new .ensures .1) left
 
 pub base-counterexample-spec : {M : Type 1} → statement M
 base-counterexample-spec =

@@ -3,6 +3,7 @@ use mathlib.Core.Path.{_≡_, refl}
 use Prim.Native.Nat.{_-_, _≤_}
 use native.Mathlib.Omega.{arith}
 use lib.ListN.{length}
+use Rattle.words.specs.Layout.{LENT}
 use Rattle.lowering.specs.System.{Copying, copying-none, copying-more}
 use borrow.Author.Needs.{needs}
 use Rattle.lowering.proofs.copy.copy_graph.Statement.{statement}
@@ -10,7 +11,7 @@ use Rattle.lowering.proofs.copy.copy_graph.Tie as tie
 
 -- the first i nodes are copied
 abbrev Inv-loop : tie.InvT-loop
-Inv-loop words₀ base count i₀ words i = (i ≤ count) × (length words ≡ length words₀) × (8388608 ≤ length words) × Copying base words₀ i words
+Inv-loop words₀ base count i₀ words i = (i ≤ count) × (length words ≡ length words₀) × (LENT ≤ length words) × Copying base words₀ i words
 
 abbrev μ-loop : tie.MeasureT-loop
 μ-loop words₀ base count i₀ words i = count - i

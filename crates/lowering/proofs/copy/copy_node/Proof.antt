@@ -2,6 +2,7 @@
 use mathlib.Core.Path.{refl, sym}
 use native.Mathlib.Omega.{arith}
 use Prim.Native.Nat.{_+_}
+use Rattle.words.specs.Layout.{SMALL}
 use Rattle.aig.specs.Side.{side-size}
 use borrow.Author.Needs.{needs}
 use Rattle.lowering.proofs.copy.copy_node.Statement.{statement}
@@ -15,7 +16,7 @@ stash-requires c κs =
 stash-requires-2 : tie.Need-stash-requires-2
 stash-requires-2 c κs =
     let a = c .before .before .before .before .before .before .before .before .before .before in
-    (c .before .before .before .stash .ensures .1, omega arith, sym (side-size (a .args .base + 65536) (omega (arith, a .pre .1)) (omega (arith, a .pre .2))))
+    (c .before .before .before .stash .ensures .1, omega arith, sym (side-size (a .args .base + SMALL) (omega (arith, a .pre .1)) (omega (arith, a .pre .2))))
 
 returns : tie.Need-returns
 returns c =

@@ -13,26 +13,26 @@ returns-2 : tie.Need-returns-2
 returns-2 c =
     let a = c .before .before .before .before in
     let i = c .before in
-    rw (c .constant-literal .ensures) (made-literal _ _ _ _ (a .pre .0) (constant-below _ _ (a .pre .0 .ready .positive)) (gate-constant _ _ _ _ _ _ _ (i .before .if1 .left) (i .if2 .taken)))
+    rw (c .constant-literal .ensures) (made-literal _ _ _ _ (a .pre .0) (constant-below _ _ (a .pre .0 .ready .positive)) (gate-constant _ _ _ _ _ _ _ (i .if2 .taken)))
 
 returns-3 : tie.Need-returns-3
 returns-3 c =
     let d = c .before .before in
     let i = d .before .before in
-    made-as (gate-register _ _ _ _ _ _ _ (i .before .before .if1 .left) (i .before .if2 .left) (i .if3 .taken)) (made-more 3 (omega arith) (d .variable2 .ensures))
+    made-as (gate-register _ _ _ _ _ _ _ (i .if3 .taken)) (made-more 3 (omega arith) (d .variable2 .ensures))
 
 returns-4 : tie.Need-returns-4
 returns-4 c =
     let a = c .before .before .before .before .before .before .before .before in
     let n = c .before in
     let i = n .before .before in
-    rw (c .negate .ensures, n .net-literal .ensures) (made-literal _ _ _ _ (a .pre .0) (negate-below _ _ (a .pre .0 .nets _)) (gate-not _ _ _ _ _ _ _ (i .before .before .before .if1 .left) (i .before .before .if2 .left) (i .before .if3 .left) (i .if4 .taken)))
+    rw (c .negate .ensures, n .net-literal .ensures) (made-literal _ _ _ _ (a .pre .0) (negate-below _ _ (a .pre .0 .nets _)) (gate-not _ _ _ _ _ _ _ (i .if4 .taken)))
 
 returns-5 : tie.Need-returns-5
 returns-5 c =
     let a = c .before .before .before .before .before .before .before .before in
     let i = c .before .before in
-    rw (c .net-literal2 .ensures) (made-literal _ _ _ _ (a .pre .0) (a .pre .0 .nets _) (gate-output _ _ _ _ _ _ _ (i .before .before .before .before .if1 .left) (i .before .before .before .if2 .left) (i .before .before .if3 .left) (i .before .if4 .left) (i .if5 .taken)))
+    rw (c .net-literal2 .ensures) (made-literal _ _ _ _ (a .pre .0) (a .pre .0 .nets _) (gate-output _ _ _ _ _ _ _ (i .if5 .taken)))
 
 returns-6 : tie.Need-returns-6
 returns-6 c =

@@ -2,19 +2,12 @@
 use mathlib.Core.Path.{_≡_, ap, _∙_}
 use mathlib.Core.List.{List}
 use Prim.Native.Nat.{ℕ}
+use Rattle.words.specs.Layout.{SMALL, IMPORTED}
 use Rattle.words.specs.Region.{cleared}
-use Rattle.lowering.specs.System.{wiped, heads-wiped, started}
+use Rattle.lowering.specs.System.{wiped, started}
 use borrow.Author.Needs.{needs}
 use Rattle.lowering.proofs.walk.start_walk.Statement.{statement}
 use Rattle.lowering.proofs.walk.start_walk.Tie as tie
-
-new-requires : tie.Need-new-requires
-new-requires c κs =
-    let d = c .before .before .before in
-    let f = d .before .before .before .before in
-    let a = f .before .before .before in
-    let e : d .clear2 .last .0 ≡ wiped (a .args .words .now) = d .clear2 .ensures .0 ∙ ap (λ (x : List ℕ). cleared 458752 x 65536) (f .clear .ensures .0) in
-    (d .clear2 .ensures .1, a .pre .1, rw e (heads-wiped _ _ (a .pre .2)))
 
 returns : tie.Need-returns
 returns c =
@@ -22,9 +15,9 @@ returns c =
     let d = n .before .before .before .before in
     let f = d .before .before .before .before in
     let a = f .before .before .before in
-    let e : d .clear2 .last .0 ≡ wiped (a .args .words .now) = d .clear2 .ensures .0 ∙ ap (λ (x : List ℕ). cleared 458752 x 65536) (f .clear .ensures .0) in
-    (n .new .ensures .0, started _ _ (a .pre .0) (n .new .ensures .1) (n .new .ensures .2) (rw e at (n .new .ensures .3)))
+    let e : d .clear2 .last .0 ≡ wiped (a .args .words .now) = d .clear2 .ensures .0 ∙ ap (λ (x : List ℕ). cleared IMPORTED x SMALL) (f .clear .ensures .0) in
+    (n .new .ensures .0, started _ _ (a .pre) (n .new .ensures .1) (n .new .ensures .2) (rw e at (n .new .ensures .3)))
 
 pub start-walk-spec : {M : Type 1} → statement M
 start-walk-spec =
-    tie.close (tie.spec (λ c κs. search needs) (λ c κs. search needs) new-requires (λ c. search needs) returns)
+    tie.close (tie.spec (λ c κs. search needs) (λ c κs. search needs) (λ c κs. search needs) (λ c. search needs) returns)

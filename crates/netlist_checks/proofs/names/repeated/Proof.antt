@@ -4,8 +4,8 @@ use mathlib.Core.Path.{_≡_, refl, sym, ap, _∙_}
 use native.Mathlib.Omega.{arith}
 use Rattle.model.specs.Names.{sameName, memberName}
 use Rattle.struo_ir.specs.Decoded.{nameAt}
-use Rattle.netlist_checks.specs.Checks.{namesBefore}
-use Rattle.netlist_checks.specs.NameLaws.{name-found, name-passed}
+use Rattle.netlist_checks.specs.Seen.{namesBefore}
+use Rattle.netlist_checks.specs.SeenLaws.{name-found, name-passed}
 use borrow.Author.Needs.{needs}
 use Rattle.netlist_checks.proofs.names.repeated.Statement.{statement}
 use Rattle.netlist_checks.proofs.names.repeated.Tie as tie

@@ -3,8 +3,8 @@ use Prim.Native.Nat.{_≤_}
 use mathlib.Core.Path.{_≡_, refl, _∙_}
 use native.Mathlib.Omega.{arith}
 use Rattle.model.specs.Lists.{member}
-use Rattle.netlist_checks.specs.Checks.{numbersBefore}
-use Rattle.netlist_checks.specs.NameLaws.{number-found, number-passed}
+use Rattle.netlist_checks.specs.Seen.{numbersBefore}
+use Rattle.netlist_checks.specs.SeenLaws.{number-found, number-passed}
 use borrow.Author.Needs.{needs}
 use Rattle.netlist_checks.proofs.names.taken.Statement.{statement}
 use Rattle.netlist_checks.proofs.names.taken.Tie as tie

@@ -1,6 +1,5 @@
 -- `clock_node` is the node of the number, or one that is no Input. Assumes nothing.
 use mathlib.Core.Path.{_≡_, refl}
-use Prim.Native.Nat.{_-_}
 use native.Mathlib.Omega.{arith}
 use lib.ListN.{length, length-map}
 use Rattle.pair.specs.PairCheckLaws.{clock-in, clock-out}

@@ -10,7 +10,7 @@ use Rattle.model.specs.Netlist.{inputName}
 use Rattle.model.specs.Pair as Pair
 use Rattle.model.specs.Pair.{nameOr, domainOf, sameDomain, allIn, manyDomains}
 use Rattle.struo_ir.specs.Decoded.{decodedNode, decodedRegister, decoded}
-use Rattle.name_order.specs.Places.{noCell}
+use Rattle.struo_ir.specs.Registers.{noRegister}
 use Rattle.pair.specs.PairCheckLaws.{domain-by, domains-none, domains-first, domains-more, domains-apart, domains-all}
 use borrow.Author.Needs.{needs}
 use Rattle.pair.proofs.checks.many_domains.Statement.{statement}
@@ -18,7 +18,7 @@ use Rattle.pair.proofs.checks.many_domains.Tie as tie
 
 abbrev Inv-loop : tie.InvT-loop
 Inv-loop bytes netlist count first node k₀ k =
-    (count ≡ netlist .«register_count») × (0 < count) × (k ≤ count) × (first ≡ getD (netlist .registers) 0 noCell) ×
+    (count ≡ netlist .«register_count») × (0 < count) × (k ≤ count) × (first ≡ getD (netlist .registers) 0 noRegister) ×
     ((s : List ℕ) → nameOr (inputName (decodedNode s node)) ≡ Pair.nameAt (getElem? (decoded s netlist .nodes) (first .clock))) ×
     (manyDomains (decoded bytes netlist .nodes) (decoded bytes netlist .registers)
     ≡ not (allIn (decoded bytes netlist .nodes) (domainOf (decoded bytes netlist .nodes) (decodedRegister bytes first)) (drop k (decoded bytes netlist .registers))))
@@ -52,8 +52,8 @@ returns-2 c =
     let t = c .before .before .before .before .before .before .loop in
     let s = a .bytes .now in
     let l : length (a .t2 .registers) ≡ 128 = simp length-map at (c .before .before .before .before .before .before .before .before .before .before .before .before .good .1 .0 .1 .1 .1 .1 .1 .0 .1 .0 .1) in
-    let first = getD (a .t2 .registers) 0 noCell in
-    let cell = getD (a .t2 .registers) (t .k) noCell in
+    let first = getD (a .t2 .registers) 0 noRegister in
+    let cell = getD (a .t2 .registers) (t .k) noRegister in
     let e = c .before .same-domain .ensures
     ∙ ap₂ sameDomain (domain-by s (a .t2) first (c .before .before .before .before .before .before .before .clock-node .result) (first .clock) refl (t .inv .4)) (domain-by s (a .t2) cell (c .before .before .clock-node2 .result) (c .before .before .before .wide2 .result) (c .before .before .before .wide2 .ensures) (c .before .before .clock-node2 .ensures)) in
     sym (t .inv .5 ∙ ap not (domains-apart s (a .t2) (omega arith) _ (t .k) (omega arith) (sym e ∙ not-true _ (c .if2 .taken))))
@@ -64,8 +64,8 @@ loop-again c =
     let t = c .before .before .before .before .before .before .loop in
     let s = a .bytes .now in
     let l : length (a .t2 .registers) ≡ 128 = simp length-map at (c .before .before .before .before .before .before .before .before .before .before .before .before .good .1 .0 .1 .1 .1 .1 .1 .0 .1 .0 .1) in
-    let first = getD (a .t2 .registers) 0 noCell in
-    let cell = getD (a .t2 .registers) (t .k) noCell in
+    let first = getD (a .t2 .registers) 0 noRegister in
+    let cell = getD (a .t2 .registers) (t .k) noRegister in
     let e = c .before .same-domain .ensures
     ∙ ap₂ sameDomain (domain-by s (a .t2) first (c .before .before .before .before .before .before .before .clock-node .result) (first .clock) refl (t .inv .4)) (domain-by s (a .t2) cell (c .before .before .clock-node2 .result) (c .before .before .before .wide2 .result) (c .before .before .before .wide2 .ensures) (c .before .before .clock-node2 .ensures)) in
     (refl, omega arith, omega arith, refl, t .inv .4, t .inv .5 ∙ ap not (domains-more s (a .t2) (omega arith) _ (t .k) (omega arith) (sym e ∙ not-false _ (c .if2 .left))))

@@ -6,10 +6,11 @@ use mathlib.Core.List.{List}
 use lib.ListN.{length, drop, getD, length-map}
 use Rattle.model.specs.Pair.{resetsFault}
 use Rattle.struo_ir.specs.Decoded.{decoded}
-use Rattle.name_order.specs.Places.{noCell, places}
-use Rattle.pair.specs.PairChecks.{faultOf}
+use Rattle.struo_ir.specs.Orders.{places}
+use Rattle.struo_ir.specs.Registers.{noRegister}
+use Rattle.calls.specs.Faults.{faultOf}
 use Rattle.pair.specs.PairCheckLaws.{lacks-right, resets-more, resets-here, resets-none}
-use Rattle.pair.specs.declared.checks.Fault.the-variants.{Refused}
+use Rattle.calls.specs.declared.fault.Fault.the-variants.{Refused}
 use borrow.Author.Needs.{needs}
 use Rattle.pair.proofs.checks.resets_fault.Statement.{statement}
 use Rattle.pair.proofs.checks.resets_fault.Tie as tie
@@ -32,9 +33,9 @@ returns c =
     let t = c .before .before .before .before .before .before .before .before .loop in
     let n = a .t2 in
     let l : length (n .registers) ≡ 128 = simp length-map at (c .before .before .before .before .before .before .before .before .before .good .1 .0 .1 .1 .1 .1 .1 .0 .1 .0 .1) in
-    let cell = getD (n .registers) (c .before .before .before .before .within .result) noCell in
+    let cell = getD (n .registers) (c .before .before .before .before .within .result) noRegister in
     let w = c .before .before .before .before .before .wide .result in
-    let q : w < n .«register_count» → cell ≡ getD (n .registers) w noCell = λ h. ap (λ (j : ℕ). getD (n .registers) j noCell) (c .before .before .before .before .within .ensures .1 (omega (arith, c .before .before .before .before .before .before .before .before .before .pre .0))) in
+    let q : w < n .«register_count» → cell ≡ getD (n .registers) w noRegister = λ h. ap (λ (j : ℕ). getD (n .registers) j noRegister) (c .before .before .before .before .within .ensures .1 (omega (arith, c .before .before .before .before .before .before .before .before .before .pre .0))) in
     λ s. let e = sym (lacks-right s n w cell (omega (arith, c .before .before .before .before .before .before .before .before .before .pre .0)) q) ∙ sym (c .before .before .lacks-reset .ensures) ∙ c .before .if1 .taken in
     ap faultOf (c .no-reset .ensures ∙ ap (Refused 22 (a .side)) (c .before .before .before .before .before .before .number-at .ensures))
     ∙ sym (t .inv .3 s ∙ resets-here s (a .side) (decoded s n .registers) (a .order) (t .k) (c .before .before .before .before .before .before .before .before .before .pre .1) (omega arith) (rw (c .before .before .before .before .before .wide .ensures ∙ c .before .before .before .before .before .before .number-at .ensures) at e))
@@ -45,9 +46,9 @@ loop-again c =
     let t = c .before .before .before .before .before .before .before .loop in
     let n = a .t2 in
     let l : length (n .registers) ≡ 128 = simp length-map at (c .before .before .before .before .before .before .before .before .good .1 .0 .1 .1 .1 .1 .1 .0 .1 .0 .1) in
-    let cell = getD (n .registers) (c .before .before .before .within .result) noCell in
+    let cell = getD (n .registers) (c .before .before .before .within .result) noRegister in
     let w = c .before .before .before .before .wide .result in
-    let q : w < n .«register_count» → cell ≡ getD (n .registers) w noCell = λ h. ap (λ (j : ℕ). getD (n .registers) j noCell) (c .before .before .before .within .ensures .1 (omega (arith, c .before .before .before .before .before .before .before .before .pre .0))) in (
+    let q : w < n .«register_count» → cell ≡ getD (n .registers) w noRegister = λ h. ap (λ (j : ℕ). getD (n .registers) j noRegister) (c .before .before .before .within .ensures .1 (omega (arith, c .before .before .before .before .before .before .before .before .pre .0))) in (
       refl,
       refl,
       omega arith,

@@ -14,7 +14,7 @@ returns : tie.Need-returns
 unfolding sameDomain domainBy
 returns c =
     let a = c .before .before .before .before .before .before .before .args in
-    let e : sameName (nameOr (inputName (decodedNode (a .gold .now) (a .a)))) (nameOr (inputName (decodedNode (a .gate .now) (a .b)))) ≡ true =
+    let e : sameName (nameOr (inputName (decodedNode (a .gold .now) (a .gold-clock)))) (nameOr (inputName (decodedNode (a .gate .now) (a .gate-clock)))) ≡ true =
     ap₂ sameName (sym (c .before .before .before .before .input-name .ensures)) (sym (c .before .before .before .input-name2 .ensures)) ∙ sym (c .before .before .same .ensures) ∙ c .before .if1 .taken in
     rw e (c .same-edge .ensures)
 
@@ -22,7 +22,7 @@ returns-2 : tie.Need-returns-2
 unfolding sameDomain domainBy
 returns-2 c =
     let a = c .before .before .before .before .before .before .args in
-    let e : sameName (nameOr (inputName (decodedNode (a .gold .now) (a .a)))) (nameOr (inputName (decodedNode (a .gate .now) (a .b)))) ≡ false =
+    let e : sameName (nameOr (inputName (decodedNode (a .gold .now) (a .gold-clock)))) (nameOr (inputName (decodedNode (a .gate .now) (a .gate-clock)))) ≡ false =
     ap₂ sameName (sym (c .before .before .before .input-name .ensures)) (sym (c .before .before .input-name2 .ensures)) ∙ sym (c .before .same .ensures) ∙ c .if1 .left in
     rw e
 

@@ -6,19 +6,19 @@ use borrow.Author.Tests.{not-true, not-false}
 use lib.ListN.{drop}
 use Rattle.model.specs.Names.{sameName, sameNames, namesOf}
 use Rattle.struo_ir.specs.Decoded.{nameAt}
-use Rattle.name_order.specs.Places.{places}
+use Rattle.struo_ir.specs.Orders.{places}
 use Rattle.pair.specs.PairCheckLaws.{names-longer, names-apart, names-more, names-end}
 use borrow.Author.Needs.{needs}
 use Rattle.pair.proofs.checks.same_names.Statement.{statement}
 use Rattle.pair.proofs.checks.same_names.Tie as tie
 
 abbrev Inv-loop : tie.InvT-loop
-Inv-loop gold gate a b count limit k₀ k =
-    (count ≡ a .count) × (limit ≡ b .count) × (k ≤ count) × (k ≤ limit) ×
-    (sameNames (namesOf (places gold a)) (namesOf (places gate b)) ≡ sameNames (namesOf (drop k (places gold a))) (namesOf (drop k (places gate b))))
+Inv-loop gold gate gold-order gate-order gold-count gate-count k₀ k =
+    (gold-count ≡ gold-order .count) × (gate-count ≡ gate-order .count) × (k ≤ gold-count) × (k ≤ gate-count) ×
+    (sameNames (namesOf (places gold gold-order)) (namesOf (places gate gate-order)) ≡ sameNames (namesOf (drop k (places gold gold-order))) (namesOf (drop k (places gate gate-order))))
 
 abbrev μ-loop : tie.MeasureT-loop
-μ-loop gold gate a b count limit k₀ k = count - k
+μ-loop gold gate gold-order gate-order gold-count gate-count k₀ k = gold-count - k
 
 loop-holds : tie.Need-loop-holds Inv-loop μ-loop
 loop-holds c = (refl, refl, omega arith, omega arith, refl)

@@ -1,13 +1,13 @@
 -- `claim_fault` is the test of the claim. Assumes nothing.
 use Rattle.model.specs.Validate.{refuseIf}
-use Rattle.pair.specs.PairChecks.{faultOf}
+use Rattle.calls.specs.Faults.{refusal, faultOf}
 use Rattle.replay.specs.ClaimChecks.{claimFault}
 use borrow.Author.Needs.{needs}
 use Rattle.replay.proofs.claim.claim_fault.Statement.{statement}
 use Rattle.replay.proofs.claim.claim_fault.Tie as tie
 
 returns : tie.Need-returns
-unfolding faultOf claimFault refuseIf
+unfolding faultOf refusal claimFault refuseIf
 returns c = rw (← c .before .bad-claim .ensures, c .if1 .taken)
 
 returns-2 : tie.Need-returns-2

@@ -1,27 +1,35 @@
--- `replay_fault` takes the interface's fault, or the later ones where there is none. Assumes nothing.
+-- `replay_fault` takes the interface's fault, or the initial bits' and the claim's where there is none. Assumes nothing.
 use mathlib.Core.Path.{sym, ap, _∙_}
-use Rattle.struo_ir.specs.Decoded.{decoded}
-use Rattle.pair.specs.PairChecks.{faultOf}
-use Rattle.replay.specs.ReplayRight.{replay-first, replay-second}
+use Rattle.model.specs.Pair.{interfaceFault, replayFault}
+use Rattle.calls.specs.Faults.{faultOf, first-refuses, second-decides}
+use Rattle.replay.specs.ClaimChecks.{initialAndClaimFault}
 use borrow.Author.Needs.{needs}
 use Rattle.replay.proofs.replay.replay_fault.Statement.{statement}
 use Rattle.replay.proofs.replay.replay_fault.Tie as tie
 
+interface-fault-requires : tie.Need-interface-fault-requires
+interface-fault-requires c κs = let p = c .before .before .before .pre in (p .0, p .1)
+
+initial-and-claim-fault-requires : tie.Need-initial-and-claim-fault-requires
+initial-and-claim-fault-requires c κs =
+    let p = c .before .before .before .before .before .before .pre in
+    let gold = p .0 .ordered in
+    (p .0 .valid .within .sized, p .1 .valid .within .sized, gold .formed-inputs, gold .formed-outputs, gold .formed-registers, p .1 .ordered .formed-registers)
+
 returns : tie.Need-returns
-unfolding faultOf
+unfolding faultOf replayFault
 returns c =
-    let a = c .before .before .before .before .before .before .before .args in
-    replay-first (decoded (a .gold .now) (a .x)) (decoded (a .gate .now) (a .y)) (a .cycle) (a .claim .now) _ (sym (c .before .before .before .interface-fault .ensures) ∙ ap faultOf (c .before .interface .given .1))
+    let i = c .before .before .before in
+    first-refuses (interfaceFault _ _) _ _ (sym (i .interface-fault .ensures) ∙ ap faultOf (c .before .interface .given .1))
 
 returns-2 : tie.Need-returns-2
-unfolding faultOf
+unfolding faultOf replayFault initialAndClaimFault
 returns-2 c =
-    let a = c .before .before .before .before .before .before .before .args in
-    let p = c .before .before .before .before .before .before .before .pre in
-    c .later-fault .ensures (a .gold .now) (a .gate .now) (p .2) (p .3)
-    ∙ replay-second (decoded (a .gold .now) (a .x)) (decoded (a .gate .now) (a .y)) (a .cycle) (a .claim .now) (sym (c .before .before .before .interface-fault .ensures) ∙ ap faultOf (c .before .enum-told .given .1))
+    let i = c .before .before .before in
+    let p = i .before .before .before .before .pre in
+    c .initial-and-claim-fault .ensures _ _ (p .0) (p .1) ∙ second-decides (interfaceFault _ _) _ (sym (i .interface-fault .ensures) ∙ ap faultOf (c .before .enum-told .given .1))
 
 pub replay-fault-spec : {M : Type 1} → statement M
 replay-fault-spec =
     tie.close
-    (tie.spec (λ c κs. search needs) (λ c. search needs) (λ c. search needs) (λ c κs. search needs) returns returns-2)
+    (tie.spec interface-fault-requires (λ c. search needs) (λ c. search needs) initial-and-claim-fault-requires returns returns-2)

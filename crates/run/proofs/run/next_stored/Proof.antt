@@ -1,7 +1,7 @@
 -- `next_stored` writes the next bits in order: those written, then those of the registers left. The rest of the new row stays. Assumes nothing.
 use mathlib.Core.Path.{_≡_, refl, sym, ap, _∙_}
 use mathlib.Core.List.{List, _++_}
-use Prim.Native.Nat.{ℕ, _+_, _-_, _≤_, _<_}
+use Prim.Native.Nat.{ℕ, _-_, _≤_, _<_}
 use native.Mathlib.Omega.{arith}
 use lib.ListN.{length, take, drop, length-map, length-set}
 use Rattle.model.specs.Run.{nextFrom, nextStored}

@@ -8,9 +8,10 @@ use lib.ListN.{length, take, drop, getD, replicate, length-map, length-set, leng
 use Rattle.model.specs.Names.{Place}
 use Rattle.model.specs.Replay.{claimBit}
 use Rattle.model.specs.Run.{valuesFrom, nodeValues}
-use Rattle.netlist_checks.specs.Checks.{Drivers}
+use Rattle.drivers.specs.Drivers.{Drivers}
 use Rattle.struo_ir.specs.Decoded.{decoded}
-use Rattle.name_order.specs.Places.{noNode, noCell}
+use Rattle.struo_ir.specs.Nodes.{noNode}
+use Rattle.struo_ir.specs.Registers.{noRegister}
 use Rattle.run.specs.RunTables.{Ranked, rowInputs, nodeBy, shownBy}
 use Rattle.run.specs.RunLaws.{rest-more, value-right, values-more, padded-row, values-done}
 use borrow.Author.Needs.{needs}
@@ -20,7 +21,7 @@ use Rattle.run.proofs.run.node_values.Tie as tie
 abbrev Inv-loop : tie.InvT-loop
 Inv-loop claim at netlist ranks drivers stored count values₀ i₀ values i =
     (count ≡ netlist .«node_count») × (i ≤ count) × (length values ≡ 1024) × (drop i values ≡ replicate (1024 - i) false) ×
-    ((s : List ℕ) (ins : List Place) → Ranked s ins netlist ranks → Drivers (netlist .registers) (netlist .«register_count») drivers
+    ((s : List ℕ) (ins : List Place) → Ranked s ins netlist ranks → Drivers netlist drivers
     → nodeValues (decoded s netlist) (rowInputs claim at ins) (take (netlist .«register_count») stored)
     ≡ valuesFrom (decoded s netlist .registers) (rowInputs claim at ins) (take (netlist .«register_count») stored) i (drop i (decoded s netlist .nodes)) (take i values))
 
@@ -38,12 +39,12 @@ loop-again c =
     let n = a .t1 in
     let i = t .i in
     let x = c .node-value .result in
-    let cell = getD (n .registers) (c .before .before .before .before .before .before .before .register-of .result) noCell in
+    let cell = getD (n .registers) (c .before .before .before .before .before .before .before .register-of .result) noRegister in
     let ln : length (n .nodes) ≡ 1024 = simp length-map at (c .before .before .before .before .before .before .before .before .before .before .before .before .before .good .0 .1 .1 .1 .1 .0 .1 .0 .1) in
     let lr : length (n .registers) ≡ 128 = simp length-map at (c .before .before .before .before .before .before .before .before .before .before .before .before .before .good .0 .1 .1 .1 .1 .1 .0 .1 .0 .1) in
     let h : i < n .«node_count» = omega arith in
     let k : i < length (t .values) = omega arith in
-    let q : cell ≡ getD (n .registers) ((getD (a .t3) i 0 + 127) % 128) noCell = ap (λ (j : ℕ). getD (n .registers) j noCell) (c .before .before .before .before .before .before .before .register-of .ensures .1) in
+    let q : cell ≡ getD (n .registers) ((getD (a .t3) i 0 + 127) % 128) noRegister = ap (λ (j : ℕ). getD (n .registers) j noRegister) (c .before .before .before .before .before .before .before .register-of .ensures .1) in
     let e : x ≡ nodeBy (t .values) (getD (n .nodes) i noNode) (claimBit (a .claim .now) (a .at + getD (a .t2) i 0)) (shownBy (t .values) (a .t6) (getD (a .t3) i 0) cell) =
     c .node-value .ensures
     ∙ ap₂ (nodeBy (t .values) (getD (n .nodes) i noNode)) (c .before .before .before .before .before .before .before .before .input-bit .ensures) (c .before .before .shown-by .ensures ∙ ap (λ (j : ℕ). shownBy (t .values) (a .t6) j cell) (c .before .before .before .wide .ensures)) in (

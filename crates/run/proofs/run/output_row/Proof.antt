@@ -2,12 +2,12 @@
 use mathlib.Core.Path.{_≡_, refl, ap, _∙_}
 use mathlib.Core.Bool.{false}
 use mathlib.Core.List.{List, _++_, map}
-use Prim.Native.Nat.{ℕ, _+_, _-_, _≤_, _<_}
+use Prim.Native.Nat.{ℕ, _-_, _≤_, _<_}
 use native.Mathlib.Omega.{arith}
 use lib.ListN.{length, take, drop, getD, replicate, length-set, length-replicate}
 use Rattle.model.specs.Names.{Place}
 use Rattle.model.specs.Run.{bitAt}
-use Rattle.name_order.specs.Places.{noEntry, places}
+use Rattle.struo_ir.specs.Orders.{noEntry, places}
 use Rattle.name_order.specs.PortLaws.{count-places}
 use Rattle.run.specs.RunLaws.{rest-more, padded-row}
 use Rattle.run.specs.RowLaws.{output-more, mapped-done}

@@ -3,7 +3,8 @@ use mathlib.Core.Path.{_≡_, refl, _∙_}
 use Prim.Native.Nat.{ℕ, _-_, _≤_, _<_}
 use native.Mathlib.Omega.{arith}
 use lib.ListN.{length, getD, length-set, length-replicate}
-use Rattle.name_order.specs.Places.{noNode, places}
+use Rattle.struo_ir.specs.Orders.{places}
+use Rattle.struo_ir.specs.Nodes.{noNode}
 use Rattle.run.specs.RunTables.{inputRank}
 use Rattle.run.specs.TableLaws.{filled-more}
 use borrow.Author.Needs.{needs}

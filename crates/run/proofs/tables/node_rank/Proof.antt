@@ -4,7 +4,7 @@ use borrow.Author.Tests.{eq-eqb, ne-eqb}
 use Prim.Native.Nat.{ℕ}
 use Rattle.model.specs.Names.{rank}
 use Rattle.struo_ir.specs.Decoded.{nameAt}
-use Rattle.name_order.specs.Places.{places}
+use Rattle.struo_ir.specs.Orders.{places}
 use Rattle.run.specs.RunTables.{inputRank}
 use borrow.Author.Needs.{needs}
 use Rattle.run.proofs.tables.node_rank.Statement.{statement}

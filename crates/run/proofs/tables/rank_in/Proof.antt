@@ -5,7 +5,7 @@ use native.Mathlib.Omega.{arith}
 use lib.ListN.{getD, drop}
 use Rattle.model.specs.Names.{sameName, rank}
 use Rattle.struo_ir.specs.Decoded.{nameAt}
-use Rattle.name_order.specs.Places.{noEntry, places}
+use Rattle.struo_ir.specs.Orders.{noEntry, places}
 use Rattle.run.specs.TableLaws.{rank-passed, rank-here, rank-none}
 use borrow.Author.Needs.{needs}
 use Rattle.run.proofs.tables.rank_in.Statement.{statement}

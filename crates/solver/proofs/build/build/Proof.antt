@@ -2,7 +2,6 @@
 use mathlib.Core.Path.{_≡_}
 use Prim.Native.Nat.{_-_, _≤_}
 use lib.ListN.{length}
-use Rattle.aig.specs.Made.{heads-all}
 use Rattle.solver.specs.Built.{Built, built}
 use borrow.Author.Needs.{needs}
 use Rattle.solver.proofs.build.build.Statement.{statement}
@@ -14,16 +13,8 @@ Inv-loop words₀ netlist again count₀ i₀ words count i = (i ≤ again) × (
 abbrev μ-loop : tie.MeasureT-loop
 μ-loop words₀ netlist again count₀ i₀ words count i = again - i
 
-from-netlist-requires : tie.Need-from-netlist-requires Inv-loop μ-loop
-from-netlist-requires c κs = (search needs, search needs, heads-all _, search needs, search needs, search needs, search needs)
-
 loop-holds : tie.Need-loop-holds Inv-loop μ-loop
 loop-holds c = (search needs, search needs, built _ _ _ _ _ _ (c .before .before .from-netlist .ensures))
-
-from-netlist-requires-2 : tie.Need-from-netlist-requires-2 Inv-loop μ-loop
-from-netlist-requires-2 c κs =
-    let l = c .before .before .loop .inv .2 in
-    (search needs, search needs, l .heads, search needs, search needs, search needs, search needs)
 
 loop-again : tie.Need-loop-again Inv-loop μ-loop
 loop-again c = (search needs, search needs, built _ _ _ _ _ _ (c .before .before .from-netlist2 .ensures))
@@ -34,4 +25,4 @@ returns c = c .before .loop .inv .2
 pub build-spec : {M : Type 1} → statement M
 build-spec =
     tie.close
-    (tie.spec Inv-loop μ-loop from-netlist-requires loop-holds from-netlist-requires-2 (λ c. search needs) (λ c. search needs) loop-again (λ c. search needs) returns)
+    (tie.spec Inv-loop μ-loop (λ c κs. search needs) loop-holds (λ c κs. search needs) (λ c. search needs) (λ c. search needs) loop-again (λ c. search needs) returns)

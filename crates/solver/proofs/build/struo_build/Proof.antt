@@ -12,7 +12,7 @@ returns-2 : tie.Need-returns-2
 unfolding readOf
 returns-2 c =
     let r = c .before .before .before in
-    read-refused _ _ (r .before .if1 .left) _ _ _ (r .read-record .ensures .0) _ _ (c .enum-told .given .1)
+    read-refused _ _ (r .before .if1 .left) _ _ _ (r .read-record .ensures .0) _ _ _ (c .enum-told .given .1)
 
 returns-3 : tie.Need-returns-3
 unfolding readOf

@@ -5,7 +5,7 @@ use mathlib.Core.List.{List}
 use lib.ListN.{take, drop}
 use Rattle.model.specs.Run.{bitAt, nodeValues}
 use Rattle.struo_ir.specs.Decoded.{decoded}
-use Rattle.name_order.specs.Places.{places}
+use Rattle.struo_ir.specs.Orders.{places}
 use Rattle.run.specs.RunTables.{rowInputs, padded}
 use Rattle.run.specs.RunLaws.{Alike}
 use Rattle.steps.specs.StepLaws.{alike-padded, nextStored-alike, outputBits-alike}

@@ -2,7 +2,7 @@
 use Prim.Native.Nat.{_-_}
 use native.Mathlib.Omega.{arith}
 use Rattle.fields.specs.FieldLaws.{known}
-use Rattle.struo_ir.specs.Nodes.{nodeStep, noNode, NodesSoFar}
+use Rattle.struo_ir.specs.Nodes.{nodeStep, NodesSoFar}
 use Rattle.struo_ir.specs.NodesLaws.{nodes-start, nodes-more, nodes-refused, nodes-done}
 use borrow.Author.Needs.{needs}
 use Rattle.struo_ir.proofs.nodes.read_nodes.Statement.{statement}
@@ -15,7 +15,6 @@ abbrev μ-loop : tie.MeasureT-loop
 μ-loop bytes count at nodes₀ inputs₀ outputs₀ next₀ i₀ nodes inputs outputs next i = count - i
 
 loop-holds : tie.Need-loop-holds Inv-loop μ-loop
-unfolding noNode
 loop-holds c = let a = c .before .args in nodes-start (a .bytes .now) (a .count) (a .at)
 
 returns : tie.Need-returns Inv-loop μ-loop

@@ -2,7 +2,7 @@
 use Prim.Native.Nat.{_-_}
 use native.Mathlib.Omega.{arith}
 use Rattle.fields.specs.FieldLaws.{known}
-use Rattle.struo_ir.specs.Registers.{registerStep, noRegister, RegistersSoFar}
+use Rattle.struo_ir.specs.Registers.{registerStep, RegistersSoFar}
 use Rattle.struo_ir.specs.RegistersLaws.{registers-start, registers-more, registers-refused, registers-done}
 use borrow.Author.Needs.{needs}
 use Rattle.struo_ir.proofs.registers.read_registers.Statement.{statement}
@@ -15,7 +15,6 @@ abbrev μ-loop : tie.MeasureT-loop
 μ-loop bytes count at registers₀ next₀ i₀ registers next i = count - i
 
 loop-holds : tie.Need-loop-holds Inv-loop μ-loop
-unfolding noRegister
 loop-holds c = let a = c .before .args in registers-start (a .bytes .now) (a .count) (a .at)
 
 returns : tie.Need-returns Inv-loop μ-loop

@@ -3,6 +3,7 @@ use mathlib.Core.Path.{_≡_, refl}
 use Prim.Native.Nat.{_-_, _≤_}
 use native.Mathlib.Omega.{arith}
 use lib.ListN.{length}
+use Rattle.words.specs.Layout.{NETS}
 use Rattle.words.specs.Region.{region}
 use Rattle.model.specs.Transition.{netLiteral}
 use Rattle.transition.specs.Gather.{Gathered, byNumber, gathered-none, gathered-more}
@@ -13,7 +14,7 @@ use Rattle.transition.proofs.gather.port_literals.Tie as tie
 -- the first i literals are read
 abbrev Inv-loop : tie.InvT-loop
 Inv-loop words order count literals₀ i₀ literals i =
-    (count ≡ order .count) × (i ≤ count) × (length literals ≡ 128) × Gathered (byNumber (netLiteral (region 589824 words))) (order .entries) i literals
+    (count ≡ order .count) × (i ≤ count) × (length literals ≡ 128) × Gathered (byNumber (netLiteral (region NETS words))) (order .entries) i literals
 
 abbrev μ-loop : tie.MeasureT-loop
 μ-loop words order count literals₀ i₀ literals i = count - i

@@ -4,7 +4,7 @@ use Prim.Native.Nat.{_-_, _≤_, _<_}
 use native.Mathlib.Omega.{arith}
 use lib.ListN.{drop}
 use Rattle.struo_ir.specs.Decoded.{nameAt}
-use Rattle.name_order.specs.Places.{held}
+use Rattle.struo_ir.specs.Orders.{held}
 use Rattle.name_order.specs.PlaceLaws.{length-held}
 use Rattle.transition.specs.Match.{firstFrom, named, matchAt, match-test, first-here, first-later, first-none}
 use borrow.Author.Needs.{needs}

@@ -3,7 +3,7 @@ use mathlib.Core.Path.{_≡_, refl}
 use Prim.Native.Nat.{_-_, _≤_}
 use native.Mathlib.Omega.{arith}
 use lib.ListN.{length}
-use Rattle.name_order.specs.declared.order.Entry.{Entry}
+use Rattle.struo_ir.specs.declared.design.Entry.{Entry}
 use Rattle.transition.specs.Gather.{Gathered, gathered-none, gathered-more}
 use Rattle.transition.specs.Match.{matchAt, matches-made}
 use borrow.Author.Needs.{needs}
@@ -12,11 +12,11 @@ use Rattle.transition.proofs.matches.matches.Tie as tie
 
 -- the first i matches are found
 abbrev Inv-loop : tie.InvT-loop
-Inv-loop gold gate b a count found₀ i₀ found i =
-    (count ≡ a .count) × (i ≤ count) × (length found ≡ 128) × Gathered (λ (e : Entry). matchAt gold (e .name) gate b) (a .entries) i found
+Inv-loop gold gate registers others count found₀ i₀ found i =
+    (count ≡ registers .count) × (i ≤ count) × (length found ≡ 128) × Gathered (λ (e : Entry). matchAt gold (e .name) gate others) (registers .entries) i found
 
 abbrev μ-loop : tie.MeasureT-loop
-μ-loop gold gate b a count found₀ i₀ found i = count - i
+μ-loop gold gate registers others count found₀ i₀ found i = count - i
 
 loop-holds : tie.Need-loop-holds Inv-loop μ-loop
 loop-holds c = (refl, omega arith, refl, gathered-none _ _ _)
@@ -25,7 +25,7 @@ loop-again : tie.Need-loop-again Inv-loop μ-loop
 loop-again c =
     let t = c .before .before in
     let l = t .before .loop in
-    let a = t .before .before .before .before in (
+    let a = t .before .before .before .before .before .before in (
       refl,
       omega (arith, t .loop-test .taken),
       search needs,
@@ -35,8 +35,8 @@ loop-again c =
 returns : tie.Need-returns Inv-loop μ-loop
 returns c =
     let l = c .before .loop in
-    let a = c .before .before .before .before in
-    let e : l .i ≡ a .args .t2 .count = omega (arith, l .inv .0, l .inv .1, c .loop-test .left) in
+    let a = c .before .before .before .before .before .before in
+    let e : l .i ≡ a .args .«gold-design» .registers .count = omega (arith, l .inv .0, l .inv .1, c .loop-test .left) in
     matches-made _ _ _ _ _ (a .pre .0) (a .pre .1) (rw e at (l .inv .3))
 
 pub matches-spec : {M : Type 1} → statement M

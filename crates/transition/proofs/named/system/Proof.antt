@@ -13,8 +13,8 @@ returns c =
     let d = o .before .before in
     let i = d .before in
     let f = i .before .before .before .before in
-    let a = f .before .before .before in
-    system-made (a .args .netlist) (a .args .inputs) (a .args .outputs) (a .args .registers) (a .args .base) (a .args .used) _ _ _ _ _ (i .port-literals .result) _ (a .pre) (f .from-netlist .ensures) refl (c .wide .ensures) refl refl refl
+    let a = f .before .before .before .before .before .before .before in
+    system-made (a .args .design) (a .args .base) _ _ _ _ _ (i .port-literals .result) _ (a .pre) (f .from-netlist .ensures) refl (c .wide .ensures) refl refl refl
     (i .port-literals .ensures) (d .nodes-of .ensures) (o .port-literals2 .ensures) (x .gather .ensures) (v .gather2 .ensures)
 
 pub system-spec : {M : Type 1} → statement M

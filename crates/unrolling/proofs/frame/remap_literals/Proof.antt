@@ -3,6 +3,7 @@ use mathlib.Core.Path.{_≡_, refl}
 use Prim.Native.Nat.{_-_, _≤_}
 use native.Mathlib.Omega.{arith}
 use lib.ListN.{length, length-set}
+use Rattle.words.specs.Layout.{IMPORTED}
 use Rattle.words.specs.Region.{region}
 use Rattle.model.specs.Equivalence.{remapLiteral}
 use Rattle.lowering.specs.Firsts.{Mapped, mapped-none, mapped-more}
@@ -12,7 +13,7 @@ use Rattle.unrolling.proofs.frame.remap_literals.Tie as tie
 
 abbrev Inv-loop : tie.InvT-loop
 Inv-loop words literals n mapped₀ i₀ mapped i =
-    (i ≤ n) × (length mapped ≡ 128) × Mapped (remapLiteral (region 458752 words)) i literals mapped
+    (i ≤ n) × (length mapped ≡ 128) × Mapped (remapLiteral (region IMPORTED words)) i literals mapped
 
 abbrev μ-loop : tie.MeasureT-loop
 μ-loop words literals n mapped₀ i₀ mapped i = n - i

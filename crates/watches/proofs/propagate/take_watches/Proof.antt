@@ -3,6 +3,7 @@ use Prim.Native.Nat.{ℕ, _*_, _<_, _≤_}
 use mathlib.Core.Path.{_≡_, ap, _∙_}
 use native.Mathlib.Omega.{arith}
 use lib.ListN.{getD}
+use Rattle.words.specs.Layout.{WATCH-HEADS, WATCH-COUNTS}
 use Rattle.words.specs.Region.{region, stored}
 use Rattle.watches.specs.PropagateLaws.{take-none, take-some}
 use borrow.Author.Needs.{needs}
@@ -25,8 +26,8 @@ returns-2 c =
     let s = l .before .before in
     let a = s .args in
     let h : a .f < a .t .variables * 2 = omega (arith, i .if1 .left, l .wide .ensures) in
-    let e : k .stash .last .0 ≡ stored 1966080 (a .words .now) (a .f) 0 = k .stash .ensures .0 ∙ ap (λ (x : ℕ). stored 1966080 (a .words .now) x 0) (l .wide .ensures) in
-    take-some (a .store) (a .t) (a .words .now) (a .f) (s .pre) h _ e _ (n .before .before .before .fetch .ensures ∙ ap (λ (x : ℕ). getD (region 1703936 (a .words .now)) x 0) (l .wide .ensures)) (n .wide2 .ensures ∙ n .before .fetch2 .ensures ∙ ap (λ (x : ℕ). getD (region 1966080 (a .words .now)) x 0) (l .wide .ensures))
+    let e : k .stash .last .0 ≡ stored WATCH-COUNTS (a .words .now) (a .f) 0 = k .stash .ensures .0 ∙ ap (λ (x : ℕ). stored WATCH-COUNTS (a .words .now) x 0) (l .wide .ensures) in
+    take-some (a .store) (a .t) (a .words .now) (a .f) (s .pre) h _ e _ (n .before .before .before .fetch .ensures ∙ ap (λ (x : ℕ). getD (region WATCH-HEADS (a .words .now)) x 0) (l .wide .ensures)) (n .wide2 .ensures ∙ n .before .fetch2 .ensures ∙ ap (λ (x : ℕ). getD (region WATCH-COUNTS (a .words .now)) x 0) (l .wide .ensures))
 
 pub take-watches-spec : {M : Type 1} → statement M
 take-watches-spec =

@@ -3,6 +3,7 @@ use mathlib.Core.Path.{_≡_, ap, _∙_}
 use native.Mathlib.Omega.{arith}
 use Prim.Native.Nat.{ℕ, _+_}
 use lib.ListN.{getD}
+use Rattle.words.specs.Layout.{CLAUSE-STARTS}
 use Rattle.words.specs.Region.{region}
 use Rattle.clauses.specs.Clauses.{clauseAt, half}
 use Rattle.clauses.specs.State.{clauseOf}
@@ -18,7 +19,7 @@ visit-other-requires c κs =
     let s = k .before .before .before .before .before in
     let a = s .args in
     let e : clauseOf (k .clause .result) (a .words .now) ≡ clauseAt (a .words .now) (half (a .d .cell)) = k .clause .ensures .0 ∙ ap (λ (i : ℕ). clauseAt (a .words .now) i) (k .before .wide .ensures) in
-    let g : k .clause .result .end ≡ getD (region 2097152 (a .words .now)) (half (a .d .cell) + 1) 0 = k .clause .ensures .1 ∙ ap (λ (i : ℕ). getD (region 2097152 (a .words .now)) (i + 1) 0) (k .before .wide .ensures) in (
+    let g : k .clause .result .end ≡ getD (region CLAUSE-STARTS (a .words .now)) (half (a .d .cell) + 1) 0 = k .clause .ensures .1 ∙ ap (λ (i : ℕ). getD (region CLAUSE-STARTS (a .words .now)) (i + 1) 0) (k .before .wide .ensures) in (
       (s .pre, e, omega arith, literal-fits (a .store) (a .t) (a .words .now) (a .d) (s .pre) (a .f) (k .clause .result) e _ _ (l .literal-at2 .ensures), end-fits (a .store) (a .t) (a .words .now) (a .d) (s .pre) (a .f) (k .clause .result) e g),
       other-of-first (a .store) (a .t) (a .words .now) (a .d) (s .pre) (a .f) (k .clause .result) e _ _ (l .before .before .literal-at .ensures) (l .literal-at2 .ensures),
     )
@@ -40,7 +41,7 @@ visit-other-requires-2 c κs =
     let s = k .before .before .before .before .before in
     let a = s .args in
     let e : clauseOf (k .clause .result) (a .words .now) ≡ clauseAt (a .words .now) (half (a .d .cell)) = k .clause .ensures .0 ∙ ap (λ (i : ℕ). clauseAt (a .words .now) i) (k .before .wide .ensures) in
-    let g : k .clause .result .end ≡ getD (region 2097152 (a .words .now)) (half (a .d .cell) + 1) 0 = k .clause .ensures .1 ∙ ap (λ (i : ℕ). getD (region 2097152 (a .words .now)) (i + 1) 0) (k .before .wide .ensures) in (
+    let g : k .clause .result .end ≡ getD (region CLAUSE-STARTS (a .words .now)) (half (a .d .cell) + 1) 0 = k .clause .ensures .1 ∙ ap (λ (i : ℕ). getD (region CLAUSE-STARTS (a .words .now)) (i + 1) 0) (k .before .wide .ensures) in (
       (s .pre, e, omega arith, literal-fits (a .store) (a .t) (a .words .now) (a .d) (s .pre) (a .f) (k .clause .result) e _ _ (l .before .before .literal-at .ensures), end-fits (a .store) (a .t) (a .words .now) (a .d) (s .pre) (a .f) (k .clause .result) e g),
       other-of-second (a .store) (a .t) (a .words .now) (a .d) (s .pre) (a .f) (k .clause .result) e _ _ (l .before .before .literal-at .ensures) (l .literal-at2 .ensures),
     )

@@ -1,0 +1,79 @@
+// What the calls answer, as C has it.
+ghost use mathlib.Core.Path.{_≡_};
+ghost use Rattle.model.specs.Answers.{acceptedAnswer};
+ghost use Rattle.model.specs.Check.{refusedCheck, checkAnswer};
+ghost use Rattle.model.specs.Replay.{refusedReplay};
+ghost use Rattle.calls.specs.Answers.{replayOf, checkOf};
+ghost use Rattle.calls.specs.Faults.{refusal};
+
+// What a read answers: 0 or the refusal's number, the side, which is 0, and the place.
+#[repr(C)]
+pub struct ReadAnswer {
+    pub number: u32,
+    pub side: u32,
+    pub place: u32,
+}
+
+// What a replay answers: 0 or the refusal's number, the side and the place; and yes or no, which is no where it is refused.
+#[repr(C)]
+pub struct ReplayAnswer {
+    pub number: u32,
+    pub side: u32,
+    pub place: u32,
+    pub yes: bool,
+}
+
+// What a check answers: 0 or the refusal's number, the side and the place; of an accepted check the status (0 Equivalent, 1 NotEquivalent,
+// 2 Inconclusive, 3 GaveUp), the depth, for NotEquivalent the first mismatching cycle and for GaveUp the query. Unused numbers are 0.
+#[repr(C)]
+pub struct CheckAnswer {
+    pub number: u32,
+    pub side: u32,
+    pub place: u32,
+    pub status: u32,
+    pub depth: u32,
+    pub mismatch: u32,
+    pub query: u32,
+}
+
+// A refused replay.
+pub fn refused_replay(number: u32, side: u32, place: u32) -> ReplayAnswer
+    ensures { λ r. ⌜ replayOf r ≡ refusedReplay (refusal number side place) ⌝ }
+{
+    ReplayAnswer {
+        number,
+        side,
+        place,
+        yes: false,
+    }
+}
+
+// A refused check.
+pub fn refused_check(number: u32, side: u32, place: u32) -> CheckAnswer
+    ensures { λ r. ⌜ checkOf r ≡ checkAnswer (refusedCheck (refusal number side place)) ⌝ }
+{
+    CheckAnswer {
+        number,
+        side,
+        place,
+        status: 0,
+        depth: 0,
+        mismatch: 0,
+        query: 0,
+    }
+}
+
+// An accepted check.
+pub fn accepted_check(status: u32, depth: u32, mismatch: u32, query: u32) -> CheckAnswer
+    ensures { λ r. ⌜ checkOf r ≡ acceptedAnswer status depth mismatch query ⌝ }
+{
+    CheckAnswer {
+        number: 0,
+        side: 0,
+        place: 0,
+        status,
+        depth,
+        mismatch,
+        query,
+    }
+}

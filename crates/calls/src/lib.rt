@@ -1,0 +1,4 @@
+// What the calls take and answer: options, faults, and the answers as C has them. One home for each, from the reader to the public library.
+pub mod answers;
+pub mod fault;
+pub mod options;

@@ -1,0 +1,2 @@
+pub mod Drivers
+pub mod DriverLaws

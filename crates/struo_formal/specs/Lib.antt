@@ -1,3 +1,0 @@
-pub mod CheckAnswers
-pub mod ReadAnswers
-pub mod ReplayAnswers
