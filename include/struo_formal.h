@@ -1,5 +1,6 @@
 /* The calls of libstruo_formal.a. Nothing is demanded of the caller beyond what the types say: any bytes, any lengths.
-   A pointer points to as many elements as its length says, and is not null, even where the length is 0. */
+   A pointer points to as many elements as its length says, and is not null, even where the length is 0. docs/SPECIFICATION.md says what each call
+   answers, and lists the refusals. */
 #ifndef STRUO_FORMAL_H
 #define STRUO_FORMAL_H
 
@@ -11,7 +12,67 @@
 extern "C" {
 #endif
 
-/* number: 0 for an accepted record, else the refusal's number, 1 to 15, as document 01 lists them.
+/* The statuses of an accepted check. */
+enum struo_status {
+    STRUO_EQUIVALENT = 0,
+    STRUO_NOT_EQUIVALENT = 1,
+    STRUO_INCONCLUSIVE = 2,
+    STRUO_GAVE_UP = 3
+};
+
+/* The numbers of the refusals, in checking order; 0 is an accepted call. */
+enum struo_refusal {
+    STRUO_ACCEPTED = 0,
+    STRUO_REFUSAL_LENGTH = 1,
+    STRUO_REFUSAL_VERSION = 2,
+    STRUO_REFUSAL_CUT = 3,
+    STRUO_REFUSAL_CODE = 4,
+    STRUO_REFUSAL_NAME = 5,
+    STRUO_REFUSAL_COUNT = 6,
+    STRUO_REFUSAL_UNDEFINED_NET = 7,
+    STRUO_REFUSAL_DUPLICATE_PORT_NAME = 8,
+    STRUO_REFUSAL_DUPLICATE_REGISTER_NAME = 9,
+    STRUO_REFUSAL_INVALID_REGISTER_OUTPUT = 10,
+    STRUO_REFUSAL_MULTIPLE_DRIVERS = 11,
+    STRUO_REFUSAL_REGISTER_NET = 12,
+    STRUO_REFUSAL_UNCONNECTED_REGISTER = 13,
+    STRUO_REFUSAL_UNSUPPORTED_ASYNC_RESET = 14,
+    STRUO_REFUSAL_UNSUPPORTED_CLOCK = 15,
+    STRUO_REFUSAL_ZERO_DEPTH = 16,
+    STRUO_REFUSAL_DEPTH_LIMIT = 17,
+    STRUO_REFUSAL_INPUT_INTERFACE = 18,
+    STRUO_REFUSAL_OUTPUT_INTERFACE = 19,
+    STRUO_REFUSAL_MULTIPLE_CLOCK_DOMAINS = 20,
+    STRUO_REFUSAL_CLOCK_DOMAIN = 21,
+    STRUO_REFUSAL_UNKNOWN_INITIAL_STATE = 22,
+    STRUO_REFUSAL_TOO_LARGE = 23,
+    STRUO_REFUSAL_MEMORY = 24,
+    STRUO_REFUSAL_CLAIM = 25
+};
+
+/* The two sides of a pair. */
+#define STRUO_GOLD 0
+#define STRUO_GATE 1
+
+/* The work memory that a check needs: this many words of 32 bits (32 MiB), and this many doubles (512 KiB). */
+#define STRUO_WORDS_LENGTH 8388608
+#define STRUO_SCORES_LENGTH 65536
+
+/* The largest depth of a check and the last cycle that a claim can name. */
+#define STRUO_DEPTH_LIMIT 64
+
+/* How long a trace is: for cycles 0 to `cycle`, of a design with so many inputs and outputs. A check to depth D needs STRUO_TRACE_LENGTH(D, I, O) bytes
+   and writes STRUO_TRACE_LENGTH(mismatch, I, O) of them; a replay takes exactly STRUO_TRACE_LENGTH(cycle, I, O). STRUO_TRACE_LENGTH_MAX is enough for
+   every pair. */
+#define STRUO_TRACE_LENGTH(cycle, inputs, outputs) (((size_t)(cycle) + 1) * (size_t)(inputs) + (size_t)(outputs))
+#define STRUO_TRACE_LENGTH_MAX 4224
+
+/* How much of the stack each call takes at most, in bytes. No memory is allocated. */
+#define STRUO_READ_STACK 71000
+#define STRUO_CHECK_STACK 138000
+#define STRUO_REPLAY_STACK 145000
+
+/* number: STRUO_ACCEPTED for an accepted record, else the refusal's number, 1 to 15.
    side: 0. place: a byte offset for 3 to 6, a node number for 7, 8, 13 and 14, a register number for 9 to 12 and 15, else 0. */
 struct struo_read_answer {
     uint32_t number;
@@ -31,17 +92,17 @@ struct struo_replay_answer {
     bool yes;
 };
 
-/* Replays a claimed trace: for each cycle from 0 to the claimed one a byte, 0 or 1, for each input in byte order of names, then a byte for
-   each output, 1 where it differs. Yes exactly when the outputs agree in every earlier cycle, and in that cycle differ in exactly the marked
-   outputs, at least one. Nothing is written. */
+/* Replays a claimed trace of STRUO_TRACE_LENGTH(cycle, I, O) bytes: for each cycle from 0 to the claimed one a byte, 0 or 1, for each input in byte order
+   of names, then a byte for each output, 1 where it differs. Yes exactly when the outputs agree in every earlier cycle, and in that cycle differ in
+   exactly the marked outputs, at least one. Nothing is written. */
 struct struo_replay_answer struo_replay(const uint8_t *gold, size_t gold_length, const uint8_t *gate, size_t gate_length,
                                         uint64_t cycle, const uint8_t *claim, size_t claim_length);
 
 /* What a check answers. number, side and place: 0, or a refusal of 1 to 24; side: 0 gold, 1 gate, and 0 where neither record alone is at fault;
    place as above. The other numbers are 0 where the check is refused.
-   status: 0 Equivalent, 1 NotEquivalent, 2 Inconclusive, 3 GaveUp. depth: the depth at which the verdict fell; for 2 the depth asked for; for 3 the
-   depth of the query that gave up. mismatch: for 1 the first cycle in which outputs differ, else 0. query: for 3 the number of the query that
-   gave up, 1 to 4, else 0. */
+   status: an enum struo_status. depth: the depth at which the verdict fell; for STRUO_INCONCLUSIVE the depth asked for; for STRUO_GAVE_UP the depth of the
+   query that gave up. mismatch: for STRUO_NOT_EQUIVALENT the first cycle in which outputs differ, else 0. query: for STRUO_GAVE_UP the number of the query
+   that gave up, 1 to 4, else 0. */
 struct struo_check_answer {
     uint32_t number;
     uint32_t side;
@@ -56,20 +117,21 @@ struct struo_check_answer {
 
    Equivalent: the outputs, compared by name, agree in every cycle of every input sequence. NotEquivalent: they differ in some cycle that is at
    most `depth`, and the trace shows how. Inconclusive: neither was found up to `depth`. GaveUp: a query's next learned clause would bring its
-   learned literals above 262,144.
+   learned literals above 262,144. Neither of the last two is a pass.
 
    Refusals in checking order. Gold's record is read wholly (1 to 15, as struo_read), then gate's, with side 1; then:
      16 depth is 0; 17 depth is over 64; 18 the sets of input names differ; 19 the sets of output names differ;
      20 the registers of one side, gold first, have two clock names or edges (side: that side); 21 clock name or edge differ between the sides, or
      only one side has registers; 22 a register has no reset, gold by name, then gate (side: that side; place: the register's number);
      23 (depth + 1) * F + R is over 65,535, where F = I + 3 * N + 10 * R + 4 * O + 1, I and O count one side's inputs and outputs, N and R the nodes
-     and registers of both sides; 24 trace_length is under (depth + 1) * I + O, words_length under 8,388,608, or scores_length under 65,536.
+     and registers of both sides; 24 trace_length is under STRUO_TRACE_LENGTH(depth, I, O), words_length under STRUO_WORDS_LENGTH, or scores_length under
+     STRUO_SCORES_LENGTH.
    A refused check changes nothing that is lent.
 
    An accepted check leaves all of words and scores zero, over their whole length; what they held before never matters. For NotEquivalent the
    trace begins with a byte, 0 or 1, for each input in byte order of names, for each cycle from 0 to the mismatch, then a byte for each output in byte
-   order of names, 1 where it differs in that cycle; these (mismatch + 1) * I + O bytes are a claim to which struo_replay answers yes. All other bytes of
-   the trace stay, and all of them for the other statuses. The three buffers must not overlap each other or the records, as Rust's &mut says. */
+   order of names, 1 where it differs in that cycle; these STRUO_TRACE_LENGTH(mismatch, I, O) bytes are a claim to which struo_replay answers yes. All other
+   bytes of the trace stay, and all of them for the other statuses. The three buffers must not overlap each other or the records, as Rust's &mut says. */
 struct struo_check_answer struo_check(const uint8_t *gold, size_t gold_length, const uint8_t *gate, size_t gate_length, uint64_t depth,
                                       uint8_t *trace, size_t trace_length, uint32_t *words, size_t words_length,
                                       double *scores, size_t scores_length);

@@ -1,15 +1,16 @@
-/* Links the static library and calls it as a C program would. */
+/* Links the static library and calls it as a C program would, each call also on a stack of the size that the header states. */
+#include <pthread.h>
 #include <stdio.h>
 
 #include "struo_formal.h"
 
-/* The wire of document 01: input a, output y = a. */
+/* The wire: input a, output y = a. */
 static const uint8_t wire[19] = {0x01, 0x00, 0x00, 0x00, 0x13, 0x01, 0x67, 0x00, 0x02, 0x00,
                                  0x01, 0x61, 0x11, 0x01, 0x79, 0x00, 0x00, 0x00, 0x00};
 
 static int failed = 0;
 
-/* One read against what document 01 says of it. */
+/* One read against what the specification says of it. */
 static void reads(const char *what, const uint8_t *record, size_t length, uint32_t number, uint32_t place) {
     struct struo_read_answer answer = struo_read(record, length);
     if (answer.number != number || answer.side != 0 || answer.place != place) {
@@ -33,21 +34,21 @@ static void replays(uint8_t input, uint8_t mark, bool yes) {
 }
 
 /* The memory of a check, and what it holds before each. */
-static uint32_t words[8388608];
-static double scores[65536];
+static uint32_t words[STRUO_WORDS_LENGTH];
+static double scores[STRUO_SCORES_LENGTH];
 static uint8_t trace[80];
 
 /* Fills the memory. */
 static void hold(void) {
-    for (size_t i = 0; i < 8388608; i++) words[i] = 7;
-    for (size_t i = 0; i < 65536; i++) scores[i] = 7;
+    for (size_t i = 0; i < STRUO_WORDS_LENGTH; i++) words[i] = 7;
+    for (size_t i = 0; i < STRUO_SCORES_LENGTH; i++) scores[i] = 7;
     for (size_t i = 0; i < sizeof trace; i++) trace[i] = 7;
 }
 
 /* Whether all words and scores are this number, and the trace begins with so many written bytes, 0 and 1 by turns. */
 static bool holds(uint32_t number, size_t written) {
-    for (size_t i = 0; i < 8388608; i++) if (words[i] != number) return false;
-    for (size_t i = 0; i < 65536; i++) if (scores[i] != number) return false;
+    for (size_t i = 0; i < STRUO_WORDS_LENGTH; i++) if (words[i] != number) return false;
+    for (size_t i = 0; i < STRUO_SCORES_LENGTH; i++) if (scores[i] != number) return false;
     for (size_t i = 0; i < sizeof trace; i++) if (trace[i] != (i < written ? i % 2 : 7)) return false;
     return true;
 }
@@ -55,7 +56,7 @@ static bool holds(uint32_t number, size_t written) {
 /* One check of the wire against a record, with so many words lent. */
 static void checks(const char *what, const uint8_t *gate, size_t gate_length, uint64_t depth, size_t words_length, struct struo_check_answer expected, size_t written) {
     hold();
-    struct struo_check_answer answer = struo_check(wire, sizeof wire, gate, gate_length, depth, trace, sizeof trace, words, words_length, scores, 65536);
+    struct struo_check_answer answer = struo_check(wire, sizeof wire, gate, gate_length, depth, trace, sizeof trace, words, words_length, scores, STRUO_SCORES_LENGTH);
     bool same = answer.number == expected.number && answer.side == expected.side && answer.place == expected.place && answer.status == expected.status
         && answer.depth == expected.depth && answer.mismatch == expected.mismatch && answer.query == expected.query;
     if (!same || !holds(answer.number == 0 ? 0 : 7, written)) {
@@ -63,6 +64,35 @@ static void checks(const char *what, const uint8_t *gate, size_t gate_length, ui
                answer.depth, answer.mismatch, answer.query);
         failed = 1;
     }
+}
+
+/* The calls for a thread of its own. */
+static void *reading(void *none) {
+    reads("wire on a small stack", wire, sizeof wire, STRUO_ACCEPTED, 0);
+    return none;
+}
+
+static void *replaying(void *none) {
+    replays(0, 1, true);
+    return none;
+}
+
+static void *checking(void *none) {
+    checks("wire on a small stack", wire, sizeof wire, 64, STRUO_WORDS_LENGTH, (struct struo_check_answer){.status = STRUO_EQUIVALENT, .depth = 1}, 0);
+    return none;
+}
+
+/* A call on a stack of its stated size, beside what the thread itself takes. */
+static void on_stack(void *(*call)(void *), size_t size) {
+    pthread_attr_t attributes;
+    pthread_t thread;
+    size_t pages = (size + 8 * 1024 + 4095) / 4096;
+    if (pthread_attr_init(&attributes) || pthread_attr_setstacksize(&attributes, pages * 4096) || pthread_create(&thread, &attributes, call, NULL)) {
+        printf("boundary: no thread with a stack of %zu bytes\n", size);
+        failed = 1;
+        return;
+    }
+    pthread_join(thread, NULL);
 }
 
 int main(void) {
@@ -81,15 +111,18 @@ int main(void) {
     replays(0, 1, true);
     replays(0, 0, false);
     struct struo_replay_answer late = struo_replay(wire, sizeof wire, inverter, sizeof inverter, 65, wire, 0);
-    if (late.number != 25 || late.yes) {
+    if (late.number != STRUO_REFUSAL_CLAIM || late.yes) {
         printf("boundary: a claim of cycle 65 is not refused with 25\n");
         failed = 1;
     }
-    checks("wire against inverter", inverter, sizeof inverter, 1, 8388608, (struct struo_check_answer){.status = 1, .depth = 1}, 2);
-    checks("wire against itself", wire, sizeof wire, 64, 8388608, (struct struo_check_answer){.status = 0, .depth = 1}, 0);
-    checks("depth 0", wire, sizeof wire, 0, 8388608, (struct struo_check_answer){.number = 16}, 0);
-    checks("a cut gate", inverter, 5, 1, 8388608, (struct struo_check_answer){.number = 1, .side = 1}, 0);
-    checks("a word short", inverter, sizeof inverter, 1, 8388607, (struct struo_check_answer){.number = 24}, 0);
-    if (!failed) printf("boundary: the C calls answer as document 01 says\n");
+    checks("wire against inverter", inverter, sizeof inverter, 1, STRUO_WORDS_LENGTH, (struct struo_check_answer){.status = STRUO_NOT_EQUIVALENT, .depth = 1}, STRUO_TRACE_LENGTH(0, 1, 1));
+    checks("wire against itself", wire, sizeof wire, 64, STRUO_WORDS_LENGTH, (struct struo_check_answer){.status = STRUO_EQUIVALENT, .depth = 1}, 0);
+    checks("depth 0", wire, sizeof wire, 0, STRUO_WORDS_LENGTH, (struct struo_check_answer){.number = STRUO_REFUSAL_ZERO_DEPTH}, 0);
+    checks("a cut gate", inverter, 5, 1, STRUO_WORDS_LENGTH, (struct struo_check_answer){.number = STRUO_REFUSAL_LENGTH, .side = STRUO_GATE}, 0);
+    checks("a word short", inverter, sizeof inverter, 1, STRUO_WORDS_LENGTH - 1, (struct struo_check_answer){.number = STRUO_REFUSAL_MEMORY}, 0);
+    on_stack(reading, STRUO_READ_STACK);
+    on_stack(replaying, STRUO_REPLAY_STACK);
+    on_stack(checking, STRUO_CHECK_STACK);
+    if (!failed) printf("boundary: the C calls answer as specified\n");
     return failed;
 }

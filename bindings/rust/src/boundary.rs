@@ -1,35 +1,91 @@
 //! The C boundary of the library, as include/struo_formal.h declares it.
+use crate::refusal::Refused;
+use crate::status::Status;
 
-/// What a read answers: 0 or the refusal's number, the side, which is 0, and the place.
+/// What a read answers.
 #[repr(C)]
 #[derive(Clone, Copy, Debug, Default, Eq, PartialEq)]
 pub struct ReadAnswer {
+    /// 0 for an accepted record, else the refusal's number, 1 to 15.
     pub number: u32,
+    /// 0.
     pub side: u32,
+    /// A byte offset for 3 to 6, a node number for 7, 8, 13 and 14, a register number for 9 to 12 and 15, else 0.
     pub place: u32,
 }
 
-/// What a replay answers; `yes` is false where it is refused.
+impl ReadAnswer {
+    /// Accepted, or the refusal.
+    ///
+    /// # Errors
+    ///
+    /// The refusal, where the record is refused.
+    pub fn result(self) -> Result<(), Refused> {
+        Refused::of(self.number, self.side, self.place).map_or(Ok(()), Err)
+    }
+}
+
+/// What a replay answers.
 #[repr(C)]
 #[derive(Clone, Copy, Debug, Default, Eq, PartialEq)]
 pub struct ReplayAnswer {
+    /// 0 for an accepted replay, else the refusal's number, 1 to 15, 18 to 22 or 25.
     pub number: u32,
+    /// 0 gold, 1 gate, and 0 where neither record alone is at fault.
     pub side: u32,
+    /// As for a read, and for 22 a register number.
     pub place: u32,
+    /// Whether the claim shows a difference; false where the replay is refused.
     pub yes: bool,
+}
+
+impl ReplayAnswer {
+    /// Yes or no, or the refusal.
+    ///
+    /// # Errors
+    ///
+    /// The refusal, where the replay is refused.
+    pub fn result(self) -> Result<bool, Refused> {
+        Refused::of(self.number, self.side, self.place).map_or(Ok(self.yes), Err)
+    }
 }
 
 /// What a check answers; unused numbers are 0.
 #[repr(C)]
 #[derive(Clone, Copy, Debug, Default, Eq, PartialEq)]
 pub struct CheckAnswer {
+    /// 0 for an accepted check, else the refusal's number, 1 to 24.
     pub number: u32,
+    /// 0 gold, 1 gate, and 0 where neither record alone is at fault.
     pub side: u32,
+    /// As for a replay.
     pub place: u32,
+    /// The number of a `Status`.
     pub status: u32,
+    /// The depth at which the verdict fell; for Inconclusive the depth asked for, for GaveUp that of the query that gave up.
     pub depth: u32,
+    /// For NotEquivalent the first cycle in which outputs differ.
     pub mismatch: u32,
+    /// For GaveUp the number of the query that gave up, 1 to 4.
     pub query: u32,
+}
+
+impl CheckAnswer {
+    /// The status, or the refusal.
+    ///
+    /// # Errors
+    ///
+    /// The refusal, where the check is refused.
+    ///
+    /// # Panics
+    ///
+    /// Never: the library answers one of the four statuses.
+    pub fn result(self) -> Result<Status, Refused> {
+        match Refused::of(self.number, self.side, self.place) {
+            Some(refused) => Err(refused),
+            None => Ok(Status::from_number(self.status).expect("an accepted check has a status")),
+        }
+    }
 }
 
 extern "C" {

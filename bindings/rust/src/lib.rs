@@ -1,21 +1,55 @@
-//! Safe calls of libstruo_formal.a. Nothing is demanded of any argument, so that nothing is tested here: every length is answered by the library,
-//! with a numbered refusal where it does not fit. The numbers are those of include/struo_formal.h.
+//! Safe calls of libstruo_formal.a, the proved sequential equivalence checker. Nothing is demanded of any argument, so that nothing is tested here: every
+//! length is answered by the library, with a numbered refusal where it does not fit. The numbers are those of include/struo_formal.h, and
+//! docs/SPECIFICATION.md says what they mean.
+//!
+//! `Checker` owns the memory that a check is lent:
+//!
+//! ```
+//! use struo_formal::{replay, Checker, Refusal, Status};
+//!
+//! // Input a, output y = a; and the same with a Not before y.
+//! let wire = b"\x01\0\0\0\x13\x01g\0\x02\0\x01a\x11\x01y\0\0\0\0";
+//! let inverter = b"\x01\0\0\0\x16\x01g\0\x03\0\x01a\x10\0\0\x11\x01y\0\x01\0\0";
+//!
+//! let mut checker = Checker::new();
+//! assert_eq!(checker.check(wire, wire, 8)?.status, Status::Equivalent);
+//!
+//! let verdict = checker.check(wire, inverter, 8)?;
+//! assert_eq!(verdict.status, Status::NotEquivalent);
+//! let difference = verdict.difference.expect("a difference has a trace");
+//! assert!(replay(wire, inverter, difference.cycle.into(), &difference.trace).yes);
+//!
+//! let refused = checker.check(wire, b"", 8).unwrap_err();
+//! assert_eq!(refused.refusal, Refusal::Length);
+//! # Ok::<(), struo_formal::Refused>(())
+//! ```
 mod boundary;
+mod checker;
+mod refusal;
+mod status;
 
 pub use boundary::{CheckAnswer, ReadAnswer, ReplayAnswer};
+pub use checker::{Checker, Difference, Verdict};
+pub use refusal::{Refusal, Refused, Side};
+pub use status::Status;
 
-/// The lengths that a check needs of `words` and `scores`.
+/// How many words a check needs.
 pub const WORDS: usize = 8_388_608;
+
+/// How many scores a check needs.
 pub const SCORES: usize = 65_536;
 
 /// A trace of this length is enough for every pair: 64 inputs in each of 65 cycles, and 64 outputs.
 pub const TRACE: usize = 65 * 64 + 64;
 
-/// The statuses of an accepted check.
-pub const EQUIVALENT: u32 = 0;
-pub const NOT_EQUIVALENT: u32 = 1;
-pub const INCONCLUSIVE: u32 = 2;
-pub const GAVE_UP: u32 = 3;
+/// How many bytes of stack a read takes at most.
+pub const READ_STACK: usize = 71_000;
+
+/// How many bytes of stack a check takes at most.
+pub const CHECK_STACK: usize = 138_000;
+
+/// How many bytes of stack a replay takes at most.
+pub const REPLAY_STACK: usize = 145_000;
 
 /// Reads a design record: accepted, or the first refusal of 1 to 15 with its place.
 pub fn read(record: &[u8]) -> ReadAnswer {
@@ -55,7 +89,7 @@ pub fn replay(gold: &[u8], gate: &[u8], cycle: u64, claim: &[u8]) -> ReplayAnswe
 mod tests {
     use super::*;
 
-    /// Document 01's wire, and the wire with a Not before y.
+    /// The wire, and the wire with a Not before y.
     const WIRE: &[u8] = b"\x01\0\0\0\x13\x01g\0\x02\0\x01a\x11\x01y\0\0\0\0";
     const INVERTER: &[u8] = b"\x01\0\0\0\x16\x01g\0\x03\0\x01a\x10\0\0\x11\x01y\0\x01\0\0";
 
@@ -86,7 +120,7 @@ mod tests {
     fn a_difference_is_found_with_its_trace() {
         let (mut trace, mut words, mut scores) = memory();
         let answer = check(WIRE, INVERTER, 1, &mut trace, &mut words, &mut scores);
-        assert_eq!(answer, CheckAnswer { status: NOT_EQUIVALENT, depth: 1, ..CheckAnswer::default() });
+        assert_eq!(answer, CheckAnswer { status: Status::NotEquivalent as u32, depth: 1, ..CheckAnswer::default() });
         assert_eq!(trace[..2], [0, 1]);
         assert!(trace[2..].iter().all(|byte| *byte == 7));
         assert!(words.iter().all(|word| *word == 0) && scores.iter().all(|score| score.to_bits() == 0));
@@ -97,7 +131,7 @@ mod tests {
     fn a_design_is_equivalent_to_itself() {
         let (mut trace, mut words, mut scores) = memory();
         let answer = check(WIRE, WIRE, 64, &mut trace, &mut words, &mut scores);
-        assert_eq!(answer, CheckAnswer { status: EQUIVALENT, depth: 1, ..CheckAnswer::default() });
+        assert_eq!(answer, CheckAnswer { status: Status::Equivalent as u32, depth: 1, ..CheckAnswer::default() });
         assert!(trace.iter().all(|byte| *byte == 7));
     }
 
@@ -110,5 +144,32 @@ mod tests {
         assert!(trace.iter().all(|byte| *byte == 7) && words.iter().all(|word| *word == 7) && scores.iter().all(|score| *score == 7.0));
         let answer = check(WIRE, &[], u64::MAX, &mut [], &mut [], &mut []);
         assert_eq!(answer, CheckAnswer { number: 1, side: 1, ..CheckAnswer::default() });
+    }
+
+    #[test]
+    fn a_checker_owns_its_memory() {
+        let mut checker = Checker::new();
+        for _ in 0..2 {
+            let verdict = checker.check(WIRE, INVERTER, 64).expect("both are accepted");
+            assert_eq!(verdict.difference, Some(Difference { cycle: 0, trace: vec![0, 1] }));
+            let verdict = checker.check(WIRE, WIRE, 64).expect("both are accepted");
+            assert_eq!(verdict, Verdict { status: Status::Equivalent, depth: 1, difference: None, query: None });
+        }
+        let refused = checker.check(WIRE, &WIRE[..5], 1).unwrap_err();
+        assert_eq!(refused, Refused { refusal: Refusal::Length, side: Side::Gate, place: 0 });
+    }
+
+    #[test]
+    fn refusals_and_statuses_in_words() {
+        let mut own = WIRE.to_vec();
+        own[16] = 1;
+        let refused = read(&own).result().unwrap_err();
+        assert_eq!(refused.to_string(), "refused: 7 UndefinedNet: a node's input number is not below the node's own (gold node 1)");
+        assert_eq!(check(WIRE, WIRE, 0, &mut [], &mut [], &mut []).result().unwrap_err().to_string(), "refused: 16 ZeroDepth: the depth is 0");
+        assert!((1..=25).all(|number| Refusal::from_number(number).is_some_and(|refusal| refusal as u32 == number)));
+        assert!(Refusal::from_number(0).is_none() && Refusal::from_number(26).is_none());
+        assert!((0..4).all(|number| Status::from_number(number).is_some_and(|status| status as u32 == number)));
+        assert!(Status::from_number(4).is_none());
+        assert!(Status::Equivalent.to_string().starts_with("Equivalent: ") && Status::NotEquivalent.to_string().starts_with("NOT EQUIVALENT: "));
     }
 }

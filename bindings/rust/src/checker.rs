@@ -1,0 +1,70 @@
+//! A checker that owns the memory which a check is lent.
+use crate::refusal::Refused;
+use crate::status::Status;
+use crate::{check, SCORES, TRACE, WORDS};
+
+/// A byte that no trace has: what a check writes ends at the first one left.
+const UNWRITTEN: u8 = 0xff;
+
+/// The memory of a check, 32.5 MiB, enough for every pair; one checker serves any number of checks, one after the other.
+#[derive(Clone, Debug)]
+pub struct Checker {
+    trace: Vec<u8>,
+    words: Vec<u32>,
+    scores: Vec<f64>,
+}
+
+/// What an accepted check found.
+#[derive(Clone, Debug, Eq, PartialEq)]
+pub struct Verdict {
+    /// The status; only `Equivalent` is a pass.
+    pub status: Status,
+    /// The depth at which the verdict fell; for Inconclusive the depth asked for, for GaveUp that of the query that gave up.
+    pub depth: u32,
+    /// For NotEquivalent the difference.
+    pub difference: Option<Difference>,
+    /// For GaveUp the number of the query that gave up, 1 to 4.
+    pub query: Option<u32>,
+}
+
+/// A difference: a claim to which `replay` answers yes.
+#[derive(Clone, Debug, Eq, PartialEq)]
+pub struct Difference {
+    /// The first cycle in which outputs differ.
+    pub cycle: u32,
+    /// A byte, 0 or 1, for each input in byte order of names, for each cycle from 0 on; then a byte for each output, 1 where it differs.
+    pub trace: Vec<u8>,
+}
+
+impl Checker {
+    /// A checker with its memory.
+    #[must_use]
+    pub fn new() -> Self {
+        Self { trace: vec![UNWRITTEN; TRACE], words: vec![0; WORDS], scores: vec![0.0; SCORES] }
+    }
+
+    /// Checks whether two designs can ever differ, by k-induction for depths 1 to `depth`.
+    ///
+    /// # Errors
+    ///
+    /// The first refusal of 1 to 23 in checking order.
+    pub fn check(&mut self, gold: &[u8], gate: &[u8], depth: u64) -> Result<Verdict, Refused> {
+        self.trace.fill(UNWRITTEN);
+        let answer = check(gold, gate, depth, &mut self.trace, &mut self.words, &mut self.scores);
+        let status = answer.result()?;
+        let written = self.trace.iter().position(|byte| *byte == UNWRITTEN).unwrap_or(TRACE);
+        let difference = Difference { cycle: answer.mismatch, trace: self.trace[..written].to_vec() };
+        Ok(Verdict {
+            status,
+            depth: answer.depth,
+            difference: (status == Status::NotEquivalent).then_some(difference),
+            query: (status == Status::GaveUp).then_some(answer.query),
+        })
+    }
+}
+
+impl Default for Checker {
+    fn default() -> Self {
+        Self::new()
+    }
+}

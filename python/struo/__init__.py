@@ -1,0 +1,30 @@
+"""The checker's calls for Python: typed functions over the proved library, which alone decides."""
+from __future__ import annotations
+
+from .answers import CheckAnswer, ReadAnswer, Refusal, ReplayAnswer, Side, Status
+from .explain import Question, explain
+from .library import Library, LibraryMissing, Memory, open_library
+from .record import Design, decode, encode
+from .version import VERSION
+
+__version__ = VERSION
+
+__all__ = [
+    "CheckAnswer", "Design", "Library", "LibraryMissing", "Memory", "Question", "ReadAnswer", "Refusal", "ReplayAnswer", "Side", "Status",
+    "check", "decode", "encode", "explain", "open_library", "read", "replay",
+]
+
+
+def read(record: bytes) -> ReadAnswer:
+    """Reads a design record: accepted, or the first refusal of 1 to 15."""
+    return open_library().read(record)
+
+
+def check(gold: bytes, gate: bytes, depth: int = 8) -> CheckAnswer:
+    """Checks whether two designs can ever differ, by k-induction for depths 1 to `depth`."""
+    return open_library().check(gold, gate, depth)
+
+
+def replay(gold: bytes, gate: bytes, cycle: int, claim: bytes) -> ReplayAnswer:
+    """Replays a claimed trace: yes exactly when it shows a difference, in the claimed cycle and outputs."""
+    return open_library().replay(gold, gate, cycle, claim)

@@ -1,0 +1,73 @@
+"""What the calls answer, as typed values."""
+from __future__ import annotations
+
+from dataclasses import dataclass
+from enum import IntEnum
+from typing import Optional
+
+
+class Side(IntEnum):
+    """A side of a pair."""
+
+    GOLD = 0
+    GATE = 1
+
+    @property
+    def word(self) -> str:
+        """The side in words."""
+        return self.name.lower()
+
+
+class Status(IntEnum):
+    """The status of an accepted check; its number is also the command's exit status."""
+
+    EQUIVALENT = 0
+    NOT_EQUIVALENT = 1
+    INCONCLUSIVE = 2
+    GAVE_UP = 3
+
+    @property
+    def word(self) -> str:
+        """The verdict as it is written everywhere; no one of the four contains another."""
+        return ("Equivalent", "NOT EQUIVALENT", "Inconclusive", "GaveUp")[self]
+
+
+@dataclass(frozen=True)
+class Refusal:
+    """Why a call was refused: the number, the side (0 gold, 1 gate) and the place."""
+
+    number: int
+    side: Side
+    place: int
+
+
+@dataclass(frozen=True)
+class ReadAnswer:
+    """What a read answers: no refusal where the record is accepted."""
+
+    refusal: Optional[Refusal]
+
+    @property
+    def accepted(self) -> bool:
+        """Whether the record is accepted."""
+        return self.refusal is None
+
+
+@dataclass(frozen=True)
+class ReplayAnswer:
+    """What a replay answers; `yes` is false where it is refused."""
+
+    refusal: Optional[Refusal]
+    yes: bool
+
+
+@dataclass(frozen=True)
+class CheckAnswer:
+    """What a check answers; `trace` holds the bytes that were written for NotEquivalent, a claim that a replay takes."""
+
+    refusal: Optional[Refusal]
+    status: Optional[Status]
+    depth: int
+    mismatch: int
+    query: int
+    trace: bytes

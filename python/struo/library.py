@@ -1,0 +1,118 @@
+"""The calls of the proved library through its C boundary (include/struo_formal.h). Nothing is decided here."""
+from __future__ import annotations
+
+import ctypes
+import os
+from functools import lru_cache
+from pathlib import Path
+from typing import Optional
+
+from .answers import CheckAnswer, ReadAnswer, Refusal, ReplayAnswer, Side, Status
+from .build import LibraryMissing, built_library
+
+__all__ = ["Library", "LibraryMissing", "Memory", "open_library"]
+
+# The lengths that a check needs; a trace of this length is enough for every pair.
+WORDS = 8_388_608
+SCORES = 65_536
+TRACE = 65 * 64 + 64
+
+# Larger numbers than the boundary takes are refused as the largest is.
+LARGEST = 2**64 - 1
+
+# A byte that no trace has: what a check writes ends at the first one left.
+UNWRITTEN = 0xFF
+
+
+class _Read(ctypes.Structure):
+    """struct struo_read_answer."""
+
+    _fields_ = [(name, ctypes.c_uint32) for name in ("number", "side", "place")]
+
+
+class _Replay(ctypes.Structure):
+    """struct struo_replay_answer."""
+
+    _fields_ = [*_Read._fields_, ("yes", ctypes.c_bool)]
+
+
+class _Check(ctypes.Structure):
+    """struct struo_check_answer."""
+
+    _fields_ = [*_Read._fields_, *((name, ctypes.c_uint32) for name in ("status", "depth", "mismatch", "query"))]
+
+
+class Memory:
+    """What is lent to a check: enough for every pair, unless other lengths are asked for."""
+
+    def __init__(self, trace: int = TRACE, words: int = WORDS, scores: int = SCORES):
+        self.trace = (ctypes.c_uint8 * trace)()
+        self.words = (ctypes.c_uint32 * words)()
+        self.scores = (ctypes.c_double * scores)()
+
+    def unwrite(self) -> None:
+        """Marks every byte of the trace as not written."""
+        ctypes.memset(self.trace, UNWRITTEN, len(self.trace))
+
+    def written(self) -> bytes:
+        """The bytes of the trace that were written."""
+        return bytes(self.trace).split(bytes([UNWRITTEN]), 1)[0]
+
+
+def _refusal(answer: ctypes.Structure) -> Optional[Refusal]:
+    """The refusal of an answer, or none where the call was accepted."""
+    return Refusal(answer.number, Side(answer.side), answer.place) if answer.number else None
+
+
+class Library:
+    """A loaded library and the memory that it is lent."""
+
+    def __init__(self, path: Path):
+        self.path = path
+        self._calls = ctypes.CDLL(os.fspath(path.resolve()))
+        self._memory: Optional[Memory] = None
+        data = [ctypes.c_char_p, ctypes.c_size_t]
+        for name, arguments, answer in (
+            ("struo_read", data, _Read),
+            ("struo_replay", [*data, *data, ctypes.c_uint64, *data], _Replay),
+            ("struo_check", [*data, *data, ctypes.c_uint64, *[ctypes.c_void_p, ctypes.c_size_t] * 3], _Check),
+        ):
+            call = getattr(self._calls, name)
+            call.argtypes, call.restype = arguments, answer
+
+    def read(self, record: bytes) -> ReadAnswer:
+        """Reads a design record: accepted, or the first refusal of 1 to 15."""
+        return ReadAnswer(_refusal(self._calls.struo_read(record, len(record))))
+
+    def replay(self, gold: bytes, gate: bytes, cycle: int, claim: bytes) -> ReplayAnswer:
+        """Replays a claimed trace: a refusal of 1 to 15, 18 to 22 or 25, or yes or no."""
+        answer = self._calls.struo_replay(gold, len(gold), gate, len(gate), _number(cycle), claim, len(claim))
+        return ReplayAnswer(_refusal(answer), bool(answer.yes))
+
+    def check(self, gold: bytes, gate: bytes, depth: int, memory: Optional[Memory] = None) -> CheckAnswer:
+        """Checks a pair to a maximum depth: a refusal of 1 to 24, or a verdict."""
+        if memory is None:
+            memory = self._memory = self._memory or Memory()
+        memory.unwrite()
+        lent = [part for array in (memory.trace, memory.words, memory.scores) for part in (ctypes.addressof(array), len(array))]
+        answer = self._calls.struo_check(gold, len(gold), gate, len(gate), _number(depth), *lent)
+        status = None if answer.number else Status(answer.status)
+        trace = memory.written() if status is Status.NOT_EQUIVALENT else b""
+        return CheckAnswer(_refusal(answer), status, answer.depth, answer.mismatch, answer.query, trace)
+
+
+def _number(number: int) -> int:
+    """A number as the boundary takes it."""
+    if number < 0:
+        raise ValueError("a depth or a cycle is not negative")
+    return min(number, LARGEST)
+
+
+@lru_cache(maxsize=None)
+def open_library() -> Library:
+    """The library that STRUO_LIBRARY names, or that of the repository, built at first use."""
+    path = built_library()
+    try:
+        return Library(path)
+    except (OSError, AttributeError) as error:
+        raise LibraryMissing(f"{path} cannot be loaded as the checker's library: {error}") from error

@@ -1,0 +1,115 @@
+"""Designs for the tests, built node by node."""
+from __future__ import annotations
+
+from typing import List, Optional, Sequence
+
+from struo.record import Design, Enable, Kind, Node, Register, Reset
+
+
+class Builder:
+    """A design in the making; registers are clocked by node 0 and reset to 0 by node 1, synchronously."""
+
+    def __init__(self, *inputs: str, name: str = "g"):
+        """A design with these inputs."""
+        self.design = Design(name.encode())
+        self.inputs = [self.node(Kind.INPUT, text=one) for one in inputs]
+
+    def node(self, kind: Kind, *reads: int, text: str = "", value: int = 0) -> int:
+        """One more node."""
+        self.design.nodes.append(Node(kind, text.encode(), value, reads))
+        return len(self.design.nodes) - 1
+
+    def output(self, name: str, read: int) -> int:
+        """An Output."""
+        return self.node(Kind.OUTPUT, read, text=name)
+
+    def state(self) -> int:
+        """A RegisterOutput."""
+        return self.node(Kind.REGISTER_OUTPUT)
+
+    def register(self, name: str, output: int, data: int, clock: int = 0, falling: bool = False, enable: Optional[Enable] = None,
+                 reset: Optional[Reset] = Reset(1, False, False, 0)) -> None:
+        """A register."""
+        self.design.registers.append(Register(name.encode(), output, data, clock, falling, enable, reset))
+
+
+def wire() -> Design:
+    """y = a."""
+    builder = Builder("a")
+    builder.output("y", 0)
+    return builder.design
+
+
+def inverter() -> Design:
+    """y = not a."""
+    builder = Builder("a")
+    builder.output("y", builder.node(Kind.NOT, 0))
+    return builder.design
+
+
+def toggle(name: str = "q", clock: int = 0, falling: bool = False, reset: Optional[Reset] = Reset(1, False, False, 0)) -> Design:
+    """A register that turns each cycle, shown at y."""
+    builder = Builder("clk", "rst")
+    state = builder.state()
+    builder.output("y", state)
+    builder.register(name, state, builder.node(Kind.NOT, state), clock, falling, None, reset)
+    return builder.design
+
+
+def row(*names: str) -> Design:
+    """Registers in a row after e; y is the last."""
+    builder = Builder("clk", "rst", "e")
+    states = [builder.state() for _ in names]
+    builder.output("y", states[-1])
+    for name, state, data in zip(names, states, [2, *states]):
+        builder.register(name, state, data)
+    return builder.design
+
+
+def holding() -> Design:
+    """y = 0 beside a register that holds."""
+    builder = Builder("clk", "rst", "e")
+    state = builder.state()
+    builder.output("y", builder.node(Kind.CONSTANT))
+    builder.register("h", state, state)
+    return builder.design
+
+
+def _sum(builder: Builder, first: Optional[int], second: Optional[int], carry: Optional[int]) -> tuple:
+    """A full adder; none is 0."""
+    bits = [bit for bit in (first, second, carry) if bit is not None]
+    if len(bits) < 2:
+        return (bits[0] if bits else None), None
+    half = builder.node(Kind.XOR, bits[0], bits[1])
+    both = builder.node(Kind.AND, bits[0], bits[1])
+    if len(bits) == 2:
+        return half, both
+    return builder.node(Kind.XOR, half, bits[2]), builder.node(Kind.OR, both, builder.node(Kind.AND, half, bits[2]))
+
+
+def product(builder: Builder, left: Sequence[int], right: Sequence[int]) -> List[Optional[int]]:
+    """The bits of a product, row after row."""
+    total: List[Optional[int]] = [None] * (len(left) + len(right))
+    for shift, bit in enumerate(right):
+        carry = None
+        for place in range(len(total) - shift):
+            part = builder.node(Kind.AND, left[place], bit) if place < len(left) else None
+            total[place + shift], carry = _sum(builder, total[place + shift], part, carry)
+    return total
+
+
+def multiplied(width: int, swapped: bool, late: bool) -> Design:
+    """A register m that takes a product bit of a and b, or of b and a; y follows e after two cycles, or stays 0 where it is late."""
+    names = [f"{side}{place}" for side in "ab" for place in range(width)]
+    builder = Builder("clk", "rst", "e", *names)
+    left, right = builder.inputs[3:3 + width], builder.inputs[3 + width:]
+    first, second, kept = builder.state(), builder.state(), builder.state()
+    bits = product(builder, right, left) if swapped else product(builder, left, right)
+    zero = builder.node(Kind.CONSTANT)
+    builder.output("y", zero if late else second)
+    builder.register("p", first, 2)
+    builder.register("s", second, first)
+    middle = bits[width]
+    assert middle is not None
+    builder.register("m", kept, middle)
+    return builder.design

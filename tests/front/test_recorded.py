@@ -1,0 +1,94 @@
+"""The recorded calls through the front end's boundary: the answers as recorded, every refusal in words; and damaged records, which are always explained."""
+from __future__ import annotations
+
+import random
+import unittest
+from functools import lru_cache
+from itertools import islice
+
+from support import EXAMPLES, ROOT
+from struo import Memory, Question, explain, open_library
+from struo.answers import Status
+from struo.explain import reference
+
+RECORDED = ROOT / "crates" / "vectors" / "data" / "recorded.txt"
+
+# Checks that learned more take seconds.
+QUICK = 20_000
+
+
+def data(word: str) -> bytes:
+    """The bytes of a word in hex."""
+    return b"" if word == "-" else bytes.fromhex(word)
+
+
+memory = lru_cache(maxsize=8)(Memory)
+
+
+class Recorded(unittest.TestCase):
+    """Lines of the recorded list."""
+
+    def lines(self, call: str):
+        """The words left and right of the sign, for each line of a call."""
+        for line in RECORDED.read_text().splitlines():
+            if line.startswith(call + " "):
+                asked, answered = line.split(" = ")
+                yield asked.split()[1:], answered.split()
+
+    def same(self, refusal, answered, question: Question) -> None:
+        """A refusal's three numbers are as recorded, and there are words for it."""
+        found = (0, 0, 0) if refusal is None else (refusal.number, int(refusal.side), refusal.place)
+        self.assertEqual(found, tuple(map(int, answered[:3])))
+        if refusal is not None:
+            self.assertTrue(explain(refusal, question) and reference(refusal))
+
+    def test_reads(self):
+        for (record,), answered in self.lines("read"):
+            self.same(open_library().read(data(record)).refusal, answered, Question(data(record)))
+
+    def test_replays(self):
+        for (gold, gate, cycle, claim), answered in self.lines("replay"):
+            question = Question(data(gold), data(gate), cycle=int(cycle), claim=data(claim))
+            answer = open_library().replay(question.gold, data(gate), question.cycle, question.claim)
+            self.same(answer.refusal, answered, question)
+            self.assertEqual(answer.yes, answered[3] == "yes")
+
+    def test_every_fourth_check(self):
+        count = 0
+        for (gold, gate, depth, trace, words, scores), answered in islice(self.lines("check"), 0, None, 4):
+            if int(answered[8]) > QUICK:
+                continue
+            lent = int(trace), int(words), int(scores)
+            question = Question(data(gold), data(gate), int(depth), 0, b"", *lent)
+            answer = open_library().check(question.gold, data(gate), question.depth, memory(*lent))
+            self.same(answer.refusal, answered, question)
+            if answer.refusal is None:
+                told = (int(answer.status), answer.depth, answer.mismatch, answer.query)
+                self.assertEqual(told, tuple(map(int, answered[3:7])))
+                self.assertEqual(answer.trace, data(answered[7]) if answer.status is Status.NOT_EQUIVALENT else b"")
+            count += 1
+        self.assertGreater(count, 100)
+
+
+class Damaged(unittest.TestCase):
+    """Records with bytes changed, cut and added."""
+
+    def test_every_refusal_is_explained(self):
+        dice, library, met = random.Random(18), open_library(), set()
+        records = [path.read_bytes() for path in sorted(EXAMPLES.glob("*.struo"))]
+        for _ in range(1_500):
+            record = bytearray(dice.choice(records))
+            for _ in range(dice.randrange(1, 3)):
+                record[dice.randrange(len(record))] = dice.randrange(256) if dice.randrange(2) else dice.randrange(49)
+            record = record[:dice.randrange(5, len(record) + 1)] if dice.randrange(4) == 0 else record
+            if dice.randrange(8):
+                record[1:5] = len(record).to_bytes(4, "big")
+            refusal = library.read(bytes(record)).refusal
+            if refusal is not None:
+                self.assertTrue(explain(refusal, Question(bytes(record))))
+                met.add(refusal.number)
+        self.assertGreater(len(met), 8)
+
+
+if __name__ == "__main__":
+    unittest.main()
