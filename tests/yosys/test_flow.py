@@ -6,15 +6,14 @@ import random
 import re
 import subprocess
 import sys
-import tempfile
 import unittest
 from dataclasses import dataclass
 from pathlib import Path
 from typing import Any, Dict, Iterator, List
 
-ROOT = Path(__file__).resolve().parents[2]
-sys.path.insert(0, str(ROOT / "python"))
+sys.path.insert(0, str(Path(__file__).resolve().parents[1] / "front"))
 
+from support import ROOT, Case  # noqa: E402
 from struo.record import Design, decode  # noqa: E402
 from struo.run import run as run_record  # noqa: E402
 
@@ -39,16 +38,17 @@ class Chip:
     falling: bool
 
     @property
-    def source(self) -> Path:
-        """Its Verilog: an example, or a file of this test."""
+    def verilog(self) -> str:
+        """Its Verilog, of an example or of a file of this test, clocked at its edge."""
         example = VERILOG / f"{self.top}.v"
-        return example if example.exists() else Path(__file__).with_name(f"{self.top}.v")
+        text = (example if example.exists() else Path(__file__).with_name(f"{self.top}.v")).read_text()
+        return text.replace("posedge clk", "negedge clk") if self.falling else text
 
 
 CHIPS = (Chip("command_buffer", "rst", 1, False), Chip("baud_divider", "rst_n", 0, False), Chip("card_receiver", "rst", 1, True))
 
-# Registers of every kind, some of which either level of r resets.
-FLIP_FLOPS = (Chip("flip_flops", "r", 1, False), Chip("falling_flip_flops", "r", 1, True))
+# Registers of every kind on either edge, some of which either level of r resets.
+FLIP_FLOPS = (Chip("flip_flops", "r", 1, False), Chip("flip_flops", "r", 1, True))
 
 
 def run(*words: str) -> str:
@@ -101,17 +101,8 @@ def bench(chip: Chip, inputs: Dict[str, int], outputs: Dict[str, int], cycles: L
     return "\n".join(lines + ["  end", "endmodule"]) + "\n"
 
 
-class Flow(unittest.TestCase):
+class Flow(Case):
     """From Verilog to a verdict, and from a difference back to a simulation."""
-
-    def setUp(self) -> None:
-        folder = tempfile.TemporaryDirectory()
-        self.addCleanup(folder.cleanup)
-        self.folder = Path(folder.name)
-
-    def path(self, name: str) -> str:
-        """A file of this test."""
-        return str(self.folder / name)
 
     def record(self, side: str) -> str:
         """A netlist converted to a record."""
@@ -121,7 +112,8 @@ class Flow(unittest.TestCase):
 
     def synthesize(self, chip: Chip) -> None:
         """Both netlists by yosys, as JSON, and gold as Verilog."""
-        gold, gate = (flow.format(source=chip.source, top=chip.top) for flow in (GOLD, GATE))
+        source = self.file("chip.v", chip.verilog)
+        gold, gate = (flow.format(source=source, top=chip.top) for flow in (GOLD, GATE))
         run("yosys", "-q", "-p", f"{gold}; write_json {self.path('gold.json')}; rename {chip.top} gold; write_verilog -noattr {self.path('gold.v')}")
         run("yosys", "-q", "-p", f"{gate}; write_json {self.path('gate.json')}")
 
@@ -172,7 +164,7 @@ class Flow(unittest.TestCase):
     def test_a_record_runs_as_its_verilog(self):
         dice = random.Random(18)
         for chip in CHIPS + FLIP_FLOPS:
-            with self.subTest(chip.top):
+            with self.subTest(chip.top, falling=chip.falling):
                 self.synthesize(chip)
                 netlist = json.loads(Path(self.path("gate.json")).read_text())
                 inputs, outputs = (ports(netlist, chip.top, direction) for direction in ("input", "output"))
@@ -181,7 +173,7 @@ class Flow(unittest.TestCase):
                     often = place < 8 or dice.randrange(6) == 0
                     bits[chip.reset] = place % 2 if place < 8 else chip.asserted if often else 1 - chip.asserted
                 Path(self.path("bench.v")).write_text(bench(chip, inputs, outputs, cycles, [chip.top]))
-                run("iverilog", "-o", self.path("bench"), self.path("bench.v"), str(chip.source))
+                run("iverilog", "-o", self.path("bench"), self.path("bench.v"), self.path("chip.v"))
                 lines = run("vvp", "-n", self.path("bench")).splitlines()
                 for side in ("gold", "gate"):
                     design = decode(Path(self.record(side)).read_bytes())
@@ -198,8 +190,6 @@ class Flow(unittest.TestCase):
 
     def test_the_readme_gives_these_flows(self):
         given = re.findall(r'(?m)^ +yosys -q -p "(.*)"$', (ROOT / "README.md").read_text())
-        if not given:
-            self.skipTest("the README gives no flow")
         flows = [flow.format(source="chip.v", top="chip") + f"; write_json {side}.json" for flow, side in ((GOLD, "gold"), (GATE, "gate"))]
         self.assertEqual(given, flows)
 
