@@ -1,19 +1,18 @@
 -- The lookup of an earlier pair: chains of nodes by their larger literal, newest first, find the first position in the node list. Assumes nothing.
-use mathlib.Core.Path.{_≡_, refl, sym, _∙_}
+use mathlib.Core.Path.{_≡_, refl, ap, sym, _∙_}
 use mathlib.Core.Bool.{Bool, true, false, _&&_, cond, false≢true, and-false, and-true}
 use mathlib.Core.List.{List, [], _∷_}
 use mathlib.Core.Option.{Option, none, some}
 use Prim.Native.Nat.{ℕ, zero, suc, _+_, _*_, _≤_, _<_}
 use native.Mathlib.Omega.{arith}
 use native.Mathlib.Numerals.{add-one}
-use lib.Dec.{eqb}
-use lib.ListN.{length, getD, set}
+use lib.Dec.{eqb, ltb}
+use lib.ListN.{length, getD, set, length-set}
 use lib.Seq.{getD-set-other, getD-set-same}
-use borrow.Author.Tests.{eqb-true, eqb-false, eq-eqb, ne-eqb}
-use Rattle.words.specs.Layout.{DOUBLE}
+use borrow.Author.Tests.{ltb-true, ltb-false, eqb-true, eqb-false, eq-eqb, ne-eqb}
 use Rattle.model.specs.Lists.{snoc, position, nextPlace}
 use Rattle.model.specs.Aig.{isAnd}
-use Rattle.aig.specs.Graph.{nodeOf, nodeAt, nodesOf, length-nodes, Ordered, ordered-set, Ascending}
+use Rattle.aig.specs.Graph.{nodeOf, nodeAt, nodesOf, length-nodes, Ordered, ordered-le, ordered-set, Ascending}
 
 -- the newest of the first n nodes whose larger literal is r; 0 where there is none
 unfoldable pub latest : List ℕ → ℕ → ℕ → ℕ
@@ -30,9 +29,10 @@ unfoldable pub place : ℕ → Option ℕ
 place zero = none
 place (suc i) = some (suc i)
 
--- The chains of a graph of n nodes: `hs` has the newest node of each larger literal, `ns` the node before it in its chain, no pair stands twice, and each is ascending.
+-- The chains of a graph of n nodes: `hs` has for each of its literals the newest node whose larger literal it is, `ns` the node before it in its chain, no pair stands twice,
+-- and each is ascending. Of the words past the graph's literals nothing is known.
 pub record Indexed (n : ℕ) (ls rs ns hs : List ℕ) : Type 0 where
-  pub heads : (r : ℕ) → 0 < r → r < DOUBLE → getD hs r 0 ≡ latest rs r n
+  pub heads : (r : ℕ) → 0 < r → r < n * 2 → getD hs r 0 ≡ latest rs r n
   pub nexts : (i : ℕ) → i < n → 0 < getD rs i 0 → getD ns i 0 ≡ latest rs (getD rs i 0) i
   pub once : (i : ℕ) → i < n → 0 < getD rs i 0 → lastAnd ls rs (getD ls i 0) (getD rs i 0) i ≡ 0
   pub ordered : Ordered n ls rs
@@ -88,6 +88,14 @@ latest-has rs r zero h = absurd (omega arith)
 latest-has rs r (suc n) h =
     by-eqb (getD rs n 0) r (λ t. 0 < cond t n (latest rs r n) → getD rs (cond t n (latest rs r n)) 0 ≡ r)
     (λ e _. e) (λ _ k. latest-has rs r n k) h
+
+-- no node has a literal above all of theirs
+latest-none : (rs : List ℕ) (r n : ℕ) → ((i : ℕ) → i < n → getD rs i 0 < r) → latest rs r n ≡ 0
+unfolding latest
+latest-none rs r zero h = refl
+latest-none rs r (suc n) h =
+    let k : getD rs n 0 < r = h n (omega arith) in
+    rw (ne-eqb (getD rs n 0) r (λ e. omega arith)) (latest-none rs r n (λ i m. h i (omega arith)))
 
 -- the search of a chain from node p on, by its nodes' smaller literals
 unfoldable pub chained : List ℕ → List ℕ → ℕ → ℕ → ℕ → ℕ
@@ -196,7 +204,28 @@ by-last i n P p q h = go (eqb i n) refl
     go true e = rw (eqb-true i n e) q
     go false e = p (omega (arith, eqb-false i n e))
 
-module _ (n : ℕ) (ls rs ns hs : List ℕ) (ix : Indexed n ls rs ns hs) (hl : n < length ls) (hr : n < length rs) where
+-- the heads with the chains of node n's two literals empty
+abbrev pub openedHeads : List ℕ → ℕ → List ℕ
+openedHeads hs n = set (set hs (n * 2) 0) (n * 2 + 1) 0
+
+-- no node has a literal of a node after it, so that the heads of one node more are right once those two are empty
+opened-heads : (n : ℕ) (ls rs ns hs : List ℕ) → Indexed n ls rs ns hs → n * 2 + 1 < length hs → (r : ℕ) → 0 < r → r < (n + 1) * 2 → getD (openedHeads hs n) r 0 ≡ latest rs r n
+opened-heads n ls rs ns hs ix long r h k = go (ltb r (n * 2)) refl (eqb r (n * 2 + 1)) refl
+  where
+    past : n * 2 ≤ r → latest rs r n ≡ 0
+    past m = latest-none rs r n (λ i j. omega (arith, ordered-le n ls rs (ix .ordered) i j))
+
+    go : (t : Bool) → ltb r (n * 2) ≡ t → (u : Bool) → eqb r (n * 2 + 1) ≡ u → getD (openedHeads hs n) r 0 ≡ latest rs r n
+    go true e u f =
+        let m : r < n * 2 = ltb-true r (n * 2) e in
+        getD-set-other (set hs (n * 2) 0) (n * 2 + 1) r 0 0 (λ x. omega arith) ∙ getD-set-other hs (n * 2) r 0 0 (λ x. omega arith) ∙ ix .heads r h m
+    go false e true f =
+        rw (past (ltb-false r (n * 2) e), eqb-true r (n * 2 + 1) f) (getD-set-same (set hs (n * 2) 0) (n * 2 + 1) 0 0 (simp length-set long))
+    go false e false f =
+        let m : r ≡ n * 2 = omega (arith, ltb-false r (n * 2) e, eqb-false r (n * 2 + 1) f) in
+        rw (past (ltb-false r (n * 2) e), m) (getD-set-other (set hs (n * 2) 0) (n * 2 + 1) (n * 2) 0 0 (λ x. omega arith) ∙ getD-set-same hs (n * 2) 0 0 (omega arith))
+
+module _ (n : ℕ) (ls rs ns hs : List ℕ) (ix : Indexed n ls rs ns hs) (hl : n < length ls) (hr : n < length rs) (hh : n * 2 + 1 < length hs) where
   -- what is known of a node stays, whatever pair the new one is
   old-once : (a b i : ℕ) → i < n → 0 < getD (set rs n b) i 0 → lastAnd (set ls n a) (set rs n b) (getD (set ls n a) i 0) (getD (set rs n b) i 0) i ≡ 0
   old-once a b i h k =
@@ -215,12 +244,16 @@ module _ (n : ℕ) (ls rs ns hs : List ℕ) (ix : Indexed n ls rs ns hs) (hl : n
       let q : getD (set rs n b) i 0 ≡ getD rs i 0 = getD-set-other rs n i b 0 (λ e. omega arith) in
       rw (p, q) (ix .gates i h (omega arith))
 
-  -- a variable is in no chain
-  pub indexed-variable : Indexed (n + 1) (set ls n 0) (set rs n 0) ns hs
-  indexed-variable =
+  -- the chains that the new node stands beside
+  heads : (r : ℕ) → 0 < r → r < (n + 1) * 2 → getD (openedHeads hs n) r 0 ≡ latest rs r n
+  heads = opened-heads n ls rs ns hs ix hh
+
+  -- a node without operands is in no chain
+  pub indexed-leaf : Indexed (n + 1) (set ls n 0) (set rs n 0) ns (openedHeads hs n)
+  indexed-leaf =
       let z : getD (set rs n 0) n 0 ≡ 0 = getD-set-same rs n 0 0 hr in
       record {
-        heads = λ r h k. ix .heads r h k ∙ rw (add-one, latest-suc-other (set rs n 0) r n (λ e. omega arith), latest-set rs r n n 0 (omega arith));
+        heads = λ r h k. heads r h k ∙ rw (add-one, latest-suc-other (set rs n 0) r n (λ e. omega arith), latest-set rs r n n 0 (omega arith));
         nexts = λ i h k. by-last i n (λ j. 0 < getD (set rs n 0) j 0 → getD ns j 0 ≡ latest (set rs n 0) (getD (set rs n 0) j 0) j) (λ j m. old-nexts 0 i j m) (λ m. absurd (omega arith)) h k;
         once = λ i h k. by-last i n (λ j. 0 < getD (set rs n 0) j 0 → lastAnd (set ls n 0) (set rs n 0) (getD (set ls n 0) j 0) (getD (set rs n 0) j 0) j ≡ 0) (λ j m. old-once 0 0 i j m) (λ m. absurd (omega arith)) h k;
         ordered = record {
@@ -231,38 +264,39 @@ module _ (n : ℕ) (ls rs ns hs : List ℕ) (ix : Indexed n ls rs ns hs) (hl : n
         gates = λ i h k. by-last i n (λ j. 0 < getD (set rs n 0) j 0 → Ascending (getD (set ls n 0) j 0) (getD (set rs n 0) j 0)) (old-gates 0 0 i) (λ m. absurd (omega arith)) h k;
       }
 
-  module _ (l r : ℕ) (hn : n < length ns) (hh : r < length hs) (hm : length hs ≤ DOUBLE) (up : Ascending l r) where
+  module _ (l r : ℕ) (hn : n < length ns) (up : Ascending l r) (ha : l < n * 2) (hb : r < n * 2) where
     h0 : 0 < r
     h0 = omega (arith, up .1)
 
-    new-heads : (q : ℕ) → 0 < q → q < DOUBLE → getD (set hs r n) q 0 ≡ latest (set rs n r) q (n + 1)
+    new-heads : (q : ℕ) → 0 < q → q < (n + 1) * 2 → getD (set (openedHeads hs n) r n) q 0 ≡ latest (set rs n r) q (n + 1)
     new-heads q h k = go (eqb q r) refl
       where
-        go : (t : Bool) → eqb q r ≡ t → getD (set hs r n) q 0 ≡ latest (set rs n r) q (n + 1)
+        go : (t : Bool) → eqb q r ≡ t → getD (set (openedHeads hs n) r n) q 0 ≡ latest (set rs n r) q (n + 1)
         go true e =
-            rw (add-one, eqb-true q r e, getD-set-same hs r n 0 hh, latest-suc-same (set rs n r) r n (getD-set-same rs n r 0 hr))
+            ap (λ (k : ℕ). getD (set (openedHeads hs n) r n) k 0) (eqb-true q r e) ∙ getD-set-same (openedHeads hs n) r n 0 (simp length-set (omega arith))
+            ∙ rw (add-one, eqb-true q r e, latest-suc-same (set rs n r) r n (getD-set-same rs n r 0 hr))
         go false e =
             let z : getD (set rs n r) n 0 ≡ r = getD-set-same rs n r 0 hr in
-            getD-set-other hs r q n 0 (eqb-false q r e) ∙ ix .heads q h k
+            getD-set-other (openedHeads hs n) r q n 0 (eqb-false q r e) ∙ heads q h k
             ∙ rw (add-one, latest-suc-other (set rs n r) q n (λ x. eqb-false q r e (sym x ∙ z)), latest-set rs q n n r (omega arith))
 
-    new-next : getD (set ns n (getD hs r 0)) n 0 ≡ latest (set rs n r) (getD (set rs n r) n 0) n
+    new-next : getD (set ns n (getD (openedHeads hs n) r 0)) n 0 ≡ latest (set rs n r) (getD (set rs n r) n 0) n
     new-next =
-        rw (getD-set-same ns n (getD hs r 0) 0 hn, getD-set-same rs n r 0 hr, latest-set rs r n n r (omega arith)) (ix .heads r h0 (omega arith))
+        rw (getD-set-same ns n (getD (openedHeads hs n) r 0) 0 hn, getD-set-same rs n r 0 hr, latest-set rs r n n r (omega arith)) (heads r h0 (omega arith))
 
-    old-next : (i : ℕ) → i < n → 0 < getD (set rs n r) i 0 → getD (set ns n (getD hs r 0)) i 0 ≡ latest (set rs n r) (getD (set rs n r) i 0) i
-    old-next i h k = getD-set-other ns n i (getD hs r 0) 0 (λ e. omega arith) ∙ old-nexts r i h k
+    old-next : (i : ℕ) → i < n → 0 < getD (set rs n r) i 0 → getD (set ns n (getD (openedHeads hs n) r 0)) i 0 ≡ latest (set rs n r) (getD (set rs n r) i 0) i
+    old-next i h k = getD-set-other ns n i (getD (openedHeads hs n) r 0) 0 (λ e. omega arith) ∙ old-nexts r i h k
 
     new-once : lastAnd ls rs l r n ≡ 0 → lastAnd (set ls n l) (set rs n r) (getD (set ls n l) n 0) (getD (set rs n r) n 0) n ≡ 0
     new-once fresh = rw (getD-set-same ls n l 0 hl, getD-set-same rs n r 0 hr, last-set ls rs l r n n l r (omega arith)) fresh
 
     -- a conjunction that did not stand there begins the chain of its larger literal
-    pub indexed-and : l < n * 2 → r < n * 2 → lastAnd ls rs l r n ≡ 0 → Indexed (n + 1) (set ls n l) (set rs n r) (set ns n (getD hs r 0)) (set hs r n)
-    indexed-and ha hb fresh =
+    pub indexed-and : lastAnd ls rs l r n ≡ 0 → Indexed (n + 1) (set ls n l) (set rs n r) (set ns n (getD (openedHeads hs n) r 0)) (set (openedHeads hs n) r n)
+    indexed-and fresh =
         record {
           heads = new-heads;
           nexts = λ i h k.
-              by-last i n (λ j. 0 < getD (set rs n r) j 0 → getD (set ns n (getD hs r 0)) j 0 ≡ latest (set rs n r) (getD (set rs n r) j 0) j)
+              by-last i n (λ j. 0 < getD (set rs n r) j 0 → getD (set ns n (getD (openedHeads hs n) r 0)) j 0 ≡ latest (set rs n r) (getD (set rs n r) j 0) j)
               (old-next i) (λ _. new-next) h k;
           once = λ i h k.
               by-last i n (λ j. 0 < getD (set rs n r) j 0 → lastAnd (set ls n l) (set rs n r) (getD (set ls n l) j 0) (getD (set rs n r) j 0) j ≡ 0)

@@ -1,11 +1,11 @@
 -- The steps of the lookup over the words: from a chain's head on, each node in turn. Assumes nothing.
 use mathlib.Core.Path.{_≡_, refl, ap, sym, _∙_}
 use mathlib.Core.List.{List}
-use Prim.Native.Nat.{ℕ, zero, suc, _<_}
+use Prim.Native.Nat.{ℕ, zero, suc, _*_, _<_}
 use native.Mathlib.Omega.{arith}
 use lib.ListN.{getD}
 use borrow.Author.Tests.{eq-eqb, ne-eqb}
-use Rattle.words.specs.Layout.{DOUBLE, GRAPH-LHS, GRAPH-RHS, AND-NEXT, AND-HEADS}
+use Rattle.words.specs.Layout.{GRAPH-LHS, GRAPH-RHS, AND-NEXT, AND-HEADS}
 use Rattle.words.specs.Region.{region}
 use Rattle.model.specs.Lists.{position}
 use Rattle.model.specs.Aig.{isAnd}
@@ -50,7 +50,7 @@ module _ (n : ℕ) (w : List ℕ) (ready : Ready n w) (l r : ℕ) (h0 : 0 < r) w
       }
 
   -- the head
-  pub link-head : r < DOUBLE → (at : ℕ) → at ≡ getD (region AND-HEADS w) r 0 → Link w l r n at
+  pub link-head : r < n * 2 → (at : ℕ) → at ≡ getD (region AND-HEADS w) r 0 → Link w l r n at
   link-head h at e = link n at (ready .positive) (e ∙ ready .indexed .heads r h0 h)
 
   -- the node after one of the chain

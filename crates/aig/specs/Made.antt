@@ -1,22 +1,19 @@
 -- What an operation on the proof graph in lent words leaves: the model's graph and literal, the chains, and every other region as it was. Assumes nothing.
-use mathlib.Core.Path.{_≡_, refl, ap, sym, _∙_}
-use mathlib.Core.Bool.{Bool, true, false, _&&_, cond, or-comm}
+use mathlib.Core.Path.{_≡_, refl, ap, _∙_}
+use mathlib.Core.Bool.{Bool, true, _&&_, or-comm}
 use mathlib.Core.List.{List}
 use mathlib.Core.Option.{none}
 use Prim.Native.Nat.{ℕ, zero, suc, _+_, _*_, _≤_, _<_}
 use native.Mathlib.Omega.{arith}
-use lib.ListN.{length, getD, set}
-use lib.Seq.{getD-set-same}
-use lib.Dec.{eqb, ltb, leb}
-use borrow.Author.Tests.{ltb-true, ltb-false}
+use lib.ListN.{length, getD}
+use lib.Dec.{leb}
 use Rattle.facts.specs.Bools.{and-both}
 use Rattle.words.specs.Layout.{LENT, SMALL, DOUBLE, MOST-NODES, GRAPH-LHS, GRAPH-RHS, AND-NEXT, AND-HEADS}
-use Rattle.words.specs.Region.{region, apart, stored, cleared, stores, length-region, length-stored, length-cleared, read-out, sizeOf, stored-out}
-use Rattle.words.specs.Fill.{filled, getD-filled, getD-filled-past}
+use Rattle.words.specs.Region.{region, apart, stored, stores, length-region, length-stored, sizeOf, stored-out}
 use Rattle.model.specs.Lists.{snoc}
 use Rattle.model.specs.Aig.{Node, Variable, And, Built, new, variable, andFound}
 use Rattle.aig.specs.Graph.{nodeOf, nodesOf, graphAt, graphOf, nodes-more, length-graph, Ascending}
-use Rattle.aig.specs.Index.{Indexed, latest, lastAnd, indexed-variable, indexed-and}
+use Rattle.aig.specs.Index.{Indexed, lastAnd, indexed-leaf, indexed-and}
 
 -- ---- the frame
 
@@ -86,19 +83,23 @@ made-none k n w literal m ready below e =
 long-graph : (w : List ℕ) → LENT ≤ length w → (length (region GRAPH-LHS w) ≡ SMALL) × (length (region GRAPH-RHS w) ≡ SMALL) × (length (region AND-NEXT w) ≡ SMALL) × (length (region AND-HEADS w) ≡ DOUBLE)
 long-graph w h = (length-region GRAPH-LHS w (omega arith), length-region GRAPH-RHS w (omega arith), length-region AND-NEXT w (omega arith), length-region AND-HEADS w (omega arith))
 
--- the words after a new variable
-abbrev pub pushedVariable : List ℕ → ℕ → List ℕ
-pushedVariable w n = stored GRAPH-RHS (stored GRAPH-LHS w n 0) n 0
+-- the words with the chains of node n's two literals empty
+abbrev pub opened : List ℕ → ℕ → List ℕ
+opened w n = stored AND-HEADS (stored AND-HEADS w (n * 2) 0) (n * 2 + 1) 0
+
+-- the words after a new node without operands
+abbrev pub pushedLeaf : List ℕ → ℕ → List ℕ
+pushedLeaf w n = stored GRAPH-RHS (stored GRAPH-LHS (opened w n) n 0) n 0
 
 -- the words after a new conjunction: the head of its chain becomes its next
 abbrev pub pushedAnd : List ℕ → ℕ → ℕ → ℕ → List ℕ
 pushedAnd w n l r =
-    stored AND-HEADS (stored AND-NEXT (stored GRAPH-RHS (stored GRAPH-LHS w n l) n r) n (getD (region AND-HEADS (stored GRAPH-RHS (stored GRAPH-LHS w n l) n r)) r 0)) r n
+    let x = stored GRAPH-RHS (stored GRAPH-LHS (opened w n) n l) n r in stored AND-HEADS (stored AND-NEXT x n (getD (region AND-HEADS x) r 0)) r n
 
 -- the stores of a new conjunction, one after another
-pub pushed-is : (w w₁ w₂ w₃ w₄ : List ℕ) (n at chain head l r : ℕ) → at ≡ n → w₁ ≡ stored GRAPH-LHS w at l → w₂ ≡ stored GRAPH-RHS w₁ at r
+pub pushed-is : (w w₀ w₁ w₂ w₃ w₄ : List ℕ) (n at chain head l r : ℕ) → w₀ ≡ opened w n → at ≡ n → w₁ ≡ stored GRAPH-LHS w₀ at l → w₂ ≡ stored GRAPH-RHS w₁ at r
     → chain ≡ r → head ≡ getD (region AND-HEADS w₂) chain 0 → w₃ ≡ stored AND-NEXT w₂ at head → w₄ ≡ stored AND-HEADS w₃ chain n → w₄ ≡ pushedAnd w n l r
-pushed-is w w₁ w₂ w₃ w₄ n at chain head l r p a b q h c d = cc
+pushed-is w w₀ w₁ w₂ w₃ w₄ n at chain head l r o p a b q h c d = cc
 
 variable-of : (i : ℕ) → 0 < i → nodeOf i 0 0 ≡ Variable i
 unfolding nodeOf
@@ -112,30 +113,30 @@ and-of (suc i) l zero h k = absurd (omega arith)
 and-of (suc i) l (suc r) h k = refl
 
 module _ (n : ℕ) (w : List ℕ) (ready : Ready n w) (room : n < MOST-NODES) where
-  graph-variable : graphOf (n + 1) (pushedVariable w n) ≡ snoc (graphOf n w) (Variable n)
+  graph-variable : graphOf (n + 1) (pushedLeaf w n) ≡ snoc (graphOf n w) (Variable n)
   unfolding graphAt
   graph-variable =
       let s = long-graph w (ready .long) in
       simp stores (nodes-more n (region GRAPH-LHS w) (region GRAPH-RHS w) 0 0 (omega arith) (omega arith)
       ∙ ap (λ (x : Node). snoc (nodesOf n (region GRAPH-LHS w) (region GRAPH-RHS w)) x) (variable-of n (ready .positive)))
 
-  ready-variable : Ready (n + 1) (pushedVariable w n)
+  ready-variable : Ready (n + 1) (pushedLeaf w n)
   ready-variable =
       let s = long-graph w (ready .long) in
       record {
         positive = omega arith;
         long = simp length-stored (ready .long);
-        indexed = simp stores (indexed-variable n _ _ _ _ (ready .indexed) (omega arith) (omega arith));
+        indexed = simp stores (indexed-leaf n _ _ _ _ (ready .indexed) (omega arith) (omega arith) (omega arith));
       }
 
   -- a new variable
-  pub made-variable : Made 1 n w (n + 1) (pushedVariable w n) (n * 2) (variable (graphOf n w))
+  pub made-variable : Made 1 n w (n + 1) (pushedLeaf w n) (n * 2) (variable (graphOf n w))
   unfolding variable
   made-variable =
       record {
         built = rw (graph-variable, length-graph);
         ready = ready-variable;
-        same = record { at = λ b e. let q = outside-parts b e in simp (stores, q .0, q .1) };
+        same = record { at = λ b e. let q = outside-parts b e in simp (stores, q .0, q .1, q .3) };
         grows = omega arith;
         within = omega arith;
         below = omega arith;
@@ -158,7 +159,7 @@ module _ (n : ℕ) (w : List ℕ) (ready : Ready n w) (room : n < MOST-NODES) wh
         record {
           positive = omega arith;
           long = simp length-stored (ready .long);
-          indexed = simp stores (indexed-and n _ _ _ _ (ready .indexed) (omega arith) (omega arith) l r (omega arith) (omega arith) (omega arith) up hl hr fresh);
+          indexed = simp stores (indexed-and n _ _ _ _ (ready .indexed) (omega arith) (omega arith) (omega arith) l r (omega arith) up hl hr fresh);
         }
 
     -- a new conjunction
@@ -176,54 +177,32 @@ module _ (n : ℕ) (w : List ℕ) (ready : Ready n w) (room : n < MOST-NODES) wh
 
 -- ---- the empty graph
 
-latest-one : (rs : List ℕ) (r : ℕ) → latest rs r 1 ≡ 0
-unfolding latest
-latest-one rs r = go (eqb (getD rs 0 0) r)
-  where
-    go : (t : Bool) → _≡_ {A = ℕ} (cond t 0 0) 0
-    go true = refl
-    go false = refl
-
--- the words after emptying: the chains cleared, and node 0 the constant
-abbrev pub emptied : List ℕ → List ℕ
-emptied w = stored GRAPH-RHS (stored GRAPH-LHS (cleared AND-HEADS w DOUBLE) 0 0) 0 0
+-- no node, no chain
+none-indexed : (ls rs ns hs : List ℕ) → Indexed 0 ls rs ns hs
+none-indexed ls rs ns hs =
+    record {
+      heads = λ r h k. absurd (omega arith);
+      nexts = λ i h k. absurd (omega arith);
+      once = λ i h k. absurd (omega arith);
+      ordered = record { at = λ i h k. absurd (omega arith) };
+      gates = λ i h k. absurd (omega arith);
+    }
 
 module _ (w : List ℕ) (long : LENT ≤ length w) where
-  no-heads : (r : ℕ) → getD (filled 0 DOUBLE (region AND-HEADS w)) r 0 ≡ 0
-  no-heads r = go (ltb r DOUBLE) refl
-    where
-      go : (t : Bool) → ltb r DOUBLE ≡ t → getD (filled 0 DOUBLE (region AND-HEADS w)) r 0 ≡ 0
-      go true e = getD-filled 0 DOUBLE (region AND-HEADS w) r (ltb-true r DOUBLE e)
-      go false e = getD-filled-past 0 DOUBLE (region AND-HEADS w) r 0 (ltb-false r DOUBLE e) ∙ sym (read-out AND-HEADS w r (ltb-false r DOUBLE e))
-
-  one-indexed : (ls rs ns : List ℕ) → getD rs 0 0 ≡ 0 → Indexed 1 ls rs ns (filled 0 DOUBLE (region AND-HEADS w))
-  one-indexed ls rs ns z =
-      record {
-        heads = λ r h k. no-heads r ∙ sym (latest-one rs r);
-        nexts = λ i h k. absurd (ground i h k);
-        once = λ i h k. absurd (ground i h k);
-        ordered = record { at = λ i h k. absurd (ground i h k) };
-        gates = λ i h k. absurd (ground i h k);
-      }
-    where
-      ground : (i : ℕ) → i < 1 → 0 < getD rs i 0 → ⊥
-      ground zero h k = omega arith
-      ground (suc i) h k = omega arith
-
   -- the graph is node 0 alone
-  pub graph-new : graphOf 1 (emptied w) ≡ new
+  pub graph-new : graphOf 1 (pushedLeaf w 0) ≡ new
   unfolding graphAt nodesOf nodeOf new snoc
   graph-new = refl
 
   -- and the words are ready for it
-  pub ready-new : Ready 1 (emptied w)
+  pub ready-new : Ready 1 (pushedLeaf w 0)
   ready-new =
       let s = long-graph w long in
       record {
         positive = omega arith;
-        long = simp (length-stored, length-cleared) long;
-        indexed = simp stores (one-indexed _ (set (region GRAPH-RHS w) 0 0) _ (getD-set-same (region GRAPH-RHS w) 0 0 0 (omega arith)));
+        long = simp length-stored long;
+        indexed = simp stores (indexed-leaf 0 (region GRAPH-LHS w) (region GRAPH-RHS w) (region AND-NEXT w) (region AND-HEADS w) (none-indexed _ _ _ _) (omega arith) (omega arith) (omega arith));
       }
 
-  pub same-new : Same outside w (emptied w)
+  pub same-new : Same outside w (pushedLeaf w 0)
   same-new = record { at = λ b e. let q = outside-parts b e in simp (stores, q .0, q .1, q .3) }

@@ -5,7 +5,6 @@ ghost use Prim.Native.Nat.{_+_, _*_, _≤_, _<_};
 ghost use lib.ListN.{length, take};
 ghost use Rattle.words.specs.Layout.{LENT, MOST-NODES, VALUES};
 ghost use Rattle.words.specs.Region.{region};
-ghost use Rattle.model.specs.Literal.{node, inverted, negate};
 ghost use Rattle.model.specs.Lists.{position};
 ghost use Rattle.model.specs.Aig.{isAnd, new, variable, andFound, andShortcut, and, or, xorShortcut, xor, muxShortcut, mux, evaluate};
 ghost use mathlib.Core.Option.{none};
@@ -13,7 +12,8 @@ ghost use Rattle.aig.specs.Shortcut.{shortcutOf};
 ghost use Rattle.aig.specs.Graph.{graphOf, Ascending};
 ghost use Rattle.aig.specs.Index.{place};
 ghost use Rattle.aig.specs.Operations.{orOfAnds, isTrue};
-ghost use Rattle.aig.specs.Made.{Ready, Same, Made, outside};
+ghost use Rattle.aig.specs.Made.{Ready, Same, Made, outside, opened, pushedLeaf};
+use literals::Literal;
 use words::AND_HEADS;
 use words::AND_NEXT;
 use words::DOUBLE;
@@ -21,49 +21,9 @@ use words::GRAPH_LHS;
 use words::GRAPH_RHS;
 use words::SMALL;
 use words::VALUES;
-use words::clear;
 use words::fetch;
 use words::stash;
 use words::wide;
-
-// A node with a sign: twice the node's number, plus one if inverted.
-pub struct Literal(pub u32);
-
-impl Literal {
-    // Node 0 is the constant false.
-    pub const FALSE: Literal = Literal(0);
-    // Node 0 inverted.
-    pub const TRUE: Literal = Literal(1);
-
-    // The literal of a node, not inverted.
-    pub fn of(node: u32) -> Literal
-        requires { ⌜ node ≤ MOST-NODES ⌝ }
-        ensures { λ r. ⌜ r .0 ≡ node * 2 ⌝ }
-    {
-        Literal(node << 1)
-    }
-
-    // The number of its node.
-    pub fn node(self) -> u32
-        ensures { λ r. ⌜ r ≡ node (self .0) ⌝ }
-    {
-        self.0 >> 1
-    }
-
-    // Whether it is inverted.
-    pub fn inverted(self) -> bool
-        ensures { λ r. ⌜ r ≡ inverted (self .0) ⌝ }
-    {
-        self.0 & 1 == 1
-    }
-
-    // The same node with the other sign.
-    pub fn negate(self) -> Literal
-        ensures { λ r. ⌜ r .0 ≡ negate (self .0) ⌝ }
-    {
-        Literal(self.0 ^ 1)
-    }
-}
 
 // The graph: how many nodes it has, node 0 among them; the nodes lie in the words.
 pub struct Aig {
@@ -76,15 +36,34 @@ pub struct Built {
     pub literal: Literal,
 }
 
+// Empties the chains of a node's two literals, which no node has yet.
+fn open_chains(words: &mut [u32], node: u32)
+    requires { ⌜ LENT ≤ length (now words) ⌝ }
+    ensures { λ _. ⌜ (now (words .exit) ≡ opened (now (words .entry)) node) × (LENT ≤ length (now (words .exit))) ⌝ }
+{
+    let literal = wide(node) * 2;
+    stash(words, AND_HEADS, DOUBLE, literal, 0);
+    stash(words, AND_HEADS, DOUBLE, literal + 1, 0);
+}
+
+// Writes a node without operands: the constant or a variable.
+fn write_leaf(words: &mut [u32], node: u32)
+    requires { ⌜ LENT ≤ length (now words) ⌝ }
+    ensures { λ _. ⌜ now (words .exit) ≡ pushedLeaf (now (words .entry)) node ⌝ }
+{
+    open_chains(words, node);
+    let at = wide(node);
+    stash(words, GRAPH_LHS, SMALL, at, 0);
+    stash(words, GRAPH_RHS, SMALL, at, 0);
+}
+
 impl Aig {
-    // The graph with node 0 alone, whatever graph stood there before: the chains of all literals are cleared.
+    // The graph with node 0 alone, whatever graph stood there before: its words stay and are not read.
     pub fn new(words: &mut [u32]) -> Aig
         requires { ⌜ LENT ≤ length (now words) ⌝ }
         ensures { λ r. ⌜ (r .count ≡ 1) × (graphOf 1 (now (words .exit)) ≡ new) × Ready 1 (now (words .exit)) × Same outside (now (words .entry)) (now (words .exit)) ⌝ }
     {
-        clear(words, AND_HEADS, DOUBLE, DOUBLE);
-        stash(words, GRAPH_LHS, SMALL, 0, 0);
-        stash(words, GRAPH_RHS, SMALL, 0, 0);
+        write_leaf(words, 0);
         Aig { count: 1 }
     }
 
@@ -94,9 +73,7 @@ impl Aig {
         ensures { λ r. ⌜ Made 1 (self .count) (now (words .entry)) (r .aig .count) (now (words .exit)) (r .literal .0) (variable (graphOf (self .count) (now (words .entry)))) ⌝ }
     {
         let count = self.count;
-        let at = wide(count);
-        stash(words, GRAPH_LHS, SMALL, at, 0);
-        stash(words, GRAPH_RHS, SMALL, at, 0);
+        write_leaf(words, count);
         Built {
             aig: Aig { count: count + 1 },
             literal: Literal::of(count),
@@ -105,7 +82,7 @@ impl Aig {
 
     // The node of an earlier pair, by the chain of its larger literal; 0 where there is none.
     fn earlier(self, words: &[u32], lhs: u32, rhs: u32) -> u32
-        requires { ⌜ Ready (self .count) (now words) × (0 < rhs) × (rhs < self .count * 2) × (self .count ≤ MOST-NODES) ⌝ }
+        requires { ⌜ Ready (self .count) (now words) × (0 < rhs) × (rhs < self .count * 2) ⌝ }
         ensures { λ r. ⌜ (place r ≡ position (isAnd lhs rhs) (graphOf (self .count) (now (words .entry)))) × (r < self .count) ⌝ }
     {
         let mut at = fetch(words, AND_HEADS, DOUBLE, wide(rhs));
@@ -124,6 +101,7 @@ impl Aig {
         ensures { λ r. ⌜ Made 1 (self .count) (now (words .entry)) (r .aig .count) (now (words .exit)) (r .literal .0) (andFound (graphOf (self .count) (now (words .entry))) (lhs .0) (rhs .0) none) ⌝ }
     {
         let count = self.count;
+        open_chains(words, count);
         let at = wide(count);
         stash(words, GRAPH_LHS, SMALL, at, lhs.0);
         stash(words, GRAPH_RHS, SMALL, at, rhs.0);

@@ -7,11 +7,12 @@ use lib.Dec.{ltb}
 use lib.ListN.{length, getD, replicate}
 use lib.Seq.{slice}
 use lib.Ieee.{Float}
-use Rattle.words.specs.Layout.{LENT, SMALL, POOL, SEEN, LEARNED, CLAUSE-STARTS, LITERALS}
+use Rattle.words.specs.Layout.{LENT, SMALL, POOL, SEEN, LEARNED, BLOCKS, CLAUSE-STARTS, LITERALS}
 use Rattle.words.specs.Region.{region}
 use Rattle.model.specs.Sat as Sat
 use Rattle.assignment.specs.State.{wordBit, column, assignmentOf, Unchanged, TrailReady}
 use Rattle.assignment.specs.Scores.{scoresOf, Fixed, Others}
+use Rattle.assignment.specs.Blocks.{Cached}
 use Rattle.assignment.specs.declared.state.Trail.{Trail}
 use Rattle.assignment.specs.declared.state.Activity.{Activity}
 use Rattle.analysis.specs.declared.state.Analysis.{Analysis}
@@ -40,9 +41,9 @@ saw t v a l = Sat.seeUnless t a l (Sat.skipped t v a l)
 
 -- ---- what is asked and promised
 
--- the regions of the analysis
+-- the regions that an analysis writes
 abbrev pub analysisRegions : List ℕ
-analysisRegions = SEEN ∷ LEARNED ∷ []
+analysisRegions = SEEN ∷ LEARNED ∷ BLOCKS ∷ []
 
 -- the words, the scores and the numbers are within the layout, with room for one more literal
 pub record Able (t : Trail) (a : Analysis) (w : List ℕ) (s : List Float) : Type 0 where
@@ -60,6 +61,7 @@ pub record Sees (more : ℕ) (t : Trail) (a : Analysis) (w : List ℕ) (s : List
   pub words : LENT ≤ length w′
   pub fixed : Fixed (r .activity)
   pub opened : r .open_at_level ≤ a .open_at_level + more
+  pub cached : Cached t w (a .activity) s → Cached t w′ (r .activity) s′
 
 -- ---- clauses
 
@@ -99,6 +101,7 @@ pub record Begins (t : Trail) (activity : Activity) (w : List ℕ) (r : Analysis
   pub opened : r .open_at_level ≡ 0
   pub frame : Unchanged analysisRegions w w′
   pub words : LENT ≤ length w′
+  pub cached : (s : List Float) → Cached t w activity s → Cached t w′ (r .activity) s
 
 -- of `close_pivot`
 pub record Closes (t : Trail) (a : Analysis) (w : List ℕ) (p : ℕ) (r : Analysis) (w′ : List ℕ) : Type 0 where
@@ -108,6 +111,7 @@ pub record Closes (t : Trail) (a : Analysis) (w : List ℕ) (p : ℕ) (r : Analy
   pub words : LENT ≤ length w′
   pub opened : r .open_at_level ≤ a .open_at_level
   pub learned : r .learned ≡ a .learned
+  pub cached : (s : List Float) → Cached t w (a .activity) s → Cached t w′ (r .activity) s
 
 -- the analysis ended, and what it learned fits its region
 abbrev pub Bounded : Sat.Resolution → Type 0
@@ -116,9 +120,10 @@ Bounded (Sat.resolved a p) = length (a .learned) < SMALL
 
 -- of `analyze`
 pub record Analyzes (count : ℕ) (t : Trail) (activity : Activity) (id : ℕ) (w : List ℕ) (s : List Float) (r : Analyzed) (w′ : List ℕ) (s′ : List Float) : Type 0 where
-  pub is : Sat.resolved (analysisOf t (r .analysis) w′ s′) (r .pivot) ≡ Sat.analyze (viewOf count t activity w s) id
+  pub is : Sat.resolved (analysisOf t (r .analysis) w′ s′) (r .pivot .0) ≡ Sat.analyze (viewOf count t activity w s) id
   pub frame : Unchanged analysisRegions w w′
   pub others : Others (t .variables) s s′
   pub words : LENT ≤ length w′
   pub fixed : Fixed (r .analysis .activity)
   pub room : r .analysis .learned < SMALL
+  pub cached : Cached t w activity s → Cached t w′ (r .analysis .activity) s′

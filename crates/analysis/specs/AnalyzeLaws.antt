@@ -3,7 +3,7 @@ use mathlib.Core.Path.{_≡_, refl, ap, sym, _∙_}
 use mathlib.Core.Bool.{Bool, true, false}
 use mathlib.Core.List.{List, []}
 use mathlib.Core.Logic.{⊎-elim}
-use Prim.Native.Nat.{ℕ, zero, suc, _+_, _-_, _*_, _/_, _<_, _≤_}
+use Prim.Native.Nat.{ℕ, zero, suc, _+_, _-_, _*_, _<_, _≤_}
 use native.Mathlib.Omega.{arith}
 use lib.Dec.{eqb}
 use borrow.Author.Tests.{lt-ltb, le-ltb, eq-eqb, ne-eqb}
@@ -13,11 +13,13 @@ use lib.Ieee.{Float}
 use Rattle.facts.specs.Numbers.{below}
 use Rattle.words.specs.Layout.{LENT, SMALL, POOL, CLAUSE-STARTS, LITERALS}
 use Rattle.words.specs.Region.{region}
+use Rattle.literals.specs.declared.Literal.{Literal}
 use Rattle.model.specs.Literal as Literals
 use Rattle.model.specs.Sat as Sat
 use Rattle.assignment.specs.State.{assignmentOf, Unchanged, TrailReady}
 use Rattle.assignment.specs.StateLaws.{unchanged-none, unchanged-both, assignment-kept, variables-are, trail-length}
 use Rattle.assignment.specs.Scores.{scoresOf, Fixed, Others}
+use Rattle.assignment.specs.Blocks.{Cached}
 use Rattle.assignment.specs.ScoreLaws.{others-none, others-both}
 use Rattle.assignment.specs.declared.state.Trail.{Trail}
 use Rattle.assignment.specs.declared.state.Activity.{Activity}
@@ -161,6 +163,7 @@ module _ (count : ℕ) (t : Trail) (conflict : ℕ) (activity : Activity) (w₀ 
     pub frame : Unchanged analysisRegions w₀ w
     pub others : Others (t .variables) s₀ s
     pub opened : a .open_at_level + rounds * POOL ≤ SMALL * POOL
+    pub cached : Cached t w₀ activity s₀ → Cached t w (a .activity) s
     pub bounded : Bounded (Sat.analyze S conflict)
     pub left : Sat.resolveRounds rounds S (Sat.resolving (analysisOf t a w s) i id v) ≡ Sat.analyze S conflict
 
@@ -229,9 +232,9 @@ module _ (count : ℕ) (t : Trail) (conflict : ℕ) (activity : Activity) (w₀ 
       unfolding Sat.resolveNext
       round-done z = sym (rounds-resolved (rounds - 1) (analysisOf t a₂ w₂ s₁) p) ∙ ap (λ (r : Sat.Resolution). Sat.resolveRounds (rounds - 1) S r) (sym (round-is ∙ rw (eq-eqb (a₂ .open_at_level) 0 z))) ∙ next-left
 
-      pub round-more : (k u : ℕ) → (a₂ .open_at_level ≡ 0 → ⊥) → u ≡ p / 2 → k ≡ Sat.reasonOf (assignmentOf t w₂) u → length w₁ ≡ length w → length w₂ ≡ length w₁ → LENT ≤ length w₂
+      pub round-more : (k u : ℕ) → (a₂ .open_at_level ≡ 0 → ⊥) → u ≡ Literals.node p → k ≡ Sat.reasonOf (assignmentOf t w₂) u → length w₁ ≡ length w → length w₂ ≡ length w₁ → LENT ≤ length w₂
           → Resolving a₂ w₂ s₁ j k u (rounds - 1)
-      unfolding Sat.resolveNext Literals.node
+      unfolding Sat.resolveNext
       round-more k u n d r l₁ l₂ x =
           let y = g .able .ready in
           record {
@@ -247,6 +250,7 @@ module _ (count : ℕ) (t : Trail) (conflict : ℕ) (activity : Activity) (w₀ 
             frame = frame₂;
             others = others-both (t .variables) (g .others) (q .others);
             opened = omega (arith, c .opened, q .opened, g .opened, round-some);
+            cached = λ k. c .cached s₁ (q .cached (g .cached k));
             bounded = g .bounded;
             left = rw (r, d, assignment-is frame₂) (ap (λ (z : Sat.Resolution). Sat.resolveRounds (rounds - 1) S z) (sym (round-is ∙ rw (ne-eqb (a₂ .open_at_level) 0 n))) ∙ next-left);
           }
@@ -268,6 +272,7 @@ module _ (count : ℕ) (t : Trail) (conflict : ℕ) (activity : Activity) (w₀ 
         frame = unchanged-none analysisRegions w₀;
         others = others-none (t .variables) s₀;
         opened = omega (arith, r .literals);
+        cached = λ c. rw e c;
         bounded = b;
         left = rw (resolving-first a r e f g h, view-assignment, trail-length t w₀ r);
       }
@@ -285,16 +290,17 @@ module _ (count : ℕ) (t : Trail) (conflict : ℕ) (activity : Activity) (w w�
       resolving-start count t conflict (r .activity) w₀ s₀ r (record { words = b .words; variables = y .variables; literals = y .literals; levels = y .levels }) k (rw (b .scores) f) refl (b .seen) (b .learned)
       (b .opened) (rw same-goal x)
 
-  module _ {a a₁ a₂ : Analysis} {w₁ w₂ w₃ : List ℕ} {s s₁ : List Float} {i id v rounds : ℕ} (g : Resolving count t conflict (r .activity) w₀ s₀ a w₁ s i id v rounds) (j p : ℕ)
+  module _ {a a₁ a₂ : Analysis} {w₁ w₂ w₃ : List ℕ} {s s₁ : List Float} {i id v rounds : ℕ} (g : Resolving count t conflict (r .activity) w₀ s₀ a w₁ s i id v rounds) (j : ℕ) (p : Literal)
       (q : Sees POOL t a w₁ s (Sat.seeLiterals (assignmentOf t w₁) v (analysisOf t a w₁ s) (literalsAt count w₁ id)) a₁ w₂ s₁)
-      (m : j ≡ Sat.pivotIndex (assignmentOf t w₂) (seenOf t w₂) i) (e : p ≡ getD (assignmentOf t w₂ .trail) j 0) (c : Closes t a₁ w₂ p a₂ w₃) where
+      (m : j ≡ Sat.pivotIndex (assignmentOf t w₂) (seenOf t w₂) i) (e : p .0 ≡ getD (assignmentOf t w₂ .trail) j 0) (c : Closes t a₁ w₂ (p .0) a₂ w₃) where
     pub analyzes : a₂ .open_at_level ≡ 0 → Analyzes count t activity conflict w s₀ (record { analysis = a₂; pivot = p }) w₃ s₁
     analyzes z =
         record {
-          is = round-done count t conflict (r .activity) w₀ s₀ g j p q m e c z ∙ same-goal;
+          is = round-done count t conflict (r .activity) w₀ s₀ g j (p .0) q m e c z ∙ same-goal;
           frame = unchanged-both analysisRegions (b .frame) (unchanged-both analysisRegions (g .frame) (unchanged-both analysisRegions (q .frame) (c .frame)));
           others = others-both (t .variables) (g .others) (q .others);
           words = c .words;
           fixed = rw (c .same) (q .fixed);
           room = omega (arith, c .learned, round-room count t conflict (r .activity) w₀ s₀ g, ap (λ (z : Sat.Analysis). length (z .learned)) (q .is), learned-length t a₁ w₂ s₁ (q .words));
+          cached = λ k. c .cached s₁ (q .cached (g .cached (b .cached s₀ k)));
         }

@@ -4,7 +4,7 @@ use mathlib.Core.Bool.{true, false}
 use mathlib.Core.List.{List, [], _∷_}
 use mathlib.Core.Option.{none}
 use mathlib.Core.Logic.{⊎-elim}
-use Prim.Native.Nat.{ℕ, zero, suc, _+_, _-_, _/_, _<_, _≤_, min}
+use Prim.Native.Nat.{ℕ, zero, suc, _+_, _-_, _<_, _≤_, min}
 use native.Mathlib.Omega.{arith}
 use borrow.Author.Tests.{lt-ltb, le-ltb}
 use lib.ListN.{length, getD, List·getD-map}
@@ -18,6 +18,7 @@ use Rattle.model.specs.Sat as Sat
 use Rattle.assignment.specs.State.{wordBit, wordReason, column, assignmentOf, TrailReady, Cleared}
 use Rattle.assignment.specs.StateLaws.{bit-true, unchanged-none, unchanged-stored, unchanged-within}
 use Rattle.assignment.specs.DecideLaws.{map-replicate}
+use Rattle.assignment.specs.KnownLaws.{cached-kept}
 use Rattle.assignment.specs.declared.state.Trail.{Trail}
 use Rattle.assignment.specs.declared.state.Activity.{Activity}
 use Rattle.analysis.specs.declared.state.Analysis.{Analysis}
@@ -67,9 +68,9 @@ reason-is t w v k e = reason-word (assignmentOf t w) v k (rw e (reasons-are t w 
 
 -- ---- the pivot closed
 
-pub closes : (t : Trail) (a : Analysis) (w w′ : List ℕ) (p v n : ℕ) → TrailReady t w → v ≡ p / 2 → n ≡ a .open_at_level - 1 → w′ ≡ stored SEEN w v 0 → LENT ≤ length w′
+pub closes : (t : Trail) (a : Analysis) (w w′ : List ℕ) (p v n : ℕ) → TrailReady t w → v ≡ Literals.node p → n ≡ a .open_at_level - 1 → w′ ≡ stored SEEN w v 0 → LENT ≤ length w′
     → Closes t a w p (record { activity = a .activity; learned = a .learned; open_at_level = n }) w′
-unfolding analysisOf Sat.closePivot Literals.node wordBit
+unfolding analysisOf Sat.closePivot wordBit
 closes t a w w′ p v n r e f g k =
     record {
       is = λ s. rw (g, mark-is t w v 0, e, f) (simp stores);
@@ -78,6 +79,7 @@ closes t a w w′ p v n r e f g k =
       words = k;
       opened = omega arith;
       learned = refl;
+      cached = λ s. cached-kept (SEEN ∷ []) t (a .activity) s refl (unchanged-stored (SEEN ∷ []) SEEN _ _ refl (unchanged-none (SEEN ∷ []) w) g);
     }
 
 -- ---- the start
@@ -92,6 +94,7 @@ begins t activity w w′ c =
       opened = refl;
       frame = unchanged-within (SEEN ∷ []) analysisRegions refl (c .frame);
       words = c .words;
+      cached = λ s. cached-kept (SEEN ∷ []) t activity s refl (c .frame);
     }
 
 -- ---- the pivot found
@@ -110,12 +113,11 @@ module _ (t : Trail) (w : List ℕ) where
   pivot-none i e = rw e
 
   -- whether the literal at a place is seen
-  seen-at : (i k v m : ℕ) → k ≡ getD (column (t .length) TRAIL w) i 0 → v ≡ k / 2 → m ≡ getD (column (t .variables) SEEN w) v 0
+  seen-at : (i k v m : ℕ) → k ≡ getD (column (t .length) TRAIL w) i 0 → v ≡ Literals.node k → m ≡ getD (column (t .variables) SEEN w) v 0
       → getD (seenOf t w) (Literals.node (getD (assignmentOf t w .trail) i 0)) false ≡ wordBit m
-  unfolding Literals.node
   seen-at i k v m e d f = rw (trail-is t w, ← e, ← d, f) (seen-is t w v)
 
-  pub pivot-back : (i k v m : ℕ) → (i ≡ 0 → ⊥) → k ≡ getD (column (t .length) TRAIL w) (i - 1) 0 → v ≡ k / 2 → m ≡ getD (column (t .variables) SEEN w) v 0 → m ≡ 0
+  pub pivot-back : (i k v m : ℕ) → (i ≡ 0 → ⊥) → k ≡ getD (column (t .length) TRAIL w) (i - 1) 0 → v ≡ Literals.node k → m ≡ getD (column (t .variables) SEEN w) v 0 → m ≡ 0
       → pivotFrom t w (i - 1) ≡ pivotFrom t w i
   unfolding Sat.pivotIndex wordBit
   pivot-back zero k v m n e d f z = absurd (n refl)
@@ -124,7 +126,7 @@ module _ (t : Trail) (w : List ℕ) where
       let y : getD (seenOf t w) (Literals.node (getD (assignmentOf t w .trail) i 0)) false ≡ false = seen-at i k v m (rw x at e) d f ∙ ap wordBit z in
       rw (x, y, Sat.pivotIndex)
 
-  pub pivot-here : (i k v m : ℕ) → (i ≡ 0 → ⊥) → k ≡ getD (column (t .length) TRAIL w) (i - 1) 0 → v ≡ k / 2 → m ≡ getD (column (t .variables) SEEN w) v 0 → (m ≡ 0 → ⊥)
+  pub pivot-here : (i k v m : ℕ) → (i ≡ 0 → ⊥) → k ≡ getD (column (t .length) TRAIL w) (i - 1) 0 → v ≡ Literals.node k → m ≡ getD (column (t .variables) SEEN w) v 0 → (m ≡ 0 → ⊥)
       → i - 1 ≡ pivotFrom t w i
   unfolding Sat.pivotIndex
   pivot-here zero k v m n e d f z = absurd (n refl)
@@ -138,6 +140,6 @@ module _ (t : Trail) (w : List ℕ) where
     pub met-none : (j p q : ℕ) → i ≡ 0 → j ≡ i → q ≡ getD (column (t .length) TRAIL w) 0 0 → p ≡ q → (j ≡ pivotFrom t w o) × (p ≡ getD (assignmentOf t w .trail) j 0)
     met-none j p q z e f g = (e ∙ z ∙ pivot-none i z ∙ inv, g ∙ f ∙ rw (trail-is t w, e, z))
 
-    pub met-here : (j p k v m : ℕ) → (i ≡ 0 → ⊥) → k ≡ getD (column (t .length) TRAIL w) (i - 1) 0 → v ≡ k / 2 → m ≡ getD (column (t .variables) SEEN w) v 0 → (m ≡ 0 → ⊥) → j ≡ i - 1 → p ≡ k
+    pub met-here : (j p k v m : ℕ) → (i ≡ 0 → ⊥) → k ≡ getD (column (t .length) TRAIL w) (i - 1) 0 → v ≡ Literals.node k → m ≡ getD (column (t .variables) SEEN w) v 0 → (m ≡ 0 → ⊥) → j ≡ i - 1 → p ≡ k
         → (j ≡ pivotFrom t w o) × (p ≡ getD (assignmentOf t w .trail) j 0)
     met-here j p k v m n e d f z x y = (x ∙ pivot-here i k v m n e d f z ∙ inv, y ∙ e ∙ rw (trail-is t w, x))

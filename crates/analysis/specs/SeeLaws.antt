@@ -2,7 +2,7 @@
 use mathlib.Core.Path.{_≡_, refl, ap, sym, _∙_}
 use mathlib.Core.Bool.{Bool, true, false}
 use mathlib.Core.List.{List, [], _∷_}
-use Prim.Native.Nat.{ℕ, _+_, _/_, _<_, _≤_, max, min}
+use Prim.Native.Nat.{ℕ, _+_, _<_, _≤_, max, min}
 use native.Mathlib.Omega.{arith}
 use native.Mathlib.Numerals.{add-one}
 use lib.Dec.{eqb}
@@ -10,15 +10,17 @@ use borrow.Author.Tests.{eq-eqb, ne-eqb}
 use lib.ListN.{length, take, set, getD, List·getD-map, length-append, length-take, drop-of-length-le}
 use lib.Seq.{slice, slice-cons}
 use lib.Ieee.{Float}
-use Rattle.words.specs.Layout.{LENT, SMALL, POOL, LEVELS, SEEN, LEARNED, LITERALS}
+use Rattle.words.specs.Layout.{LENT, SMALL, POOL, LEVELS, SEEN, LEARNED, BLOCKS, LITERALS}
 use Rattle.words.specs.Region.{region, stored, stores, stored-out, length-region}
 use Rattle.model.specs.Literal as Literals
 use Rattle.model.specs.Lists as Lists
 use Rattle.model.specs.Sat as Sat
 use Rattle.assignment.specs.State.{wordBit, column, assignmentOf, Unchanged}
-use Rattle.assignment.specs.StateLaws.{bit-true, take-set, map-set, set-end, unchanged-none, unchanged-both, unchanged-stored, assignment-kept, level-is}
+use Rattle.assignment.specs.StateLaws.{bit-true, take-set, map-set, set-end, unchanged-none, unchanged-both, unchanged-within, unchanged-stored, assignment-kept, level-is}
 use Rattle.assignment.specs.ScoreLaws.{others-none, others-both}
-use Rattle.assignment.specs.Scores.{Others, Bumps}
+use Rattle.assignment.specs.Scores.{Others}
+use Rattle.assignment.specs.Blocks.{Cached, Bumps}
+use Rattle.assignment.specs.KnownLaws.{cached-kept}
 use Rattle.assignment.specs.declared.state.Trail.{Trail}
 use Rattle.assignment.specs.declared.state.Activity.{Activity}
 use Rattle.analysis.specs.declared.state.Analysis.{Analysis}
@@ -36,18 +38,18 @@ pub levels-are : (t : Trail) (w : List ℕ) → assignmentOf t w .levels ≡ col
 unfolding assignmentOf
 levels-are t w = refl
 
-module _ (t : Trail) (w : List ℕ) (resolved l v : ℕ) (k : v ≡ l / 2) (a : Sat.Analysis) (e : a .seen ≡ seenOf t w) where
+module _ (t : Trail) (w : List ℕ) (resolved l v : ℕ) (k : v ≡ Literals.node l) (a : Sat.Analysis) (e : a .seen ≡ seenOf t w) where
   pub skips-resolved : v ≡ resolved → true ≡ Sat.skipped (assignmentOf t w) resolved a l
-  unfolding Sat.skipped Literals.node
+  unfolding Sat.skipped
   skips-resolved h = rw (← k, eq-eqb v resolved h)
 
   module _ (n : v ≡ resolved → ⊥) (m : ℕ) (f : m ≡ getD (column (t .variables) SEEN w) v 0) where
     pub skips-seen : (m ≡ 0 → ⊥) → true ≡ Sat.skipped (assignmentOf t w) resolved a l
-    unfolding Sat.skipped Literals.node
+    unfolding Sat.skipped
     skips-seen h = rw (← k, ne-eqb v resolved n, e, seen-is t w v, ← f, bit-true m h)
 
     pub skips-level : m ≡ 0 → (d : ℕ) → d ≡ getD (column (t .variables) LEVELS w) v 0 → eqb d 0 ≡ Sat.skipped (assignmentOf t w) resolved a l
-    unfolding Sat.skipped Literals.node wordBit
+    unfolding Sat.skipped wordBit
     skips-level z d g = rw (← k, ne-eqb v resolved n, e, seen-is t w v, ← f, z, levels-are t w, ← g)
 
 -- ---- a variable seen
@@ -61,39 +63,52 @@ seen-kept : (t : Trail) (w : List ℕ) (i x : ℕ) → seenOf t (stored LEARNED 
 unfolding seenOf
 seen-kept t w i x = simp stores
 
-module _ (t : Trail) (a : Analysis) (l v : ℕ) {w w₁ : List ℕ} {s s₁ : List Float} {r : Activity} (able : Able t a w s) (k : v ≡ l / 2)
-    (b : Bumps (t .variables) (a .activity) v s r s₁) (e₁ : w₁ ≡ stored SEEN w v 1) (d : ℕ) (f : d ≡ getD (column (t .variables) LEVELS w₁) v 0) where
+module _ (t : Trail) (a : Analysis) (l v : ℕ) {w w₀ w₁ : List ℕ} {s s₁ : List Float} {r : Activity} (able : Able t a w s) (k : v ≡ Literals.node l)
+    (b : Bumps t (a .activity) v w s r w₀ s₁) (e₁ : w₁ ≡ stored SEEN w₀ v 1) (d : ℕ) (f : d ≡ getD (column (t .variables) LEVELS w₁) v 0) where
   -- the level that was read is the variable's
-  level-here : getD (assignmentOf t w .levels) (l / 2) 0 ≡ d
-  level-here = sym (f ∙ ap (λ (x : List ℕ). getD (take (t .variables) x) v 0) (ap (λ (u : List ℕ). region LEVELS u) e₁ ∙ stored-out LEVELS w SEEN v 1 refl) ∙ ap (λ (x : List ℕ). getD x v 0) (sym (levels-are t w)) ∙ ap (λ (u : ℕ). getD (assignmentOf t w .levels) u 0) k)
+  level-here : getD (assignmentOf t w .levels) (Literals.node l) 0 ≡ d
+  level-here = sym (f ∙ ap (λ (x : List ℕ). getD (take (t .variables) x) v 0) (ap (λ (u : List ℕ). region LEVELS u) e₁ ∙ stored-out LEVELS w₀ SEEN v 1 refl ∙ b .frame .same LEVELS refl) ∙ ap (λ (x : List ℕ). getD x v 0) (sym (levels-are t w)) ∙ ap (λ (u : ℕ). getD (assignmentOf t w .levels) u 0) k)
+
+  -- a bump leaves the marks
+  marks-before : seenOf t w₀ ≡ seenOf t w
+  unfolding seenOf
+  marks-before = rw (b .frame .same SEEN refl)
+
+  frame-before : Unchanged analysisRegions w w₀
+  frame-before = unchanged-within (BLOCKS ∷ []) analysisRegions refl (b .frame)
+
+  marked-cached : Cached t w (a .activity) s → Cached t w₁ r s₁
+  marked-cached c = cached-kept (SEEN ∷ []) t r s₁ refl (unchanged-stored (SEEN ∷ []) SEEN _ _ refl (unchanged-none (SEEN ∷ []) w₀) e₁) (b .cached c)
 
   pub sees-open : d ≡ t .level → LENT ≤ length w₁
       → Sees 1 t a w s (Sat.seeUnless (assignmentOf t w) (analysisOf t a w s) l false) (record { activity = r; learned = a .learned; open_at_level = a .open_at_level + 1 }) w₁ s₁
-  unfolding analysisOf Sat.seeUnless Sat.seeVariable Literals.node wordBit
+  unfolding analysisOf Sat.seeUnless Sat.seeVariable wordBit
   sees-open h x =
       let lv : Sat.decisionLevel (assignmentOf t w) ≡ t .level = level-is t w (able .ready) in
       record {
-        is = rw (lv, level-here, eq-eqb d (t .level) h, e₁, mark-is t w v 1, b .is, k, add-one) (simp stores);
-        frame = unchanged-stored analysisRegions SEEN _ _ refl (unchanged-none analysisRegions w) e₁;
-        others = b .others;
+        is = rw (lv, level-here, eq-eqb d (t .level) h, e₁, mark-is t w₀ v 1, marks-before, b .scores .is, k, add-one) (simp (stores, b .frame .same LEARNED refl));
+        frame = unchanged-stored analysisRegions SEEN _ _ refl frame-before e₁;
+        others = b .scores .others;
         words = x;
-        fixed = b .fixed;
+        fixed = b .scores .fixed;
         opened = omega arith;
+        cached = marked-cached;
       }
 
   pub sees-learned : (w₂ : List ℕ) → (d ≡ t .level → ⊥) → w₂ ≡ stored LEARNED w₁ (a .learned) l → LENT ≤ length w₁ → LENT ≤ length w₂
       → Sees 1 t a w s (Sat.seeUnless (assignmentOf t w) (analysisOf t a w s) l false) (record { activity = r; learned = a .learned + 1; open_at_level = a .open_at_level }) w₂ s₁
-  unfolding analysisOf Sat.seeUnless Sat.seeVariable Literals.node wordBit Lists.snoc
+  unfolding analysisOf Sat.seeUnless Sat.seeVariable wordBit Lists.snoc
   sees-learned w₂ h e₂ y x =
       let q : LEARNED + SMALL ≤ length w = omega (arith, able .ready .words) in
       let lv : Sat.decisionLevel (assignmentOf t w) ≡ t .level = level-is t w (able .ready) in
       record {
-        is = rw (lv, level-here, ne-eqb d (t .level) h, e₂, seen-kept t w₁ (a .learned) l, e₁, mark-is t w v 1, b .is, k) (simp (stores, take-set, set-end LEARNED w (a .learned) l (able .room) q));
-        frame = unchanged-stored analysisRegions LEARNED _ _ refl (unchanged-stored analysisRegions SEEN _ _ refl (unchanged-none analysisRegions w) e₁) e₂;
-        others = b .others;
+        is = rw (lv, level-here, ne-eqb d (t .level) h, e₂, seen-kept t w₁ (a .learned) l, e₁, mark-is t w₀ v 1, marks-before, b .scores .is, k) (simp (stores, b .frame .same LEARNED refl, take-set, set-end LEARNED w (a .learned) l (able .room) q));
+        frame = unchanged-stored analysisRegions LEARNED _ _ refl (unchanged-stored analysisRegions SEEN _ _ refl frame-before e₁) e₂;
+        others = b .scores .others;
         words = x;
-        fixed = b .fixed;
+        fixed = b .scores .fixed;
         opened = omega arith;
+        cached = λ c. cached-kept (LEARNED ∷ []) t r s₁ refl (unchanged-stored (LEARNED ∷ []) LEARNED _ _ refl (unchanged-none (LEARNED ∷ []) w₁) e₂) (marked-cached c);
       }
 
 -- a skipped literal changes nothing
@@ -108,6 +123,7 @@ sees-not t a w s v l able e =
       words = able .ready .words;
       fixed = able .fixed;
       opened = omega arith;
+      cached = λ c. c;
     }
 
 -- another one is seen
@@ -163,6 +179,7 @@ pub record Seeing (t : Trail) (v start end : ℕ) (a₀ : Analysis) (w₀ : List
   pub frame : Unchanged analysisRegions w₀ w
   pub others : Others (t .variables) s₀ s
   pub opened : a .open_at_level + start ≤ a₀ .open_at_level + i
+  pub cached : Cached t w₀ (a₀ .activity) s₀ → Cached t w (a .activity) s
   pub left : Sat.seeLiterals (assignmentOf t w₀) v (analysisOf t a w s) (slice i end (region LITERALS w₀))
       ≡ Sat.seeLiterals (assignmentOf t w₀) v (analysisOf t a₀ w₀ s₀) (slice start end (region LITERALS w₀))
 
@@ -176,6 +193,7 @@ seeing-start t v start end a w s able =
       frame = unchanged-none analysisRegions w;
       others = others-none (t .variables) s;
       opened = omega arith;
+      cached = λ c. c;
       left = refl;
     }
 
@@ -213,6 +231,7 @@ module _ (t : Trail) (v start end : ℕ) (a₀ : Analysis) (w₀ : List ℕ) (s�
         frame = unchanged-both analysisRegions (g .frame) (q .frame);
         others = others-both (t .variables) (g .others) (q .others);
         opened = omega (arith, g .opened, q .opened);
+        cached = λ c. q .cached (g .cached c);
         left = next;
       }
 
@@ -227,4 +246,5 @@ module _ (t : Trail) (v start end : ℕ) (a₀ : Analysis) (w₀ : List ℕ) (s�
         words = g .able .ready .words;
         fixed = g .able .fixed;
         opened = omega (arith, g .opened, g .inside);
+        cached = g .cached;
       }

@@ -1,12 +1,14 @@
 // What is done with the learned literals: the level to go back to.
 ghost use mathlib.Core.Path.{_≡_};
-ghost use Prim.Native.Nat.{_/_, _<_, _≤_, max};
+ghost use Prim.Native.Nat.{_<_, _≤_, max};
 ghost use lib.ListN.{getD};
 ghost use Rattle.words.specs.Layout.{SMALL, LEVELS, LEARNED};
+ghost use Rattle.model.specs.Literal.{node};
 ghost use Rattle.model.specs.Sat as Sat;
 ghost use Rattle.assignment.specs.State.{assignmentOf, column, TrailReady};
 use assignment::state::Trail;
 use assignment::trail::fetch_below;
+use literals::Literal;
 use words::LEARNED;
 use words::LEVELS;
 use words::SMALL;
@@ -21,12 +23,12 @@ fn higher(a: usize, b: usize) -> usize
 }
 
 // The level of a literal's variable.
-fn level_of(words: &[u32], t: Trail, literal: u32) -> usize
+fn level_of(words: &[u32], t: Trail, literal: Literal) -> usize
     requires { ⌜ TrailReady t (now words) ⌝ }
-    ensures { λ r. ⌜ r ≡ getD (column (t .variables) LEVELS (now (words .entry))) (literal / 2) 0 ⌝ }
+    ensures { λ r. ⌜ r ≡ getD (column (t .variables) LEVELS (now (words .entry))) (node (literal .0)) 0 ⌝ }
 {
     let n = t.variables;
-    wide(fetch_below(words, LEVELS, SMALL, n, wide(literal / 2)))
+    wide(fetch_below(words, LEVELS, SMALL, n, wide(literal.node())))
 }
 
 // The highest level among the learned literals, 0 where there is none.
@@ -37,7 +39,7 @@ pub fn highest_level(words: &[u32], t: Trail, count: usize) -> usize
     let mut highest: usize = 0;
     let mut i: usize = 0;
     while i < count {
-        let literal = fetch(words, LEARNED, SMALL, i);
+        let literal = Literal(fetch(words, LEARNED, SMALL, i));
         highest = higher(highest, level_of(words, t, literal));
         i += 1;
     }

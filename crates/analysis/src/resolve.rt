@@ -17,7 +17,7 @@ use assignment::scores::bump_activity;
 use assignment::state::Activity;
 use assignment::state::Trail;
 use assignment::trail::fetch_below;
-use assignment::trail::lower;
+use literals::Literal;
 use words::CLAUSE_STARTS;
 use words::LEARNED;
 use words::LEVELS;
@@ -30,15 +30,16 @@ use words::STARTS;
 use words::TRAIL;
 use words::clear;
 use words::fetch;
+use words::lower;
 use words::stash;
 use words::wide;
 
 // Whether a literal is skipped: the resolved variable, a seen one, or one of level 0.
-fn skipped(words: &[u32], t: Trail, resolved: usize, literal: u32) -> bool
+fn skipped(words: &[u32], t: Trail, resolved: usize, literal: Literal) -> bool
     requires { ⌜ TrailReady t (now words) ⌝ }
-    ensures { λ r. ⌜ ((a : Sat.Analysis) → a .seen ≡ seenOf t (now (words .entry)) → r ≡ Sat.skipped (assignmentOf t (now (words .entry))) resolved a literal) ⌝ }
+    ensures { λ r. ⌜ ((a : Sat.Analysis) → a .seen ≡ seenOf t (now (words .entry)) → r ≡ Sat.skipped (assignmentOf t (now (words .entry))) resolved a (literal .0)) ⌝ }
 {
-    let v = wide(literal / 2);
+    let v = wide(literal.node());
     let n = t.variables;
     if v == resolved {
         return true;
@@ -55,17 +56,17 @@ fn see_variable(
     scores: &mut [f64],
     t: Trail,
     a: Analysis,
-    literal: u32,
+    literal: Literal,
 ) -> Analysis
     requires { ⌜ Able t a (now words) (now scores) ⌝ }
     ensures { λ r. ⌜ Sees 1 t a (now (words .entry)) (now (scores .entry))
-        (Sat.seeUnless (assignmentOf t (now (words .entry))) (analysisOf t a (now (words .entry)) (now (scores .entry))) literal false)
+        (Sat.seeUnless (assignmentOf t (now (words .entry))) (analysisOf t a (now (words .entry)) (now (scores .entry))) (literal .0) false)
         r (now (words .exit)) (now (scores .exit)) ⌝ }
 {
-    let v = wide(literal / 2);
+    let v = wide(literal.node());
     let n = t.variables;
     let learned = a.learned;
-    let activity = bump_activity(scores, a.activity, n, v);
+    let activity = bump_activity(words, scores, t, a.activity, v);
     stash(words, SEEN, SMALL, v, 1);
     if wide(fetch_below(words, LEVELS, SMALL, n, v)) == t.level {
         return Analysis {
@@ -74,7 +75,7 @@ fn see_variable(
             open_at_level: a.open_at_level + 1,
         };
     }
-    stash(words, LEARNED, SMALL, learned, literal);
+    stash(words, LEARNED, SMALL, learned, literal.0);
     Analysis {
         activity,
         learned: learned + 1,
@@ -89,11 +90,11 @@ fn see_literal(
     t: Trail,
     a: Analysis,
     resolved: usize,
-    literal: u32,
+    literal: Literal,
 ) -> Analysis
     requires { ⌜ Able t a (now words) (now scores) ⌝ }
     ensures { λ r. ⌜ Sees 1 t a (now (words .entry)) (now (scores .entry))
-        (saw (assignmentOf t (now (words .entry))) resolved (analysisOf t a (now (words .entry)) (now (scores .entry))) literal)
+        (saw (assignmentOf t (now (words .entry))) resolved (analysisOf t a (now (words .entry)) (now (scores .entry))) (literal .0))
         r (now (words .exit)) (now (scores .exit)) ⌝ }
 {
     if skipped(words, t, resolved, literal) {
@@ -121,7 +122,7 @@ fn see_literals(
     let mut a = earlier;
     let mut i = start;
     while i < end {
-        let literal = fetch(words, LITERALS, POOL, i);
+        let literal = Literal(fetch(words, LITERALS, POOL, i));
         a = see_literal(words, scores, t, a, resolved, literal);
         i += 1;
     }
@@ -179,13 +180,13 @@ fn reason_of(words: &[u32], t: Trail, variable: usize) -> usize
 }
 
 // The pivot no longer seen, and one less open.
-fn close_pivot(words: &mut [u32], t: Trail, a: Analysis, pivot: u32) -> Analysis
+fn close_pivot(words: &mut [u32], t: Trail, a: Analysis, pivot: Literal) -> Analysis
     requires { ⌜ TrailReady t (now words) ⌝ }
-    ensures { λ r. ⌜ Closes t a (now (words .entry)) pivot r (now (words .exit)) ⌝ }
+    ensures { λ r. ⌜ Closes t a (now (words .entry)) (pivot .0) r (now (words .exit)) ⌝ }
 {
     let activity = a.activity;
     let open_at_level = one_less(a.open_at_level);
-    stash(words, SEEN, SMALL, wide(pivot / 2), 0);
+    stash(words, SEEN, SMALL, wide(pivot.node()), 0);
     Analysis {
         activity,
         learned: a.learned,
@@ -232,11 +233,11 @@ pub fn analyze(
         a = see_clause(words, scores, t, a, resolved, clauses, clause);
         let pivot = loop {
             if trail_index == 0 {
-                break fetch_below(words, TRAIL, SMALL, length, 0);
+                break Literal(fetch_below(words, TRAIL, SMALL, length, 0));
             }
             trail_index -= 1;
-            let candidate = fetch_below(words, TRAIL, SMALL, length, trail_index);
-            if fetch_below(words, SEEN, SMALL, variables, wide(candidate / 2)) != 0 {
+            let candidate = Literal(fetch_below(words, TRAIL, SMALL, length, trail_index));
+            if fetch_below(words, SEEN, SMALL, variables, wide(candidate.node())) != 0 {
                 break candidate;
             }
         };
@@ -244,7 +245,7 @@ pub fn analyze(
         if a.open_at_level == 0 {
             return Analyzed { analysis: a, pivot };
         }
-        resolved = wide(pivot / 2);
+        resolved = wide(pivot.node());
         clause = reason_of(words, t, resolved);
         rounds -= 1;
     }

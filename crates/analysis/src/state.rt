@@ -1,5 +1,6 @@
 // The types of this crate's arguments and answers.
 use assignment::state::Activity;
+use literals::Literal;
 
 // The numbers of an analysis that are not in lent words: the activity, how many literals are learned after the first place, and how
 // many seen variables of the current level are open.
@@ -12,7 +13,7 @@ pub struct Analysis {
 // The answer of `analyze`: the analysis, and the pivot whose negation is learned first.
 pub struct Analyzed {
     pub analysis: Analysis,
-    pub pivot: u32,
+    pub pivot: Literal,
 }
 
 // Where the literals of a clause lie in the pool: from `start` up to `end`.

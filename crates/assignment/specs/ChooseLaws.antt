@@ -1,141 +1,197 @@
--- Laws of the choice of a variable, and of the ones that a clause adds. Assumes nothing.
+-- Laws of the choice of a variable in lent words: a variable more, a block, and the blocks in turn. Assumes nothing.
 use mathlib.Core.Path.{_≡_, refl, ap, sym, _∙_}
 use mathlib.Core.Bool.{Bool, true, false, cond}
-use mathlib.Core.List.{List}
-use Prim.Native.Nat.{ℕ, zero, suc, _+_, _/_, _%_, _<_, _≤_, max}
+use mathlib.Core.List.{List, [], _∷_}
+use Prim.Native.Nat.{ℕ, zero, suc, _+_, _-_, _*_, _/_, _<_, _≤_, min, max}
 use native.Mathlib.Omega.{arith}
-use native.Mathlib.Numerals.{add-one}
-use lib.Dec.{eqb}
-use lib.ListN.{length, take, drop, getD, List·getD-map, drop-of-length-le}
-use lib.Seq.{drop-cons, length-take-le, slice, slice-cons, slice-empty}
+use lib.ListN.{length, take, drop, getD}
+use lib.Seq.{length-take-le, getD-set-same, getD-set-other}
 use lib.Ieee.{Float, nan, lt}
-use Rattle.words.specs.Layout.{VALUES}
-use Rattle.model.specs.Literal as Literals
+use Rattle.facts.specs.Numbers.{by-eq, by-lt}
+use Rattle.words.specs.Layout.{LENT, BLOCK, BLOCKS, VALUES}
+use Rattle.words.specs.Region.{region, stored, stored-in, length-region}
 use Rattle.model.specs.Sat as Sat
-use Rattle.assignment.specs.State.{assignmentOf, column, wordValue, TrailReady}
-use Rattle.assignment.specs.StateLaws.{variables-are}
-use Rattle.assignment.specs.Scores.{bestOf, Betters, choiceOf, Chooses, Raised, AddsOnes, Others}
-use Rattle.assignment.specs.ScoreLaws.{score-is, others-none, others-both}
+use Rattle.assignment.specs.State.{assignmentOf, column, Unchanged, TrailReady}
+use Rattle.assignment.specs.StateLaws.{variables-are, unchanged-none, unchanged-both, unchanged-stored, assignment-kept}
+use Rattle.assignment.specs.Scores.{bestOf, choiceOf}
+use Rattle.assignment.specs.Blocks.{Free, Leads, Unsigned, firstOf, endOf, Known, KnownIn, LeadsIn, higherOf, Betters, Current, BlockChosen, Chooses}
+use Rattle.assignment.specs.BlockLaws.{leads-nothing, leads-assigned, leads-free, join, join-left, best-some, leads-chosen}
+use Rattle.assignment.specs.KnownLaws.{free-word, assigned-word}
 use Rattle.assignment.specs.declared.state.Trail.{Trail}
 use Rattle.assignment.specs.declared.state.Choice.the-variants as Choices
 
+-- ---- the choice of two
+
+pub higher-none : (s : List Float) (a b : ℕ) → b ≡ 0 → a ≡ higherOf s a b
+unfolding higherOf
+higher-none s a b z = rw z
+
+pub higher-first : (s : List Float) (a b : ℕ) → (b ≡ 0 → ⊥) → a ≡ 0 → b ≡ higherOf s a b
+unfolding higherOf
+higher-first s a zero n z = absurd (n refl)
+higher-first s a (suc b) n z = rw z
+
+-- both are variables, and are compared
+pub higher-compared : (s : List Float) (a b : ℕ) (q : Bool) → (b ≡ 0 → ⊥) → (a ≡ 0 → ⊥) → lt (getD s a nan) (getD s b nan) ≡ q → cond q b a ≡ higherOf s a b
+unfolding higherOf
+higher-compared s a zero q n m e = absurd (n refl)
+higher-compared s zero (suc b) q n m e = absurd (m refl)
+higher-compared s (suc a) (suc b) q n m e = rw e
+
 -- ---- one more variable
 
--- the value of a variable, from its word
-variable-is : (t : Trail) (w : List ℕ) (v : ℕ) → getD (assignmentOf t w .assignments) v Sat.Unassigned ≡ wordValue (getD (column (t .variables) VALUES w) v 0)
-unfolding assignmentOf wordValue
-variable-is t w v = List·getD-map wordValue (column (t .variables) VALUES w) v 0
-
--- an assigned variable is passed over
-assigned : (v k : ℕ) (x : Float) (b : Sat.Choice) → (k ≡ 0 → ⊥) → Sat.chooseValued v x (wordValue k) b ≡ b
-unfolding Sat.chooseValued wordValue
-assigned v zero x b n = absurd (n refl)
-assigned v (suc k) x b n = go (eqb (suc k % 2) 1)
+higher-low : (s : List Float) (a b : ℕ) → a ≤ b → higherOf s a b ≤ b
+unfolding higherOf
+higher-low s a zero h = h
+higher-low s zero (suc b) h = omega arith
+higher-low s (suc a) (suc b) h = go (lt (getD s (suc a) nan) (getD s (suc b) nan))
   where
-    go : (q : Bool) → Sat.chooseValued v x (cond q Sat.True Sat.False) b ≡ b
-    go true = refl
-    go false = refl
+    go : (q : Bool) → cond q (suc b) (suc a) ≤ suc b
+    go true = omega arith
+    go false = h
 
-best-some : (s : List Float) (v : ℕ) → 0 < v → bestOf s v ≡ Sat.chosen v (getD s v Sat.scoreZero)
-unfolding bestOf
-best-some s zero h = absurd (omega arith)
-best-some s (suc v) h = refl
+module _ (t : Trail) (w : List ℕ) (s : List Float) (best v k : ℕ) (e : k ≡ getD (column (t .variables) VALUES w) v 0) (h : t .variables ≤ length s) (u : Unsigned (take (t .variables) s)) (p : 0 < v) (m : v < t .variables) (l : best ≤ v) where
+  pub better-not : (k ≡ 0 → ⊥) → Betters t w s best v best
+  better-not n =
+      record {
+        low = l;
+        leads = λ lo a f. join-left (assignmentOf t w .assignments) (take (t .variables) s) u lo v (v + 1) best 0 a (omega arith) f (leads-assigned _ _ v (assigned-word t w v k e n)) refl;
+      }
 
-module _ (t : Trail) (w : List ℕ) (s : List Float) (best v k : ℕ) (e : k ≡ getD (column (t .variables) VALUES w) v 0) (p : 0 < v) where
-  xs : List Float
-  xs = take (t .variables) s
+  pub better-free : (r : ℕ) → k ≡ 0 → r ≡ higherOf s best v → Betters t w s best v r
+  better-free r z q =
+      record {
+        low = rw q (higher-low s best v l);
+        leads = λ lo a f. rw q (join t w s h u lo v (v + 1) a (omega arith) (omega arith) best v f (leads-free _ _ v p (free-word t w v k e z)));
+      }
 
-  pub better-not : best ≤ v → (k ≡ 0 → ⊥) → Betters t w s best v best
-  better-not l n = record { is = sym (rw (variable-is t w v, ← e) (assigned v k _ _ n)); low = l }
+-- ---- a block
 
-  pub better-first : k ≡ 0 → best ≡ 0 → Betters t w s best v v
-  unfolding Sat.chooseValued Sat.chooseBetween wordValue bestOf
-  better-first z b = record { is = best-some _ v p ∙ sym (rw (variable-is t w v, ← e, z, b)); low = omega arith }
-
-  module _ (h : t .variables ≤ length s) (m : v < t .variables) (l : best ≤ v) (z : k ≡ 0) (n : best ≡ 0 → ⊥) where
-    -- the two scores are compared
-    compared : Sat.chooseValued v (getD (take (t .variables) s) v Sat.scoreZero) (getD (assignmentOf t w .assignments) v Sat.Unassigned) (bestOf (take (t .variables) s) best)
-        ≡ cond (lt (getD s best nan) (getD s v nan)) (bestOf (take (t .variables) s) v) (bestOf (take (t .variables) s) best)
-    unfolding Sat.chooseValued Sat.chooseBetween wordValue
-    compared = rw (variable-is t w v, ← e, z, best-some (take (t .variables) s) best (omega arith), best-some (take (t .variables) s) v p, score-is (t .variables) s best h (omega arith), score-is (t .variables) s v h m)
-
-    pub better-higher : lt (getD s best nan) (getD s v nan) ≡ true → Betters t w s best v v
-    better-higher q = record { is = sym (compared ∙ rw q); low = omega arith }
-
-    pub better-lower : lt (getD s best nan) (getD s v nan) ≡ false → Betters t w s best v best
-    better-lower q = record { is = sym (compared ∙ rw q); low = l }
-
--- ---- all variables
-
--- what is left of `choose_variable` at variable v
-pub record Choosing (t : Trail) (w : List ℕ) (s : List Float) (best v : ℕ) : Type 0 where
+-- what a scan of block b has found before variable v
+pub record Scanning (t : Trail) (w : List ℕ) (s : List Float) (b best v : ℕ) : Type 0 where
   pub low : best < v
-  pub high : v ≤ max (t .variables) 1
-  pub left : Sat.chooseFrom v (drop v (assignmentOf t w .assignments)) (drop v (take (t .variables) s)) (bestOf (take (t .variables) s) best)
-      ≡ Sat.chooseFrom 1 (drop 1 (assignmentOf t w .assignments)) (drop 1 (take (t .variables) s)) Sat.noChoice
+  pub first : firstOf b ≤ v
+  pub high : v ≤ max (endOf (t .variables) b) (firstOf b)
+  pub leads : LeadsIn t w s (firstOf b) v best
 
-pub choosing-start : (t : Trail) (w : List ℕ) (s : List Float) → Choosing t w s 0 1
-unfolding bestOf
-choosing-start t w s = record { low = omega arith; high = omega arith; left = refl }
+pub scanning-start : (t : Trail) (w : List ℕ) (s : List Float) (b v : ℕ) → v ≡ firstOf b → Scanning t w s b 0 v
+scanning-start t w s b v e = record { low = omega arith; first = omega arith; high = omega arith; leads = leads-nothing _ _ (firstOf b) v (omega arith) }
 
-choose-next : (v : ℕ) (ys : List Sat.Value) (xs : List Float) (b : Sat.Choice) → v < length ys → v < length xs
-    → Sat.chooseFrom v (drop v ys) (drop v xs) b ≡ Sat.chooseFrom (v + 1) (drop (v + 1) ys) (drop (v + 1) xs) (Sat.chooseValued v (getD xs v Sat.scoreZero) (getD ys v Sat.Unassigned) b)
-unfolding Sat.chooseFrom
-choose-next v ys xs b h k = rw (drop-cons ys v Sat.Unassigned h, drop-cons xs v Sat.scoreZero k, add-one)
+pub scanning-step : (t : Trail) (w : List ℕ) (s : List Float) (b best v r : ℕ) → Scanning t w s b best v → v < endOf (t .variables) b → Betters t w s best v r → Scanning t w s b r (v + 1)
+scanning-step t w s b best v r c h g =
+    record { low = omega (arith, g .low); first = omega (arith, c .first); high = omega arith; leads = g .leads (firstOf b) (c .first) (c .leads) }
 
-pub choosing-step : (t : Trail) (w : List ℕ) (s : List Float) (best v r : ℕ) → TrailReady t w → t .variables ≤ length s → Choosing t w s best v → v < t .variables → Betters t w s best v r
-    → Choosing t w s r (v + 1)
-choosing-step t w s best v r y h c k b =
-    let ys = assignmentOf t w .assignments in
-    let xs = take (t .variables) s in
-    let m : v < length ys = omega (arith, variables-are t w y) in
-    let n : v < length xs = omega (arith, length-take-le (t .variables) s h) in
+pub scanned : (t : Trail) (w : List ℕ) (s : List Float) (b best v : ℕ) → b * BLOCK < t .variables → Scanning t w s b best v → endOf (t .variables) b ≤ v → LeadsIn t w s (firstOf b) (endOf (t .variables) b) best
+scanned t w s b best v i c h = let e : v ≡ endOf (t .variables) b = omega (arith, c .high) in rw e at (c .leads)
+
+-- what a block's word says is so
+pub current-none : (t : Trail) (w : List ℕ) (k j : ℕ) → (k ≡ 0 → ⊥) → j ≡ k → j - 1 ≡ 0 → Current t w k
+current-none t w k j n e z = record { some = omega arith; free = λ p. absurd (omega arith) }
+
+pub current-free : (t : Trail) (w : List ℕ) (k j x : ℕ) → (k ≡ 0 → ⊥) → j ≡ k → x ≡ getD (column (t .variables) VALUES w) (j - 1) 0 → x ≡ 0 → Current t w k
+current-free t w k j x n e f z = record { some = omega arith; free = λ p. rw (← e) (free-word t w (j - 1) x f z) }
+
+-- the word of a block, kept
+module _ (t : Trail) (w w′ : List ℕ) (s : List Float) (b best : ℕ) (r : TrailReady t w) (i : b * BLOCK < t .variables) (e : w′ ≡ stored BLOCKS w b (best + 1)) (l : LENT ≤ length w′)
+    (f : LeadsIn t w s (firstOf b) (endOf (t .variables) b) best) (k : KnownIn t w s) where
+  own-word : (c : ℕ) → c ≡ b → getD (region BLOCKS w′) c 0 ≡ best + 1
+  own-word c d = rw (d, e, stored-in BLOCKS w b (best + 1)) (getD-set-same (region BLOCKS w) b (best + 1) 0 (omega (arith, length-region BLOCKS w (omega (arith, r .words)), r .variables)))
+
+  other-word : (c : ℕ) → (c ≡ b → ⊥) → getD (region BLOCKS w′) c 0 ≡ getD (region BLOCKS w) c 0
+  other-word c d = rw (e, stored-in BLOCKS w b (best + 1)) (getD-set-other (region BLOCKS w) b c (best + 1) 0 d)
+
+  frame : Unchanged (BLOCKS ∷ []) w w′
+  frame = unchanged-stored (BLOCKS ∷ []) BLOCKS b (best + 1) refl (unchanged-none (BLOCKS ∷ []) w) e
+
+  same : assignmentOf t w′ ≡ assignmentOf t w
+  same = assignment-kept (BLOCKS ∷ []) t refl frame
+
+  known-own : Known (t .variables) (assignmentOf t w .assignments) (take (t .variables) s) (region BLOCKS w′)
+  known-own =
+      record {
+        inside = λ c j p. by-eq c b
+            (λ q. let z = own-word c q in
+            let o = f .own (omega (arith, z)) in
+            let y : getD (region BLOCKS w′) c 0 - 1 ≡ best = omega (arith, z) in
+            (rw y (omega (arith, q, o .0, o .1)), omega (arith, z, o .1)))
+            (λ q. rw (other-word c q) (k .inside c j (rw (other-word c q) at p)));
+        leads = λ c j p g. by-eq c b
+            (λ q. let z : getD (region BLOCKS w′) c 0 - 1 ≡ best = omega (arith, own-word c q) in rw (z, q) f)
+            (λ q. rw (other-word c q) (k .leads c j (rw (other-word c q) at p) (rw (other-word c q) at g)));
+      }
+
+  pub chosen-anew : BlockChosen t w s b best w′
+  chosen-anew =
+      record {
+        leads = f;
+        frame = frame;
+        ready = record { words = l; variables = r .variables; literals = r .literals; levels = r .levels };
+        known = rw same known-own;
+      }
+
+pub chosen-known : (t : Trail) (w : List ℕ) (s : List Float) (b j r : ℕ) → TrailReady t w → b * BLOCK < t .variables → j ≡ getD (region BLOCKS w) b 0 → r ≡ j - 1 → Current t w j → KnownIn t w s → BlockChosen t w s b r w
+chosen-known t w s b j r y i e q c k =
     record {
-      low = omega (arith, b .low);
-      high = omega arith;
-      left = rw (b .is) (sym (choose-next v ys xs (bestOf xs best) m n) ∙ c .left);
+      leads = rw (q, e) (k .leads b i (omega (arith, e, c .some)) (rw e at (c .free)));
+      frame = unchanged-none (BLOCKS ∷ []) w;
+      ready = y;
+      known = k;
     }
+
+-- a choice is one of the variables
+pub leads-below : (t : Trail) (w : List ℕ) (s : List Float) (b v : ℕ) → b * BLOCK < t .variables → LeadsIn t w s (firstOf b) (endOf (t .variables) b) v → v < t .variables
+leads-below t w s b v i f = by-lt 0 v (λ p. omega (arith, f .own p .1)) (λ p. omega arith)
+
+-- ---- all blocks
+
+-- what the blocks before b give
+pub record Choosing (t : Trail) (w₀ : List ℕ) (s : List Float) (b best : ℕ) (w : List ℕ) : Type 0 where
+  pub long : length w ≡ length w₀
+  pub low : best < t .variables
+  pub few : b * BLOCK < t .variables + BLOCK
+  pub leads : LeadsIn t w₀ s 1 (max 1 (min (t .variables) (b * BLOCK))) best
+  pub frame : Unchanged (BLOCKS ∷ []) w₀ w
+  pub ready : TrailReady t w
+  pub known : KnownIn t w s
+
+pub choosing-start : (t : Trail) (w : List ℕ) (s : List Float) → 0 < t .variables → TrailReady t w → KnownIn t w s → Choosing t w s 0 0 w
+choosing-start t w s h r k =
+    record { long = refl; low = h; few = omega arith; leads = leads-nothing _ _ 1 (max 1 (min (t .variables) (0 * BLOCK))) (omega arith); frame = unchanged-none (BLOCKS ∷ []) w; ready = r; known = k }
+
+module _ (t : Trail) (w₀ w w′ : List ℕ) (s : List Float) (b best c r : ℕ) (h : t .variables ≤ length s) (u : Unsigned (take (t .variables) s)) (i : b * BLOCK < t .variables) where
+  same-choice : Choosing t w₀ s b best w → BlockChosen t w s b c w′ → LeadsIn t w₀ s (firstOf b) (endOf (t .variables) b) c
+  same-choice o g = rw (assignment-kept (BLOCKS ∷ []) t refl (o .frame)) at (g .leads)
+
+  pub choosing-step : Choosing t w₀ s b best w → BlockChosen t w s b c w′ → length w′ ≡ length w → r ≡ higherOf s best c → Choosing t w₀ s (b + 1) r w′
+  choosing-step o g l e =
+      let m : max 1 (min (t .variables) (b * BLOCK)) ≡ firstOf b = omega arith in
+      let n : max 1 (min (t .variables) ((b + 1) * BLOCK)) ≡ endOf (t .variables) b = omega arith in
+      let before : LeadsIn t w₀ s 1 (firstOf b) best = rw m at (o .leads) in
+      let f : LeadsIn t w₀ s 1 (endOf (t .variables) b) (higherOf s best c) =
+      join t w₀ s h u 1 (firstOf b) (endOf (t .variables) b) (omega arith) (omega arith) (omega arith) best c before (same-choice o g) in
+      record {
+        long = l ∙ o .long;
+        low = by-lt 0 r (λ p. omega (arith, (rw (← e) at f) .own p .1)) (λ p. omega arith);
+        few = omega (arith, o .few);
+        leads = rw (n, e) f;
+        frame = unchanged-both (BLOCKS ∷ []) (o .frame) (g .frame);
+        ready = g .ready;
+        known = g .known;
+      }
 
 -- at the end the best is the choice
-chosen-is : (t : Trail) (w : List ℕ) (s : List Float) (best v : ℕ) → TrailReady t w → Choosing t w s best v → t .variables ≤ v
-    → bestOf (take (t .variables) s) best ≡ Sat.chooseFrom 1 (drop 1 (assignmentOf t w .assignments)) (drop 1 (take (t .variables) s)) Sat.noChoice
-unfolding Sat.chooseFrom
-chosen-is t w s best v y c h =
-    let m : length (assignmentOf t w .assignments) ≤ v = omega (arith, variables-are t w y) in
-    rw (drop-of-length-le (assignmentOf t w .assignments) m) at (c .left)
+module _ (t : Trail) (w₀ w : List ℕ) (s : List Float) (b best : ℕ) (y : TrailReady t w₀) (h : t .variables ≤ length s) (u : Unsigned (take (t .variables) s)) (o : Choosing t w₀ s b best w) (i : t .variables ≤ b * BLOCK) where
+  chosen-is : bestOf (take (t .variables) s) best ≡ Sat.chooseFrom 1 (drop 1 (assignmentOf t w₀ .assignments)) (drop 1 (take (t .variables) s)) Sat.noChoice
+  chosen-is =
+      let p : 0 < t .variables = omega (arith, o .low) in
+      let m : max 1 (min (t .variables) (b * BLOCK)) ≡ t .variables = omega arith in
+      leads-chosen (assignmentOf t w₀ .assignments) (take (t .variables) s) (t .variables) (variables-are t w₀ y) (length-take-le (t .variables) s h) u p best (rw m at (o .leads))
 
-pub chooses-none : (t : Trail) (w : List ℕ) (s : List Float) (best v : ℕ) → TrailReady t w → Choosing t w s best v → t .variables ≤ v → best ≡ 0 → Chooses t w s Choices.Nothing
-unfolding choiceOf bestOf
-chooses-none t w s best v y c h z = record { is = rw z at (chosen-is t w s best v y c h); below = tt }
+  pub chooses-none : best ≡ 0 → Chooses t w₀ s Choices.Nothing w
+  unfolding choiceOf bestOf
+  chooses-none z = record { is = rw z at chosen-is; below = tt; frame = o .frame; ready = o .ready; known = o .known }
 
-pub chooses-one : (t : Trail) (w : List ℕ) (s : List Float) (best v : ℕ) → TrailReady t w → Choosing t w s best v → t .variables ≤ v → (best ≡ 0 → ⊥) → Chooses t w s (Choices.Variable best)
-unfolding choiceOf
-chooses-one t w s best v y c h n =
-    record { is = sym (best-some (take (t .variables) s) best (omega arith)) ∙ chosen-is t w s best v y c h; below = omega (arith, c .low, c .high) }
-
--- ---- the ones of a clause
-
--- what is left of `add_ones` at place i of the pool
-pub record AddingOnes (n : ℕ) (pool : List ℕ) (start end : ℕ) (s₀ : List Float) (i : ℕ) (s : List Float) : Type 0 where
-  pub inside : i ≤ end
-  pub left : Sat.addOnes (take n s) (slice i end pool) ≡ Sat.addOnes (take n s₀) (slice start end pool)
-  pub others : Others n s₀ s
-
-pub adding-start : (n : ℕ) (pool : List ℕ) (start end : ℕ) (s : List Float) → start ≤ end → AddingOnes n pool start end s start s
-adding-start n pool start end s h = record { inside = h; left = refl; others = others-none n s }
-
-pub adding-step : (n : ℕ) (pool : List ℕ) (start end : ℕ) (s₀ s s′ : List Float) (i v : ℕ) → end ≤ length pool → AddingOnes n pool start end s₀ i s → i < end → v ≡ getD pool i 0 / 2
-    → Raised n v Sat.scoreOne s s′ → AddingOnes n pool start end s₀ (i + 1) s′
-unfolding Sat.addOnes Literals.node
-adding-step n pool start end s₀ s s′ i v h a k e r =
-    record {
-      inside = omega arith;
-      left = rw (r .is, e, add-one) (sym (ap (λ (ls : List ℕ). Sat.addOnes (take n s) ls) (slice-cons i end pool 0 k h)) ∙ a .left);
-      others = others-both n (a .others) (r .others);
-    }
-
-pub adds-ones : (n : ℕ) (pool : List ℕ) (start end : ℕ) (s₀ s : List Float) (i : ℕ) → AddingOnes n pool start end s₀ i s → end ≤ i → AddsOnes n (slice start end pool) s₀ s
-unfolding Sat.addOnes
-adds-ones n pool start end s₀ s i a h =
-    let e : i ≡ end = omega arith in
-    record { is = rw (e, slice-empty) at (a .left); others = a .others }
+  pub chooses-one : (best ≡ 0 → ⊥) → Chooses t w₀ s (Choices.Variable best) w
+  unfolding choiceOf
+  chooses-one n =
+      record { is = sym (best-some (take (t .variables) s) best (omega arith)) ∙ chosen-is; below = o .low; frame = o .frame; ready = o .ready; known = o .known }

@@ -2,16 +2,20 @@
 use mathlib.Core.Path.{_≡_, refl, ap, _∙_}
 use mathlib.Core.Bool.{true, false}
 use mathlib.Core.List.{List, [], _∷_, map}
-use Prim.Native.Nat.{ℕ, zero, suc, _+_, _*_, _<_, _≤_}
+use Prim.Native.Nat.{ℕ, zero, suc, _+_, _*_, _/_, _<_, _≤_}
 use native.Mathlib.Omega.{arith}
 use borrow.Author.Tests.{eq-eqb}
 use lib.ListN.{length, getD, replicate, List·getD-map}
-use Rattle.words.specs.Layout.{LENT, SMALL, MOST-NODES, VALUES, LEVELS, REASONS, PHASES, TRAIL, LIMITS}
+use Rattle.words.specs.Layout.{LENT, SMALL, MOST-NODES, VALUES, LEVELS, REASONS, PHASES, TRAIL, LIMITS, BLOCKS, BLOCK}
 use Rattle.words.specs.Fill.{take-filled}
 use Rattle.words.specs.Region.{region, sizeOf, stored, stores, cleared, cleared-in, length-region}
+use Rattle.literals.specs.LiteralLaws.{negate-even}
+use Rattle.model.specs.Literal as Literals
 use Rattle.model.specs.Lists as Lists
 use Rattle.model.specs.Sat as Sat
-use Rattle.assignment.specs.State.{wordValue, wordReason, wordBit, assignmentOf, column, lists, TrailReady, assignmentRegions, Becomes, Assigns, decided, Cleared, News}
+use Rattle.assignment.specs.State.{wordValue, wordReason, wordBit, assignmentOf, column, lists, TrailReady, assignmentRegions, Becomes, Assigns, decided, Cleared}
+use Rattle.assignment.specs.Blocks.{News}
+use Rattle.assignment.specs.KnownLaws.{known-nothing, cleared-blocks}
 use Rattle.assignment.specs.StateLaws.{bit-true, set-end, take-set, unchanged-none, unchanged-both, unchanged-stored, unchanged-cleared, unchanged-within, trail-length}
 use Rattle.assignment.specs.declared.state.Trail.{Trail}
 
@@ -22,9 +26,9 @@ phase-is : (t : Trail) (w : List ℕ) (v : ℕ) → getD (assignmentOf t w .phas
 unfolding assignmentOf wordBit
 phase-is t w v = List·getD-map wordBit (column (t .variables) PHASES w) v 0
 
-pub decision-false : (t : Trail) (w : List ℕ) (v p : ℕ) → p ≡ getD (column (t .variables) PHASES w) v 0 → p ≡ 0 → v * 2 + 1 ≡ Sat.decision (assignmentOf t w) v
+pub decision-false : (t : Trail) (w : List ℕ) (v p : ℕ) → p ≡ getD (column (t .variables) PHASES w) v 0 → p ≡ 0 → Literals.negate (v * 2) ≡ Sat.decision (assignmentOf t w) v
 unfolding Sat.decision wordBit
-decision-false t w v p e z = rw (phase-is t w v, ← e, z)
+decision-false t w v p e z = negate-even (v * 2) (omega arith) ∙ rw (phase-is t w v, ← e, z)
 
 pub decision-true : (t : Trail) (w : List ℕ) (v p : ℕ) → p ≡ getD (column (t .variables) PHASES w) v 0 → (p ≡ 0 → ⊥) → v * 2 ≡ Sat.decision (assignmentOf t w) v
 unfolding Sat.decision
@@ -77,13 +81,19 @@ pub map-replicate : {A B : Type 0} (f : A → B) (n : ℕ) (a : A) → map f (re
 map-replicate f zero a = refl
 map-replicate f (suc n) a = ap (λ xs. f a ∷ xs) (map-replicate f n a)
 
--- the four regions of `new`, one after another
-pub news : (n : ℕ) (w w₁ w₂ w₃ w₄ : List ℕ) → n ≤ MOST-NODES → Cleared VALUES n w w₁ → Cleared LEVELS n w₁ w₂ → Cleared REASONS n w₂ w₃ → Cleared PHASES n w₃ w₄
-    → News n w (record { variables = n; length = 0; head = 0; level = 0 }) w₄
+-- the four regions of `new`, and the blocks, one after another
+pub news : (n : ℕ) (w w₁ w₂ w₃ w₄ w₅ : List ℕ) → n ≤ MOST-NODES → Cleared VALUES n w w₁ → Cleared LEVELS n w₁ w₂ → Cleared REASONS n w₂ w₃ → Cleared PHASES n w₃ w₄
+    → w₅ ≡ cleared BLOCKS w₄ (n / BLOCK + 1) → LENT ≤ length w₅ → News n w (record { variables = n; length = 0; head = 0; level = 0 }) w₅
 unfolding assignmentOf Sat.new wordValue wordReason wordBit
-news n w w₁ w₂ w₃ w₄ h c₁ c₂ c₃ c₄ =
+news n w w₁ w₂ w₃ w₄ w₅ h c₁ c₂ c₃ c₄ e l =
+    let listed = BLOCKS ∷ assignmentRegions in
+    let f = unchanged-cleared (BLOCKS ∷ []) BLOCKS (n / BLOCK + 1) refl (unchanged-none (BLOCKS ∷ []) w₄) e in
     record {
       is = rw (
+        f .same VALUES refl,
+        f .same LEVELS refl,
+        f .same REASONS refl,
+        f .same PHASES refl,
         c₄ .zeros,
         c₄ .frame .same VALUES refl,
         c₄ .frame .same LEVELS refl,
@@ -96,9 +106,11 @@ news n w w₁ w₂ w₃ w₄ h c₁ c₂ c₃ c₄ =
         c₁ .zeros,
       )
           (simp map-replicate);
-      frame = unchanged-both assignmentRegions (unchanged-within (VALUES ∷ []) assignmentRegions refl (c₁ .frame))
-          (unchanged-both assignmentRegions (unchanged-within (LEVELS ∷ []) assignmentRegions refl (c₂ .frame))
-          (unchanged-both assignmentRegions (unchanged-within (REASONS ∷ []) assignmentRegions refl (c₃ .frame)) (unchanged-within (PHASES ∷ []) assignmentRegions refl (c₄ .frame))));
-      ready = record { words = c₄ .words; variables = h; literals = omega arith; levels = omega arith };
+      frame = unchanged-both listed (unchanged-within (VALUES ∷ []) listed refl (c₁ .frame))
+          (unchanged-both listed (unchanged-within (LEVELS ∷ []) listed refl (c₂ .frame))
+          (unchanged-both listed (unchanged-within (REASONS ∷ []) listed refl (c₃ .frame))
+          (unchanged-both listed (unchanged-within (PHASES ∷ []) listed refl (c₄ .frame)) (unchanged-within (BLOCKS ∷ []) listed refl f))));
+      ready = record { words = l; variables = h; literals = omega arith; levels = omega arith };
       variables = refl;
+      known = λ s. known-nothing n _ _ _ (cleared-blocks w₄ w₅ n e);
     }

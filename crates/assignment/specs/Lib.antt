@@ -4,4 +4,10 @@ pub mod BacktrackLaws
 pub mod DecideLaws
 pub mod Scores
 pub mod ScoreLaws
+pub mod Blocks
+pub mod BlockLaws
+pub mod KnownLaws
 pub mod ChooseLaws
+pub mod OrderLaws
+pub mod BumpLaws
+pub mod OnesLaws

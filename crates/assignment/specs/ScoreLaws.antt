@@ -10,7 +10,7 @@ use lib.Seq.{take-suc, take-suc-set, drop-set-lt, getD-take, getD-drop, drop-dro
 use lib.Ieee.{Float, nan, binary64, lt}
 use lib.Ieee as Ieee
 use Rattle.model.specs.Sat as Sat
-use Rattle.assignment.specs.Scores.{scoresOf, Fixed, Others, Rescaled, Raised, Bumps, ZeroScores}
+use Rattle.assignment.specs.Scores.{scoresOf, Fixed, Others, Rescaled, Raised, Bumped, ZeroScores}
 use Rattle.assignment.specs.StateLaws.{take-set}
 use Rattle.assignment.specs.declared.state.Activity.{Activity}
 
@@ -102,7 +102,7 @@ ceiling-test n s v by x h k e =
     ap (λ (t : List Float). getD t v Sat.scoreZero) (sym (raised n s v by h k .is)) ∙ getD-take n _ v Sat.scoreZero k ∙ getD-set-same s v _ Sat.scoreZero l ∙ sym e
 
 module _ (n : ℕ) (a : Activity) (v : ℕ) (s : List Float) (f : Fixed a) where
-  pub bumps-not : n ≤ v → Bumps n a v s a s
+  pub bumps-not : n ≤ v → Bumped n a v s a s
   unfolding scoresOf Sat.bumpActivity Sat.rescaleIf Sat.ceiling Sat.scoreZero lt
   bumps-not h =
       let out : getD (take n s) v Sat.scoreZero ≡ Sat.scoreZero = List·getD-eq-default (take n s) Sat.scoreZero (simp length-take (omega arith)) in
@@ -112,7 +112,7 @@ module _ (n : ℕ) (a : Activity) (v : ℕ) (s : List Float) (f : Fixed a) where
     after : Raised n v (a .increment) s (set s v x)
     after = rw e (raised n s v (a .increment) h k)
 
-    pub bumps-below : lt (a .ceiling) x ≡ false → Bumps n a v s a (set s v x)
+    pub bumps-below : lt (a .ceiling) x ≡ false → Bumped n a v s a (set s v x)
     unfolding scoresOf Sat.bumpActivity Sat.rescaleIf
     bumps-below t =
         record {
@@ -122,7 +122,7 @@ module _ (n : ℕ) (a : Activity) (v : ℕ) (s : List Float) (f : Fixed a) where
         }
 
     pub bumps-above : (s′ : List Float) (factor : Float) → lt (a .ceiling) x ≡ true → Rescaled n (set s v x) s′ → factor ≡ Sat.rescaleFactor
-        → Bumps n a v s (record { increment = Ieee.mul binary64 (a .increment) factor; decay = a .decay; ceiling = a .ceiling }) s′
+        → Bumped n a v s (record { increment = Ieee.mul binary64 (a .increment) factor; decay = a .decay; ceiling = a .ceiling }) s′
     unfolding scoresOf Sat.bumpActivity Sat.rescaleIf
     bumps-above s′ factor t r g =
         record {

@@ -46,8 +46,8 @@ pub record Raised (n v : ℕ) (x : Float) (s s′ : List Float) : Type 0 where
   pub is : take n s′ ≡ Sat.addScore (take n s) v x
   pub others : Others n s s′
 
--- of `bump_activity`
-pub record Bumps (n : ℕ) (a : Activity) (v : ℕ) (s : List Float) (r : Activity) (s′ : List Float) : Type 0 where
+-- the scores of n variables after a bump
+pub record Bumped (n : ℕ) (a : Activity) (v : ℕ) (s : List Float) (r : Activity) (s′ : List Float) : Type 0 where
   pub is : scoresOf n r s′ ≡ Sat.bumpActivity (scoresOf n a s) v
   pub fixed : Fixed r
   pub others : Others n s s′
@@ -57,8 +57,8 @@ pub record ZeroScores (n : ℕ) (s s′ : List Float) : Type 0 where
   pub is : take n s′ ≡ replicate n Sat.scoreZero
   pub others : Others n s s′
 
--- of `add_ones`
-pub record AddsOnes (n : ℕ) (ls : List ℕ) (s s′ : List Float) : Type 0 where
+-- the scores of n variables with the ones of a clause
+pub record Added (n : ℕ) (ls : List ℕ) (s s′ : List Float) : Type 0 where
   pub is : take n s′ ≡ Sat.addOnes (take n s) ls
   pub others : Others n s s′
 
@@ -69,12 +69,6 @@ unfoldable pub bestOf : List Float → ℕ → Sat.Choice
 bestOf s zero = Sat.noChoice
 bestOf s (suc v) = Sat.chosen (suc v) (getD s (suc v) Sat.scoreZero)
 
--- of `better`
-pub record Betters (t : Trail) (w : List ℕ) (s : List Float) (best v r : ℕ) : Type 0 where
-  pub is : bestOf (take (t .variables) s) r
-      ≡ Sat.chooseValued v (getD (take (t .variables) s) v Sat.scoreZero) (getD (assignmentOf t w .assignments) v Sat.Unassigned) (bestOf (take (t .variables) s) best)
-  pub low : r ≤ v
-
 -- an answer of `choose_variable` as the definition has it
 unfoldable pub choiceOf : List Float → Choice → Sat.Choice
 choiceOf s Choices.Nothing = Sat.noChoice
@@ -84,9 +78,3 @@ choiceOf s (Choices.Variable v) = Sat.chosen v (getD s v Sat.scoreZero)
 abbrev pub oneOf : ℕ → Choice → Type 0
 oneOf n Choices.Nothing = Unit
 oneOf n (Choices.Variable v) = v < n
-
--- of `choose_variable`
-pub record Chooses (t : Trail) (w : List ℕ) (s : List Float) (r : Choice) : Type 0 where
-  pub is : choiceOf (take (t .variables) s) r
-      ≡ Sat.chooseFrom 1 (drop 1 (assignmentOf t w .assignments)) (drop 1 (take (t .variables) s)) Sat.noChoice
-  pub below : oneOf (t .variables) r

@@ -127,10 +127,3 @@ pub record Cleared (base n : ℕ) (w w′ : List ℕ) : Type 0 where
   pub zeros : column n base w′ ≡ replicate n 0
   pub frame : Unchanged (base ∷ []) w w′
   pub words : LENT ≤ Lists.length w′
-
--- of `new`
-pub record News (n : ℕ) (w : List ℕ) (r : Trail) (w′ : List ℕ) : Type 0 where
-  pub is : assignmentOf r w′ ≡ (Sat.new n) .assignment
-  pub frame : Unchanged assignmentRegions w w′
-  pub ready : TrailReady r w′
-  pub variables : r .variables ≡ n

@@ -1,12 +1,13 @@
 -- Laws of the assignment in lent words: what a read finds, and what a store makes of it. Assumes nothing.
 use mathlib.Core.Path.{_≡_, refl, ap, sym, _∙_}
-use mathlib.Core.Bool.{Bool, true, false, not}
+use mathlib.Core.Bool.{Bool, true, false, not, cond, Bool·beq}
 use mathlib.Core.List.{List, [], _∷_, _++_, map}
-use mathlib.Core.Logic.{_⊎_, inl, inr, ⊎-elim}
-use Prim.Native.Nat.{ℕ, zero, suc, _+_, _-_, _/_, _%_, _<_, _≤_}
+use mathlib.Core.Logic.{⊎-elim}
+use Prim.Native.Nat.{ℕ, zero, suc, _+_, _-_, _%_, _<_, _≤_}
 use native.Mathlib.Omega.{arith}
 use lib.Dec.{eqb}
-use borrow.Author.Tests.{eqb-true, eqb-false}
+use borrow.Author.Tests.{eqb-true}
+use mir.Val.{boolByte}
 use lib.ListN.{length, take, set, getD, length-take, length-map, List·getD-map, List·getD-eq-default}
 use lib.Seq.{take-set-lt, take-set-le, set-out, length-take-le}
 use Rattle.facts.specs.Bools.{and-left, and-right, both-and}
@@ -40,42 +41,53 @@ getD-past n l i h = sym (List·getD-eq-default (take n l) 0 (simp length-take (o
 
 -- ---- literals
 
--- the low bit is 0 or 1
-pub low-bit : (l : ℕ) → (l % 2 ≡ 0) ⊎ (l % 2 ≡ 1)
-low-bit l = go (eqb (l % 2) 1) refl
-  where
-    go : (b : Bool) → eqb (l % 2) 1 ≡ b → (l % 2 ≡ 0) ⊎ (l % 2 ≡ 1)
-    go true e = inr (eqb-true (l % 2) 1 e)
-    go false e = inl (let n = eqb-false (l % 2) 1 e in omega arith)
+-- a sign as a number is 0 or 1
+pub sign-low : (b : Bool) → boolByte b ≤ 1
+sign-low true = omega arith
+sign-low false = omega arith
 
--- the word that makes a literal true
-pub making-true : (l : ℕ) → wordValue (l % 2 + 1) ≡ Sat.makingTrue (Literals.inverted l)
-unfolding wordValue Sat.makingTrue Literals.inverted
-making-true l = ⊎-elim (λ (e : l % 2 ≡ 0). rw e) (λ (e : l % 2 ≡ 1). rw e) (low-bit l)
+-- the word that makes a literal true; the argument: inverted
+pub making-true : (b : Bool) → wordValue (boolByte b + 1) ≡ Sat.makingTrue b
+unfolding wordValue Sat.makingTrue
+making-true true = refl
+making-true false = refl
 
 -- the phase of a literal that is made true
-pub phase-of : (l : ℕ) → wordBit (1 - l % 2) ≡ not (Literals.inverted l)
-unfolding wordBit Literals.inverted
-phase-of l = ⊎-elim (λ (e : l % 2 ≡ 0). rw e) (λ (e : l % 2 ≡ 1). rw e) (low-bit l)
+pub phase-of : (b : Bool) → wordBit (1 - boolByte b) ≡ not b
+unfolding wordBit
+phase-of true = refl
+phase-of false = refl
 
 -- the word 0: no literal of the variable has a value
-pub word-unassigned : (v l : ℕ) → v ≡ 0 → Sat.literalValue (Literals.inverted l) (wordValue v) ≡ Sat.Unassigned
+pub word-unassigned : (v : ℕ) (b : Bool) → v ≡ 0 → Sat.literalValue b (wordValue v) ≡ Sat.Unassigned
 unfolding wordValue Sat.literalValue
-word-unassigned v l e = rw e
+word-unassigned v b e = rw e
 
--- a word and a literal of the same low bit: the literal is false; else it is true
-pub word-false : (v l : ℕ) → (v ≡ 0 → ⊥) → v % 2 ≡ l % 2 → Sat.literalValue (Literals.inverted l) (wordValue v) ≡ Sat.False
-unfolding wordValue Sat.literalValue Literals.inverted
-word-false zero l n e = absurd (n refl)
-word-false (suc k) l n e = ⊎-elim (λ (z : l % 2 ≡ 0). rw (e, z)) (λ (z : l % 2 ≡ 1). rw (e, z)) (low-bit l)
+-- a variable that is true, or not, and a literal that is inverted just then is false; else it is true
+sign-same : (q b : Bool) → Bool·beq q b ≡ true → Sat.literalValue b (cond q Sat.True Sat.False) ≡ Sat.False
+unfolding Sat.literalValue
+sign-same true true e = refl
+sign-same false false e = refl
+sign-same true false e = absurd (let z : _≡_ {A = ℕ} 0 1 = cc e in omega arith)
+sign-same false true e = absurd (let z : _≡_ {A = ℕ} 0 1 = cc e in omega arith)
 
-pub word-true : (v l : ℕ) → (v ≡ 0 → ⊥) → (v % 2 ≡ l % 2 → ⊥) → Sat.literalValue (Literals.inverted l) (wordValue v) ≡ Sat.True
-unfolding wordValue Sat.literalValue Literals.inverted
-word-true zero l n e = absurd (n refl)
-word-true (suc k) l n e =
-    ⊎-elim (λ (z : l % 2 ≡ 0). let y : suc k % 2 ≡ 1 = omega arith in rw (y, z))
-    (λ (z : l % 2 ≡ 1). let y : suc k % 2 ≡ 0 = omega arith in rw (y, z))
-    (low-bit l)
+sign-other : (q b : Bool) → Bool·beq q b ≡ false → Sat.literalValue b (cond q Sat.True Sat.False) ≡ Sat.True
+unfolding Sat.literalValue
+sign-other true false e = refl
+sign-other false true e = refl
+sign-other true true e = absurd (let z : _≡_ {A = ℕ} 0 1 = cc e in omega arith)
+sign-other false false e = absurd (let z : _≡_ {A = ℕ} 0 1 = cc e in omega arith)
+
+-- a word of an assigned variable: the literal is false, or true
+pub word-false : (v : ℕ) (b : Bool) → (v ≡ 0 → ⊥) → Bool·beq (eqb (v % 2) 1) b ≡ true → Sat.literalValue b (wordValue v) ≡ Sat.False
+unfolding wordValue
+word-false zero b n e = absurd (n refl)
+word-false (suc k) b n e = sign-same (eqb (suc k % 2) 1) b e
+
+pub word-true : (v : ℕ) (b : Bool) → (v ≡ 0 → ⊥) → Bool·beq (eqb (v % 2) 1) b ≡ false → Sat.literalValue b (wordValue v) ≡ Sat.True
+unfolding wordValue
+word-true zero b n e = absurd (n refl)
+word-true (suc k) b n e = sign-other (eqb (suc k % 2) 1) b e
 
 -- ---- reads
 
@@ -86,9 +98,9 @@ bit-true zero n = absurd (n refl)
 bit-true (suc p) n = refl
 
 -- the value of a literal, from the word of its variable
-pub value-is : (t : Trail) (w : List ℕ) (l : ℕ) → Sat.value (assignmentOf t w) l ≡ Sat.literalValue (Literals.inverted l) (wordValue (getD (column (t .variables) VALUES w) (l / 2) 0))
-unfolding Sat.value assignmentOf Literals.node wordValue
-value-is t w l = ap (λ (v : Sat.Value). Sat.literalValue (Literals.inverted l) v) (List·getD-map wordValue (column (t .variables) VALUES w) (l / 2) 0)
+pub value-is : (t : Trail) (w : List ℕ) (l : ℕ) → Sat.value (assignmentOf t w) l ≡ Sat.literalValue (Literals.inverted l) (wordValue (getD (column (t .variables) VALUES w) (Literals.node l) 0))
+unfolding Sat.value assignmentOf wordValue
+value-is t w l = ap (λ (v : Sat.Value). Sat.literalValue (Literals.inverted l) v) (List·getD-map wordValue (column (t .variables) VALUES w) (Literals.node l) 0)
 
 -- ---- the frame
 
@@ -168,7 +180,9 @@ variables-are t w r = length-map (column (t .variables) VALUES w) wordValue ∙ 
 -- the words of `assign`
 abbrev pub assignWords : List ℕ → ℕ → ℕ → ℕ → ℕ → List ℕ
 assignWords w n level l reason =
-    stored TRAIL (stored PHASES (stored REASONS (stored LEVELS (stored VALUES w (l / 2) (l % 2 + 1)) (l / 2) level) (l / 2) reason) (l / 2) (1 - l % 2)) n l
+    let v = Literals.node l in
+    let b = boolByte (Literals.inverted l) in
+    stored TRAIL (stored PHASES (stored REASONS (stored LEVELS (stored VALUES w v (b + 1)) v level) v reason) v (1 - b)) n l
 
 -- a store at the end of the first n words
 pub set-end : (b : ℕ) (w : List ℕ) (n v : ℕ) → n < sizeOf b → b + sizeOf b ≤ length w → set (column (n + 1) b w) n v ≡ column n b w ++ (v ∷ [])
@@ -177,18 +191,18 @@ set-end b w n v h k = sym (take-set (n + 1) (region b w) n v) ∙ push b w n v h
 pub assign-is : (t : Trail) (w : List ℕ) (l reason : ℕ) → TrailReady t w → t .length < SMALL
     → assignmentOf (record { variables = t .variables; length = t .length + 1; head = t .head; level = t .level }) (assignWords w (t .length) (t .level) l reason)
     ≡ Sat.assign (assignmentOf t w) l (wordReason reason)
-unfolding assignmentOf Sat.assign Sat.decisionLevel Literals.node Lists.snoc
+unfolding assignmentOf Sat.assign Sat.decisionLevel Lists.snoc
 assign-is t w l reason r h =
     let k : TRAIL + SMALL ≤ length w = omega arith in
     let lv : length (column (t .level) LIMITS w) ≡ t .level = length-column LIMITS (t .level) w (omega arith) (r .levels) in
     simp (stores, take-set, map-set, making-true, phase-of, set-end TRAIL w (t .length) l h k, lv)
 
 -- the five stores of `assign`
-module _ (t : Trail) (l reason v : ℕ) {w w₁ w₂ w₃ w₄ w₅ : List ℕ} where
-  pub assigns : TrailReady t w → t .length < SMALL → v ≡ l / 2 → w₁ ≡ stored VALUES w v (l % 2 + 1) → w₂ ≡ stored LEVELS w₁ v (t .level) → w₃ ≡ stored REASONS w₂ v reason
-      → w₄ ≡ stored PHASES w₃ v (1 - l % 2) → w₅ ≡ stored TRAIL w₄ (t .length) l → LENT ≤ length w₅
+module _ (t : Trail) (l reason v b : ℕ) {w w₁ w₂ w₃ w₄ w₅ : List ℕ} where
+  pub assigns : TrailReady t w → t .length < SMALL → v ≡ Literals.node l → b ≡ boolByte (Literals.inverted l) → w₁ ≡ stored VALUES w v (b + 1) → w₂ ≡ stored LEVELS w₁ v (t .level) → w₃ ≡ stored REASONS w₂ v reason
+      → w₄ ≡ stored PHASES w₃ v (1 - b) → w₅ ≡ stored TRAIL w₄ (t .length) l → LENT ≤ length w₅
       → Assigns t w l reason (record { variables = t .variables; length = t .length + 1; head = t .head; level = t .level }) w₅
-  assigns r h e e₁ e₂ e₃ e₄ e₅ k =
+  assigns r h e f e₁ e₂ e₃ e₄ e₅ k =
       let listed = assignmentRegions in
       let s : w₅ ≡ assignWords w (t .length) (t .level) l reason = cc in
       record {

@@ -1,21 +1,21 @@
-// The scores of the variables: bumps, the rescaling, the decay and the choice, bit for bit as sat.rs rounds them.
+// The scores of the variables: bumps, the rescaling and the decay, bit for bit as sat.rs rounds them.
 ghost use mathlib.Core.Path.{_≡_};
 ghost use Prim.Native.Nat.{_+_, _<_, _≤_};
 ghost use lib.ListN.{length};
 ghost use Rattle.model.specs.Sat as Sat;
 ghost use lib.Seq.{slice};
-ghost use Rattle.words.specs.Layout.{LENT, POOL, LITERALS};
+ghost use Rattle.words.specs.Layout.{POOL, LITERALS};
 ghost use Rattle.words.specs.Region.{region};
 ghost use Rattle.assignment.specs.State.{TrailReady};
-ghost use Rattle.assignment.specs.Scores.{Fixed, Starts, Decays, Rescaled, Raised, Bumps, ZeroScores, AddsOnes, Betters, Chooses};
+ghost use Rattle.assignment.specs.Scores.{Fixed, Starts, Decays, Rescaled, Raised, ZeroScores};
+ghost use Rattle.assignment.specs.Blocks.{Bumps, AddsOnes};
+use crate::blocks::forget;
+use crate::blocks::forget_all;
 use crate::state::Activity;
-use crate::state::Choice;
 use crate::state::Trail;
-use crate::trail::fetch_below;
+use literals::Literal;
 use words::LITERALS;
 use words::POOL;
-use words::SMALL;
-use words::VALUES;
 use words::fetch;
 use words::wide;
 
@@ -72,11 +72,18 @@ fn add_score(scores: &mut [f64], n: usize, variable: usize, x: f64)
     }
 }
 
-// The increment added to the score of a variable, one of n, and a rescale above the ceiling.
-pub fn bump_activity(scores: &mut [f64], activity: Activity, n: usize, variable: usize) -> Activity
-    requires { ⌜ Fixed activity × (n ≤ length (now scores)) ⌝ }
-    ensures { λ r. ⌜ Bumps n activity variable (now (scores .entry)) r (now (scores .exit)) ⌝ }
+// The increment added to the score of a variable, and a rescale above the ceiling.
+pub fn bump_activity(
+    words: &mut [u32],
+    scores: &mut [f64],
+    t: Trail,
+    activity: Activity,
+    variable: usize,
+) -> Activity
+    requires { ⌜ TrailReady t (now words) × Fixed activity × (t .variables ≤ length (now scores)) ⌝ }
+    ensures { λ r. ⌜ Bumps t activity variable (now (words .entry)) (now (scores .entry)) r (now (words .exit)) (now (scores .exit)) ⌝ }
 {
+    let n = t.variables;
     if n <= variable {
         return activity;
     }
@@ -84,6 +91,7 @@ pub fn bump_activity(scores: &mut [f64], activity: Activity, n: usize, variable:
     scores[variable] = x;
     if activity.ceiling < x {
         rescale(scores, n);
+        forget_all(words, t);
         let factor = rescale_factor();
         return Activity {
             increment: activity.increment * factor,
@@ -91,6 +99,7 @@ pub fn bump_activity(scores: &mut [f64], activity: Activity, n: usize, variable:
             ceiling: activity.ceiling,
         };
     }
+    forget(words, t, variable);
     activity
 }
 
@@ -107,51 +116,17 @@ pub fn clear_scores(scores: &mut [f64], n: usize)
 }
 
 // 1.0 added to the score of each literal's variable, the literals being those of the pool from `start` up to `end`.
-pub fn add_ones(words: &[u32], scores: &mut [f64], n: usize, start: usize, end: usize)
-    requires { ⌜ (LENT ≤ length (now words)) × (n ≤ length (now scores)) × (start ≤ end) × (end ≤ POOL) ⌝ }
-    ensures { λ _. ⌜ AddsOnes n (slice start end (region LITERALS (now (words .entry)))) (now (scores .entry)) (now (scores .exit)) ⌝ }
+pub fn add_ones(words: &mut [u32], scores: &mut [f64], t: Trail, start: usize, end: usize)
+    requires { ⌜ TrailReady t (now words) × (t .variables ≤ length (now scores)) × (start ≤ end) × (end ≤ POOL) ⌝ }
+    ensures { λ _. ⌜ AddsOnes t (slice start end (region LITERALS (now (words .entry)))) (now (words .entry)) (now (scores .entry)) (now (words .exit)) (now (scores .exit)) ⌝ }
 {
+    let n = t.variables;
     let mut i = start;
     while i < end {
-        let literal = fetch(words, LITERALS, POOL, i);
-        add_score(scores, n, wide(literal / 2), 1.0);
+        let literal = Literal(fetch(words, LITERALS, POOL, i));
+        let variable = wide(literal.node());
+        add_score(scores, n, variable, 1.0);
+        forget(words, t, variable);
         i += 1;
     }
-}
-
-// A variable after the best so far, 0 for none: an unassigned one with a higher score is better.
-fn better(words: &[u32], scores: &[f64], t: Trail, best: usize, variable: usize) -> usize
-    requires { ⌜ (LENT ≤ length (now words)) × (t .variables ≤ length (now scores)) × (0 < variable) × (variable < t .variables) × (best ≤ variable) ⌝ }
-    ensures { λ r. ⌜ Betters t (now (words .entry)) (now (scores .entry)) best variable r ⌝ }
-{
-    let n = t.variables;
-    if fetch_below(words, VALUES, SMALL, n, variable) != 0 {
-        return best;
-    }
-    if best == 0 {
-        return variable;
-    }
-    if scores[best] < scores[variable] {
-        variable
-    } else {
-        best
-    }
-}
-
-// The unassigned variable of the highest score, the lowest of equals.
-pub fn choose_variable(words: &[u32], scores: &[f64], t: Trail) -> Choice
-    requires { ⌜ TrailReady t (now words) × (t .variables ≤ length (now scores)) ⌝ }
-    ensures { λ r. ⌜ Chooses t (now (words .entry)) (now (scores .entry)) r ⌝ }
-{
-    let n = t.variables;
-    let mut best: usize = 0;
-    let mut variable: usize = 1;
-    while variable < n {
-        best = better(words, scores, t, best, variable);
-        variable += 1;
-    }
-    if best == 0 {
-        return Choice::Nothing;
-    }
-    Choice::Variable(best as u32)
 }

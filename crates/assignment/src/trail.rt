@@ -1,13 +1,17 @@
 // Values, a literal made true, and backtrack, as sat.rs has them, over the words of a search.
 ghost use mathlib.Core.Path.{_≡_};
-ghost use Prim.Native.Nat.{_+_, _<_, _≤_, min};
+ghost use Prim.Native.Nat.{_+_, _<_, _≤_};
 ghost use lib.ListN.{length, getD, take, drop};
 ghost use Rattle.words.specs.Layout.{LENT, SMALL, MOST-NODES};
 ghost use Rattle.words.specs.Region.{region, sizeOf};
 ghost use Rattle.model.specs.Sat as Sat;
-ghost use Rattle.assignment.specs.State.{assignmentOf, valueOf, TrailReady, Assigns, Becomes, decided, News};
+ghost use Rattle.assignment.specs.State.{assignmentOf, valueOf, TrailReady, Assigns, Becomes, decided};
+ghost use Rattle.assignment.specs.Blocks.{Undoes, News};
 use crate::state::Trail;
 use crate::state::Value;
+use literals::Literal;
+use words::BLOCK;
+use words::BLOCKS;
 use words::LEVELS;
 use words::LIMITS;
 use words::PHASES;
@@ -17,6 +21,7 @@ use words::TRAIL;
 use words::VALUES;
 use words::clear;
 use words::fetch;
+use words::lower;
 use words::stash;
 use words::wide;
 
@@ -33,16 +38,16 @@ pub fn fetch_below(words: &[u32], base: usize, size: usize, count: usize, i: usi
 }
 
 // The value of a literal.
-pub fn value(words: &[u32], t: Trail, literal: u32) -> Value
+pub fn value(words: &[u32], t: Trail, literal: Literal) -> Value
     requires { ⌜ LENT ≤ length (now words) ⌝ }
-    ensures { λ r. ⌜ valueOf r ≡ Sat.value (assignmentOf t (now (words .entry))) literal ⌝ }
+    ensures { λ r. ⌜ valueOf r ≡ Sat.value (assignmentOf t (now (words .entry))) (literal .0) ⌝ }
 {
     let n = t.variables;
-    let word = fetch_below(words, VALUES, SMALL, n, wide(literal / 2));
+    let word = fetch_below(words, VALUES, SMALL, n, wide(literal.node()));
     if word == 0 {
         return Value::Unassigned;
     }
-    if word % 2 == literal % 2 {
+    if (word % 2 == 1) == literal.inverted() {
         Value::False
     } else {
         Value::True
@@ -50,18 +55,19 @@ pub fn value(words: &[u32], t: Trail, literal: u32) -> Value
 }
 
 // An unassigned literal made true; a reason is 0 for none, and one more than the number of its clause.
-pub fn assign(words: &mut [u32], t: Trail, literal: u32, reason: u32) -> Trail
+pub fn assign(words: &mut [u32], t: Trail, literal: Literal, reason: u32) -> Trail
     requires { ⌜ TrailReady t (now words) × (t .length < SMALL) ⌝ }
-    ensures { λ r. ⌜ Assigns t (now (words .entry)) literal reason r (now (words .exit)) ⌝ }
+    ensures { λ r. ⌜ Assigns t (now (words .entry)) (literal .0) reason r (now (words .exit)) ⌝ }
 {
-    let v = wide(literal / 2);
+    let v = wide(literal.node());
+    let sign = literal.inverted() as u32;
     let n = t.length;
     let level = t.level as u32;
-    stash(words, VALUES, SMALL, v, literal % 2 + 1);
+    stash(words, VALUES, SMALL, v, sign + 1);
     stash(words, LEVELS, SMALL, v, level);
     stash(words, REASONS, SMALL, v, reason);
-    stash(words, PHASES, SMALL, v, 1 - literal % 2);
-    stash(words, TRAIL, SMALL, n, literal);
+    stash(words, PHASES, SMALL, v, 1 - sign);
+    stash(words, TRAIL, SMALL, n, literal.0);
     Trail {
         variables: t.variables,
         length: n + 1,
@@ -70,42 +76,36 @@ pub fn assign(words: &mut [u32], t: Trail, literal: u32, reason: u32) -> Trail
     }
 }
 
-// A literal's variable unassigned; its phase stays.
-fn unassign(words: &mut [u32], t: Trail, literal: u32)
+// A literal's variable unassigned, and its block unknown; its phase stays.
+fn unassign(words: &mut [u32], t: Trail, literal: Literal)
     requires { ⌜ TrailReady t (now words) ⌝ }
-    ensures { λ _. ⌜ Becomes t (now (words .entry)) (Sat.unassign (assignmentOf t (now (words .entry))) literal) t (now (words .exit)) ⌝ }
+    ensures { λ _. ⌜ Undoes t (now (words .entry)) (Sat.unassign (assignmentOf t (now (words .entry))) (literal .0)) t (now (words .exit)) ⌝ }
 {
-    let v = wide(literal / 2);
+    let v = wide(literal.node());
     stash(words, VALUES, SMALL, v, 0);
     stash(words, LEVELS, SMALL, v, 0);
     stash(words, REASONS, SMALL, v, 0);
+    stash(words, BLOCKS, SMALL, v / BLOCK, 0);
 }
 
 // The literals of the trail from a place on unassigned.
 fn unassign_from(words: &mut [u32], t: Trail, from: usize)
     requires { ⌜ TrailReady t (now words) × (from ≤ t .length) ⌝ }
-    ensures { λ _. ⌜ Becomes t (now (words .entry)) (Sat.unassignAll (assignmentOf t (now (words .entry))) (drop from (assignmentOf t (now (words .entry)) .trail))) t (now (words .exit)) ⌝ }
+    ensures { λ _. ⌜ Undoes t (now (words .entry)) (Sat.unassignAll (assignmentOf t (now (words .entry))) (drop from (assignmentOf t (now (words .entry)) .trail))) t (now (words .exit)) ⌝ }
 {
     let n = t.length;
     let mut i = from;
     while i < n {
-        let literal = fetch(words, TRAIL, SMALL, i);
+        let literal = Literal(fetch(words, TRAIL, SMALL, i));
         unassign(words, t, literal);
         i += 1;
     }
 }
 
-// The lower of two numbers.
-pub fn lower(a: usize, b: usize) -> usize
-    ensures { λ r. ⌜ r ≡ min a b ⌝ }
-{
-    if a < b { a } else { b }
-}
-
 // Back to a level: what was assigned above it is unassigned.
 pub fn backtrack(words: &mut [u32], t: Trail, level: usize) -> Trail
     requires { ⌜ TrailReady t (now words) ⌝ }
-    ensures { λ r. ⌜ Becomes t (now (words .entry)) (Sat.backtrack (assignmentOf t (now (words .entry))) level) r (now (words .exit)) ⌝ }
+    ensures { λ r. ⌜ Undoes t (now (words .entry)) (Sat.backtrack (assignmentOf t (now (words .entry))) level) r (now (words .exit)) ⌝ }
 {
     if t.level <= level {
         return t;
@@ -124,15 +124,15 @@ pub fn backtrack(words: &mut [u32], t: Trail, level: usize) -> Trail
 }
 
 // The literal of a decision: the variable with its phase.
-fn decision(words: &[u32], t: Trail, variable: u32) -> u32
+fn decision(words: &[u32], t: Trail, variable: u32) -> Literal
     requires { ⌜ TrailReady t (now words) × (variable < MOST-NODES) ⌝ }
-    ensures { λ r. ⌜ r ≡ Sat.decision (assignmentOf t (now (words .entry))) variable ⌝ }
+    ensures { λ r. ⌜ r .0 ≡ Sat.decision (assignmentOf t (now (words .entry))) variable ⌝ }
 {
     let n = t.variables;
     if fetch_below(words, PHASES, SMALL, n, wide(variable)) == 0 {
-        return variable * 2 + 1;
+        return Literal::of(variable).negate();
     }
-    variable * 2
+    Literal::of(variable)
 }
 
 // One more decision level, which begins at the trail's end.
@@ -170,6 +170,7 @@ pub fn new(words: &mut [u32], variables: usize) -> Trail
     clear(words, LEVELS, SMALL, variables);
     clear(words, REASONS, SMALL, variables);
     clear(words, PHASES, SMALL, variables);
+    clear(words, BLOCKS, SMALL, variables / BLOCK + 1);
     Trail {
         variables,
         length: 0,

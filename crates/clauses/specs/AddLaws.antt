@@ -11,21 +11,23 @@ use borrow.Author.Tests.{not-true}
 use lib.ListN.{set, getD, length, length-set}
 use lib.Seq.{slice, slice-cons, slice-empty, getD-set-same, getD-set-other}
 use Rattle.facts.specs.Numbers.{below}
-use Rattle.words.specs.Layout.{LENT, STARTS, CELLS, POOL, WATCH-COUNTS, CLAUSE-STARTS, WATCHED, LITERALS}
+use Rattle.words.specs.Layout.{LENT, STARTS, CELLS, POOL, BLOCKS, WATCH-COUNTS, CLAUSE-STARTS, WATCHED, LITERALS}
 use Rattle.words.specs.Region.{region, stores, length-stored, length-region}
 use Rattle.model.specs.Lists.{snoc, member}
 use Rattle.model.specs.Sat as Sat
 use Rattle.model.specs.Sat.{Solver}
 use Rattle.assignment.specs.State.{assignmentOf, Unchanged}
-use Rattle.assignment.specs.Scores.{AddsOnes}
-use Rattle.assignment.specs.StateLaws.{unchanged-none, unchanged-both, unchanged-stored}
+use Rattle.assignment.specs.Blocks.{AddsOnes}
+use Rattle.assignment.specs.KnownLaws.{cached-kept}
+use Rattle.assignment.specs.StateLaws.{unchanged-none, unchanged-both, unchanged-within, unchanged-stored}
 use Rattle.assignment.specs.declared.state.Trail.{Trail}
 use Rattle.clauses.specs.declared.state.Store.{Store}
 use Rattle.clauses.specs.Tabulate.{tabulate-same, tabulate-suc}
 use Rattle.clauses.specs.Queue.{queuesOf, pushedWords}
 use Rattle.clauses.specs.Sound.{fresh-sound, drop-sound}
 use Rattle.clauses.specs.Clauses.{clauseAt, clausesOf, watchesOf, same-watches, length-clauses, count-fits}
-use Rattle.clauses.specs.State.{solverOf, Formed, SoundStore, watchRegions, sealedWords, poolLiterals, Attachable, attachedTo, Attached, scored, clean, Added}
+use Rattle.clauses.specs.KeptLaws.{solver-kept, pool-kept}
+use Rattle.clauses.specs.State.{solverOf, Formed, SoundStore, watchRegions, addRegions, sealedWords, poolLiterals, Attachable, attachedTo, Attached, scored, clean, Added}
 use Rattle.clauses.specs.StepLaws.{same-assignment, pushed-unchanged, push-step, push-solver}
 
 -- ---- a clause sealed
@@ -251,14 +253,17 @@ unfolding Sat.addSorted Sat.addUnless attachedTo clean
 add-is s [] e = absurd (let z : _≡_ {A = ℕ} 0 1 = cc e in omega arith)
 add-is s (x ∷ xs) e = rw (not-true (Sat.tautological x xs) e)
 
-pub added : (m : Store) (t : Trail) (w : List ℕ) (x : List Float) (count : ℕ) (m′ : Store) (w′ : List ℕ) (x′ : List Float)
-    → clean (poolLiterals m count w) ≡ true → Attached m t w count m′ w′ → AddsOnes (t .variables) (poolLiterals m count w) x x′ → Added m t w x count m′ w′ x′
+-- the words w, with the ones of the scores u, with the clause w′
+pub added : (m : Store) (t : Trail) (w u : List ℕ) (x : List Float) (count : ℕ) (m′ : Store) (w′ : List ℕ) (x′ : List Float)
+    → clean (poolLiterals m count w) ≡ true → AddsOnes t (poolLiterals m count w) w x u x′ → Attached m t u count m′ w′ → Added m t w x count m′ w′ x′
 unfolding solverOf scored
-added m t w x count m′ w′ x′ c a o = record {
-  frame = a .frame;
+added m t w u x count m′ w′ x′ c o a = record {
+  frame = unchanged-both addRegions (unchanged-within (BLOCKS ∷ []) addRegions refl (o .frame)) (unchanged-within watchRegions addRegions refl (a .frame));
   sound = a .sound;
   clauses = a .clauses;
   literals = a .literals;
-  others = o .others;
-  is = λ s. a .is (scored s (t .variables) x′) ∙ rw (o .is) (sym (add-is (solverOf (scored s (t .variables) x) m t w) (poolLiterals m count w) c));
+  others = o .scores .others;
+  is = λ s. a .is (scored s (t .variables) x′)
+      ∙ rw (solver-kept (BLOCKS ∷ []) refl m t w u (o .frame) (scored s (t .variables) x′), pool-kept (BLOCKS ∷ []) refl m t w u (o .frame) count, o .scores .is) (sym (add-is (solverOf (scored s (t .variables) x) m t w) (poolLiterals m count w) c));
+  cached = λ b k. cached-kept watchRegions t b x′ refl (a .frame) (o .cached b k);
 }

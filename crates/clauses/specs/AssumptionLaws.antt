@@ -15,12 +15,12 @@ use Rattle.assignment.specs.StateLaws.{unchanged-none, unchanged-both}
 use Rattle.assignment.specs.declared.state.Trail.{Trail}
 use Rattle.clauses.specs.declared.state.Store.{Store}
 use Rattle.clauses.specs.declared.state.Encoding.{Encoding}
-use Rattle.clauses.specs.State.{solverOf, scored, flagged, encodedOf, AddedList, Roomy, Grows, watchRegions}
+use Rattle.clauses.specs.State.{solverOf, scored, flagged, encodedOf, AddedList, Roomy, Grows, addRegions}
 use Rattle.clauses.specs.EncodeLaws.{one-clause}
 
 -- nothing grows
 none-added : (m : Store) (t : Trail) (w : List ℕ) (x : List Float) (c l : ℕ) → Roomy m t w x c l → Grows m t w x c l m w x
-none-added m t w x c l r = record { frame = unchanged-none watchRegions w; sound = r .sound; clauses = omega arith; literals = omega arith; others = record { long = refl; same = refl } }
+none-added m t w x c l r = record { frame = unchanged-none addRegions w; sound = r .sound; clauses = omega arith; literals = omega arith; others = record { long = refl; same = refl }; cached = λ a c. c }
 
 module _ (e : Encoding) (t : Trail) (w : List ℕ) (x : List Float) (l : ℕ) (r : Roomy (e .store) t w x 1 1) where
   -- the false literal
@@ -38,7 +38,7 @@ module _ (e : Encoding) (t : Trail) (w : List ℕ) (x : List Float) (l : ℕ) (r
       → Grows (e .store) t w x 1 1 m′ w′ x′ × ((s : Solver) → encodedOf s (record { store = m′; inconsistent = e .inconsistent }) t w′ x′ ≡ Sat.addAigClause (encodedOf s e t w x) (l ∷ []))
   unfolding encodedOf solverOf scored flagged
   assume-literal n k m′ w′ x′ a = (
-    record { frame = a .frame; sound = a .sound; clauses = omega (arith, a .clauses); literals = omega (arith, a .literals); others = a .others },
+    record { frame = a .frame; sound = a .sound; clauses = omega (arith, a .clauses); literals = omega (arith, a .literals); others = a .others; cached = a .cached },
     λ s. a .is (flagged s (e .inconsistent)) ∙ sym (one-clause (encodedOf s e t w x) l (omega arith)),
   )
 
@@ -54,7 +54,7 @@ module _ (t : Trail) (ls : List ℕ) (count : ℕ) (e₀ : Encoding) (w₀ : Lis
   pub assuming-start : Assuming t ls count e₀ w₀ x₀ e₀ w₀ x₀ 0
   assuming-start = record {
     most = omega arith;
-    grown = record { frame = unchanged-none watchRegions w₀; sound = r .sound; clauses = omega arith; literals = omega arith; others = record { long = refl; same = refl } };
+    grown = record { frame = unchanged-none addRegions w₀; sound = r .sound; clauses = omega arith; literals = omega arith; others = record { long = refl; same = refl }; cached = λ a c. c };
     left = λ s. refl;
   }
 
@@ -71,11 +71,12 @@ module _ (t : Trail) (ls : List ℕ) (count : ℕ) (e₀ : Encoding) (w₀ : Lis
     assuming-next h e′ w′ x′ g k = record {
       most = omega arith;
       grown = record {
-        frame = unchanged-both watchRegions (a .grown .frame) (g .frame);
+        frame = unchanged-both addRegions (a .grown .frame) (g .frame);
         sound = g .sound;
         clauses = omega (arith, a .grown .clauses, g .clauses);
         literals = omega (arith, a .grown .literals, g .literals);
         others = others-both _ (a .grown .others) (g .others);
+        cached = λ y c. g .cached y (a .grown .cached y c);
       };
       left = λ s. rw (k s, add-one) (rw (slice-cons i count ls 0 h b) at (a .left s));
     }

@@ -1,18 +1,16 @@
 -- Laws of clauses that are read: a literal at a place, and the search for a place to watch instead. Assumes nothing.
 use mathlib.Core.Path.{_≡_, refl, sym, _∙_}
-use mathlib.Core.Bool.{Bool, true, false, cond}
+use mathlib.Core.Bool.{true, false}
 use mathlib.Core.List.{List, _∷_}
 use mathlib.Core.Option.{none, some}
-use Prim.Native.Nat.{ℕ, suc, _+_, _-_, _*_, _%_, _<_, _≤_}
+use Prim.Native.Nat.{ℕ, suc, _+_, _-_, _*_, _<_, _≤_}
 use native.Mathlib.Omega.{arith}
 use native.Mathlib.Numerals.{add-one}
-use lib.Dec.{eqb}
-use borrow.Author.Tests.{eq-eqb, ne-eqb, eqb-true, eqb-false}
+use borrow.Author.Tests.{eq-eqb, ne-eqb}
 use lib.ListN.{getD, length, take, drop, length-take, drop-of-length-le, List·getD-eq-default}
 use lib.Seq.{slice, length-slice, getD-take, getD-drop, drop-cons}
 use Rattle.words.specs.Layout.{LENT, POOL, CLAUSE-STARTS, WATCHED, LITERALS}
 use Rattle.words.specs.Region.{region, length-region}
-use Rattle.model.specs.Literal as Literals
 use Rattle.model.specs.Sat as Sat
 use Rattle.model.specs.Sat.{Assignment}
 use Rattle.assignment.specs.State.{valueOf}
@@ -90,13 +88,3 @@ replacement-is t c = refl
 pub length-literals : (c : Clause) (w : List ℕ) → LENT ≤ length w → c .end ≤ POOL → length (clauseOf c w .literals) ≡ c .end - c .start
 unfolding clauseOf
 length-literals c w h k = length-slice (c .start) (c .end) (region LITERALS w) (omega (arith, length-region LITERALS w (omega arith)))
-
--- ---- the literal with the other sign
-
-pub flipped : (l r : ℕ) → r ≡ l + 1 - 2 * (l % 2) → r ≡ Literals.negate l
-unfolding Literals.negate Literals.inverted
-flipped l r e = go (eqb (l % 2) 1) refl
-  where
-    go : (b : Bool) → eqb (l % 2) 1 ≡ b → r ≡ cond b (l - 1) (l + 1)
-    go true g = omega (arith, eqb-true (l % 2) 1 g)
-    go false g = let n = eqb-false (l % 2) 1 g in omega arith

@@ -1,17 +1,16 @@
 -- The clauses of a conjunction added one after another. Assumes nothing.
 use mathlib.Core.Path.{_≡_, refl, ap, sym, _∙_}
-use mathlib.Core.Bool.{Bool, true, false, cond}
 use mathlib.Core.List.{List, [], _∷_}
-use Prim.Native.Nat.{ℕ, zero, suc, _+_, _-_, _*_, _/_, _%_, _<_, _≤_}
+use Prim.Native.Nat.{ℕ, zero, suc, _+_, _-_, _*_, _/_, _<_, _≤_}
 use native.Mathlib.Omega.{arith}
-use lib.Dec.{eqb}
-use borrow.Author.Tests.{eqb-true, eqb-false}
 use lib.Ieee.{Float}
 use native.Mathlib.Numerals.{add-one}
 use lib.ListN.{length, getD, drop, drop-of-length-le}
 use lib.Seq.{drop-cons}
 use Rattle.words.specs.Layout.{GRAPH-LHS, GRAPH-RHS}
 use Rattle.words.specs.Region.{region}
+use Rattle.laws.specs.Graph.Values.{node-negate}
+use Rattle.literals.specs.LiteralLaws.{negate-even}
 use Rattle.model.specs.Literal as Literals
 use Rattle.model.specs.Literal.{negate}
 use Rattle.model.specs.Sat as Sat
@@ -21,40 +20,39 @@ use Rattle.assignment.specs.ScoreLaws.{others-both}
 use Rattle.assignment.specs.StateLaws.{unchanged-none, unchanged-both}
 use Rattle.assignment.specs.declared.state.Trail.{Trail}
 use Rattle.clauses.specs.declared.state.Store.{Store}
-use Rattle.clauses.specs.State.{solverOf, scored, AddedList, Room, Roomy, Grows, GateOf, Gates, Holds, nodeOf, nodeIn, watchRegions}
+use Rattle.clauses.specs.State.{solverOf, scored, AddedList, Room, Roomy, Grows, GateOf, Gates, Holds, nodeOf, nodeIn, addRegions}
 use Rattle.clauses.specs.EncodeLaws.{two-clause, three-clause}
 
 -- the negation of a literal has the same variable
-pub negate-half : (l : ℕ) → negate l / 2 ≡ l / 2
-unfolding negate Literals.inverted
-negate-half l = go (eqb (l % 2) 1) refl
-  where
-    go : (b : Bool) → eqb (l % 2) 1 ≡ b → cond b (l - 1) (l + 1) / 2 ≡ l / 2
-    go true e = omega (arith, eqb-true (l % 2) 1 e)
-    go false e = let n = eqb-false (l % 2) 1 e in omega arith
+negate-half : (l : ℕ) → negate l / 2 ≡ l / 2
+unfolding Literals.node
+negate-half l = node-negate l
 
-negate-even : (l : ℕ) → l % 2 ≡ 0 → negate l ≡ l + 1
-unfolding negate Literals.inverted
-negate-even l e = rw e
+module _ (m : Store) (t : Trail) (w : List ℕ) (x : List Float) (out lhs rhs : ℕ) (r : Roomy m t w x 3 7) (g : GateOf t out lhs rhs) (n : ℕ) (d : n ≡ negate out) where
+  one-more : n ≡ out + 1
+  one-more = d ∙ negate-even out (g .even)
 
-module _ (m : Store) (t : Trail) (w : List ℕ) (x : List Float) (out lhs rhs : ℕ) (r : Roomy m t w x 3 7) (g : GateOf t out lhs rhs) where
-  pub first-asked : Room m t w x 2 × (lhs / 2 < (out + 1) / 2) × (out + 1 < t .variables * 2)
+  pub first-asked : Room m t w x 2 × (Literals.node lhs < Literals.node n) × (n < t .variables * 2)
+  unfolding Literals.node
   first-asked = (
     record { sound = r .sound; clauses = omega (arith, r .clauses); literals = omega (arith, r .literals); scores = r .scores },
-    omega (arith, g .ascending, g .before),
-    omega (arith, g .even, g .within),
+    omega (arith, g .ascending, g .before, one-more),
+    omega (arith, g .even, g .within, one-more),
   )
 
-  module _ (m1 : Store) (w1 : List ℕ) (x1 : List Float) (a : AddedList m t w x (lhs ∷ (out + 1) ∷ []) m1 w1 x1) where
-    pub second-asked : Room m1 t w1 x1 2 × (rhs / 2 < (out + 1) / 2) × (out + 1 < t .variables * 2)
+  module _ (m1 : Store) (w1 : List ℕ) (x1 : List Float) (a : AddedList m t w x (lhs ∷ n ∷ []) m1 w1 x1) where
+    pub second-asked : Room m1 t w1 x1 2 × (Literals.node rhs < Literals.node n) × (n < t .variables * 2)
+    unfolding Literals.node
     second-asked = (
       record { sound = a .sound; clauses = omega (arith, r .clauses, a .clauses); literals = omega (arith, r .literals, a .literals); scores = omega (arith, r .scores, a .others .long) },
-      omega (arith, g .before),
-      omega (arith, g .even, g .within),
+      omega (arith, g .before, one-more),
+      omega (arith, g .even, g .within, one-more),
     )
 
-    module _ (m2 : Store) (w2 : List ℕ) (x2 : List Float) (b : AddedList m1 t w1 x1 (rhs ∷ (out + 1) ∷ []) m2 w2 x2) where
-      pub third-asked : (p q : ℕ) → p ≡ negate lhs → q ≡ negate rhs → Room m2 t w2 x2 3 × (p / 2 < q / 2) × (q / 2 < out / 2) × (out < t .variables * 2)
+    module _ (m2 : Store) (w2 : List ℕ) (x2 : List Float) (b : AddedList m1 t w1 x1 (rhs ∷ n ∷ []) m2 w2 x2) where
+      pub third-asked : (p q : ℕ) → p ≡ negate lhs → q ≡ negate rhs
+          → Room m2 t w2 x2 3 × (Literals.node p < Literals.node q) × (Literals.node q < Literals.node out) × (out < t .variables * 2)
+      unfolding Literals.node
       third-asked p q e f = (
         record { sound = b .sound; clauses = omega (arith, r .clauses, a .clauses, b .clauses); literals = omega (arith, r .literals, a .literals, b .literals); scores = omega (arith, r .scores, a .others .long, b .others .long) },
         rw (e, f) (omega (arith, g .ascending, negate-half lhs, negate-half rhs)),
@@ -68,17 +66,18 @@ module _ (m : Store) (t : Trail) (w : List ℕ) (x : List Float) (out lhs rhs : 
         unfolding Sat.addNode
         gate-added = (
           record {
-            frame = unchanged-both watchRegions (unchanged-both watchRegions (a .frame) (b .frame)) (c .frame);
+            frame = unchanged-both addRegions (unchanged-both addRegions (a .frame) (b .frame)) (c .frame);
             sound = c .sound;
             clauses = omega (arith, a .clauses, b .clauses, c .clauses);
             literals = omega (arith, a .literals, b .literals, c .literals);
             others = others-both _ (others-both _ (a .others) (b .others)) (c .others);
+            cached = λ y k. c .cached y (b .cached y (a .cached y k));
           },
           λ s. rw (
-            negate-even out (g .even),
-            two-clause (solverOf (scored s (t .variables) x) m t w) lhs (out + 1) (g .variable) (omega (arith, g .ascending, g .before)),
+            ← d,
+            two-clause (solverOf (scored s (t .variables) x) m t w) lhs n (g .variable) (omega (arith, g .ascending, g .before, one-more)),
             ← a .is s,
-            two-clause (solverOf (scored s (t .variables) x1) m1 t w1) rhs (out + 1) (omega (arith, g .variable, g .ascending)) (omega (arith, g .before)),
+            two-clause (solverOf (scored s (t .variables) x1) m1 t w1) rhs n (omega (arith, g .variable, g .ascending)) (omega (arith, g .before, one-more)),
             ← b .is s,
             three-clause (solverOf (scored s (t .variables) x2) m2 t w2) (negate lhs) (negate rhs) out (omega (arith, g .variable, negate-half lhs)) (omega (arith, g .ascending, negate-half lhs, negate-half rhs)) (omega (arith, g .before, negate-half rhs)),
             ← e,
@@ -94,7 +93,7 @@ module _ (m : Store) (t : Trail) (w : List ℕ) (x : List Float) (i rhs : ℕ) (
   pub node-none : Roomy m t w x 3 7 → rhs ≡ 0 → Grows m t w x 3 7 m w x × ((s : Solver) → solverOf (scored s (t .variables) x) m t w ≡ Sat.addNode (solverOf (scored s (t .variables) x) m t w) (i * 2) (nodeIn w i))
   unfolding nodeOf Sat.addNode
   node-none r z = (
-    record { frame = unchanged-none watchRegions w; sound = r .sound; clauses = omega arith; literals = omega arith; others = record { long = refl; same = refl } },
+    record { frame = unchanged-none addRegions w; sound = r .sound; clauses = omega arith; literals = omega arith; others = record { long = refl; same = refl }; cached = λ a c. c },
     λ s. rw (← e, z),
   )
 
@@ -135,7 +134,7 @@ module _ (t : Trail) (m₀ : Store) (w₀ : List ℕ) (x₀ : List Float) (r : R
   nodes-start = record {
     one = omega arith;
     most = omega (arith, r .sound .formed .some);
-    grown = record { frame = unchanged-none watchRegions w₀; sound = r .sound; clauses = omega arith; literals = omega arith; others = record { long = refl; same = refl } };
+    grown = record { frame = unchanged-none addRegions w₀; sound = r .sound; clauses = omega arith; literals = omega arith; others = record { long = refl; same = refl }; cached = λ a c. c };
     left = λ s g h. refl;
   }
 
@@ -160,11 +159,12 @@ module _ (t : Trail) (m₀ : Store) (w₀ : List ℕ) (x₀ : List Float) (r : R
       one = omega arith;
       most = omega arith;
       grown = record {
-        frame = unchanged-both watchRegions (n .grown .frame) (a .frame);
+        frame = unchanged-both addRegions (n .grown .frame) (a .frame);
         sound = a .sound;
         clauses = omega (arith, n .grown .clauses, a .clauses, n .one);
         literals = omega (arith, n .grown .literals, a .literals, n .one);
         others = others-both _ (n .grown .others) (a .others);
+        cached = λ y c. a .cached y (n .grown .cached y c);
       };
       left = λ s g o. ap (λ (q : Solver). Sat.addNodes q (i + 1) (drop (i + 1) g)) (k s ∙ ap (λ (y : Node). Sat.addNode (solverOf (scored s (t .variables) x) m t w) (i * 2) y) (node-same g o))
           ∙ sym (nodes-more (solverOf (scored s (t .variables) x) m t w) i g (omega (arith, o .size))) ∙ n .left s g o;
@@ -176,6 +176,6 @@ module _ (t : Trail) (m₀ : Store) (w₀ : List ℕ) (x₀ : List Float) (r : R
     pub nodes-done : t .variables ≤ i → Grows m₀ t w₀ x₀ (3 * t .variables) (7 * t .variables) m w x
         × ((s : Solver) (g : List Node) → Holds (t .variables) w₀ g → solverOf (scored s (t .variables) x) m t w ≡ Sat.addNodes (solverOf (scored s (t .variables) x₀) m₀ t w₀) 1 (drop 1 g))
     nodes-done h = (
-      record { frame = n .grown .frame; sound = n .grown .sound; clauses = omega (arith, n .grown .clauses, n .most); literals = omega (arith, n .grown .literals, n .most); others = n .grown .others },
+      record { frame = n .grown .frame; sound = n .grown .sound; clauses = omega (arith, n .grown .clauses, n .most); literals = omega (arith, n .grown .literals, n .most); others = n .grown .others; cached = n .grown .cached },
       λ s g o. sym (nodes-end (solverOf (scored s (t .variables) x) m t w) i g (omega (arith, o .size))) ∙ n .left s g o,
     )

@@ -6,6 +6,7 @@ pub mod Clauses
 pub mod State
 pub mod ClauseLaws
 pub mod StepLaws
+pub mod KeptLaws
 pub mod AddLaws
 pub mod EncodeLaws
 pub mod PoolLaws

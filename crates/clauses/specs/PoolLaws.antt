@@ -2,7 +2,7 @@
 use mathlib.Core.Path.{_≡_, refl, ap, _∙_}
 use mathlib.Core.Bool.{true}
 use mathlib.Core.List.{List, [], _∷_}
-use Prim.Native.Nat.{ℕ, zero, suc, _+_, _-_, _*_, _/_, _<_, _≤_}
+use Prim.Native.Nat.{ℕ, zero, suc, _+_, _-_, _*_, _<_, _≤_}
 use native.Mathlib.Omega.{arith}
 use lib.Ieee.{Float}
 use lib.ListN.{getD, length, take}
@@ -13,13 +13,14 @@ use Rattle.model.specs.Lists.{snoc, member}
 use Rattle.model.specs.Literal as Literals
 use Rattle.model.specs.Sat.{Solver}
 use Rattle.assignment.specs.State.{Unchanged}
-use Rattle.assignment.specs.StateLaws.{unchanged-none, unchanged-both, unchanged-stored}
+use Rattle.assignment.specs.StateLaws.{unchanged-none, unchanged-both, unchanged-stored, unchanged-within}
+use Rattle.assignment.specs.KnownLaws.{cached-kept}
 use Rattle.assignment.specs.declared.state.Trail.{Trail}
 use Rattle.clauses.specs.declared.state.Store.{Store}
 use Rattle.clauses.specs.Tabulate.{tabulate-same}
 use Rattle.clauses.specs.Queue.{queuesOf}
 use Rattle.clauses.specs.Clauses.{clauseAt, clausesOf, same-watches}
-use Rattle.clauses.specs.State.{solverOf, SoundStore, watchRegions, poolLiterals, Attachable, AllBelow, Pooled, scored, clean, Added, AddedList, Room}
+use Rattle.clauses.specs.State.{solverOf, SoundStore, watchRegions, addRegions, poolLiterals, Attachable, AllBelow, Pooled, scored, clean, Added, AddedList, Room}
 use Rattle.clauses.specs.StepLaws.{same-assignment}
 use Rattle.clauses.specs.EncodeLaws.{clean-one, clean-two, clean-three}
 use Rattle.clauses.specs.ClauseLaws.{slice-in}
@@ -118,12 +119,13 @@ pub added-list : (m : Store) (t : Trail) (w u : List ℕ) (x : List Float) (ls :
     → Unchanged watchRegions w u → ((s : Solver) → solverOf s m t u ≡ solverOf s m t w) → poolLiterals m count u ≡ ls → count ≡ length ls
     → Added m t u x count m′ w′ x′ → AddedList m t w x ls m′ w′ x′
 added-list m t w u x ls count m′ w′ x′ f k l n a = record {
-  frame = unchanged-both watchRegions f (a .frame);
+  frame = unchanged-both addRegions (unchanged-within watchRegions addRegions refl f) (a .frame);
   sound = a .sound;
   clauses = a .clauses;
   literals = rw n at (a .literals);
   others = a .others;
   is = λ s. rw (l, k (scored s (t .variables) x)) at (a .is s);
+  cached = λ b c. a .cached b (cached-kept watchRegions t b x refl f c);
 }
 
 -- what `add_clause` asks, from the literals in the pool
@@ -154,7 +156,7 @@ module _ (m : Store) (t : Trail) (w : List ℕ) (x : List Float) (a : ℕ) (u : 
     two-same : (s : Solver) → solverOf s m t v ≡ solverOf s m t w
     two-same s = q .is s ∙ p .is s
 
-    pub two-asked : Room m t w x 2 → a / 2 < b / 2 → b < t .variables * 2 → Attachable m t v 2 × (t .variables ≤ length x) × (clean (poolLiterals m 2 v) ≡ true)
+    pub two-asked : Room m t w x 2 → Literals.node a < Literals.node b → b < t .variables * 2 → Attachable m t v 2 × (t .variables ≤ length x) × (clean (poolLiterals m 2 v) ≡ true)
     unfolding Literals.node
     two-asked r h k = ready-clause m t w v x (a ∷ b ∷ []) 2 r (q .sound) (omega arith) two-pooled (omega arith, (k, tt)) (clean-two a b h)
 
@@ -166,7 +168,7 @@ module _ (m : Store) (t : Trail) (w : List ℕ) (x : List Float) (a : ℕ) (u : 
       unfolding snoc
       three-pooled = r .literals ∙ ap (λ (r : List ℕ). snoc r c) two-pooled
 
-      pub three-asked : Room m t w x 3 → a / 2 < b / 2 → b / 2 < c / 2 → c < t .variables * 2 → Attachable m t z 3 × (t .variables ≤ length x) × (clean (poolLiterals m 3 z) ≡ true)
+      pub three-asked : Room m t w x 3 → Literals.node a < Literals.node b → Literals.node b < Literals.node c → c < t .variables * 2 → Attachable m t z 3 × (t .variables ≤ length x) × (clean (poolLiterals m 3 z) ≡ true)
       unfolding Literals.node
       three-asked o h i k = ready-clause m t w z x (a ∷ b ∷ c ∷ []) 3 o (r .sound) (omega arith) three-pooled (omega arith, (omega arith, (k, tt))) (clean-three a b c h i)
 

@@ -1,24 +1,28 @@
 -- The solver of a graph and its assumptions, from words that held anything. Assumes nothing.
 use mathlib.Core.Path.{_≡_, refl, ap, sym, _∙_}
-use mathlib.Core.Bool.{false}
-use mathlib.Core.List.{List, []}
+use mathlib.Core.Bool.{true, false}
+use mathlib.Core.List.{List, [], _∷_}
 use Prim.Native.Nat.{ℕ, zero, suc, _+_, _*_, _<_, _≤_}
 use native.Mathlib.Omega.{arith}
 use lib.Ieee.{Float}
 use lib.ListN.{getD, length, take, drop, replicate}
-use Rattle.words.specs.Layout.{GRAPH-LHS, GRAPH-RHS}
+use Rattle.facts.specs.Floats.{unsigned}
+use Rattle.words.specs.Layout.{GRAPH-LHS, GRAPH-RHS, BLOCKS}
 use Rattle.words.specs.Region.{region}
 use Rattle.model.specs.Sat as Sat
 use Rattle.model.specs.Aig.{Node}
-use Rattle.assignment.specs.State.{assignmentOf, News, Unchanged}
+use Rattle.assignment.specs.State.{assignmentOf, assignmentRegions, Unchanged}
+use Rattle.assignment.specs.Blocks.{News, Cached}
+use Rattle.assignment.specs.KnownLaws.{cached-kept}
+use Rattle.assignment.specs.OrderLaws.{zeros-unsigned}
+use Rattle.assignment.specs.declared.state.Activity.{Activity}
 use Rattle.assignment.specs.Scores.{ZeroScores}
 use Rattle.assignment.specs.ScoreLaws.{others-both}
-use Rattle.assignment.specs.StateLaws.{unchanged-both, trail-length}
+use Rattle.assignment.specs.StateLaws.{unchanged-both, unchanged-within, trail-length}
 use Rattle.assignment.specs.declared.state.Trail.{Trail}
 use Rattle.clauses.specs.declared.state.Store.{Store}
 use Rattle.clauses.specs.declared.state.Encoding.{Encoding}
-use Rattle.clauses.specs.State.{solverOf, scored, flagged, encodedOf, unassigned, SoundStore, Roomy, Grows, Gates, Holds, Cleared, Encodable, Encodes, searchRegions}
-use Rattle.clauses.specs.StepLaws.{watches-only, assignment-only}
+use Rattle.clauses.specs.State.{solverOf, scored, flagged, encodedOf, unassigned, SoundStore, Roomy, Grows, Gates, Holds, Cleared, Encodable, Encodes, watchRegions, addRegions, encodeRegions}
 
 all-unassigned : (n : ℕ) → unassigned (replicate n Sat.Unassigned) ≡ n
 unfolding unassigned
@@ -39,8 +43,14 @@ module _ (n : ℕ) (w : List ℕ) (x : List Float) (ls : List ℕ) (count : ℕ)
     new-sound : SoundStore m2 t w2 []
     new-sound = c .sound t (b .ready) (rw (b .variables) (a .some)) new-room
 
-    start-frame : Unchanged searchRegions w w2
-    start-frame = unchanged-both searchRegions (assignment-only w w1 (b .frame)) (watches-only w1 w2 (c .frame))
+    start-frame : Unchanged encodeRegions w w2
+    start-frame = unchanged-both encodeRegions (unchanged-within (BLOCKS ∷ assignmentRegions) encodeRegions refl (b .frame)) (unchanged-within watchRegions encodeRegions refl (c .frame))
+
+    -- the words of the blocks say nothing, and the scores are 0
+    start-cached : (y : Activity) → unsigned (y .increment) ≡ true → Cached t w2 y x1
+    start-cached y p =
+        cached-kept watchRegions t y x1 refl (c .frame)
+        (record { known = b .known x1; scores = rw (b .variables, z .is) (zeros-unsigned n); increment = p })
 
     same-lhs : region GRAPH-LHS w2 ≡ region GRAPH-LHS w
     same-lhs = start-frame .same GRAPH-LHS refl
@@ -79,11 +89,12 @@ module _ (n : ℕ) (w : List ℕ) (x : List Float) (ls : List ℕ) (count : ℕ)
           → Encodes n w x ls count (record { encoding = e; trail = t }) w4 x4
       unfolding Sat.encode
       encoded e w4 x4 f j = record {
-        frame = unchanged-both searchRegions (unchanged-both searchRegions start-frame (watches-only w2 w3 (d .frame))) (watches-only w3 w4 (f .frame));
+        frame = unchanged-both encodeRegions (unchanged-both encodeRegions start-frame (unchanged-within addRegions encodeRegions refl (d .frame))) (unchanged-within addRegions encodeRegions refl (f .frame));
         sound = f .sound;
         variables = b .variables;
         clauses = omega (arith, f .clauses, d .clauses, c .clauses, b .variables);
         literals = omega (arith, f .literals, d .literals, c .literals, b .variables);
         others = others-both _ (z .others) (rw (b .variables) at (others-both _ (d .others) (f .others)));
         is = λ g h. j (Sat.new n) ∙ ap (λ (q : Sat.Solver). Sat.addAssumptions q (take count ls)) (nodes-is g h ∙ rw (h .size));
+        cached = λ y p. f .cached y (d .cached y (start-cached y p));
       }

@@ -1,13 +1,14 @@
 -- What a search's clauses, watch queues and numbers stand for: the definition's solver; what holds of them throughout; and what the functions over them promise. Definitions only.
 use mathlib.Core.Path.{_≡_}
-use mathlib.Core.Bool.{Bool, false, not}
+use mathlib.Core.Bool.{Bool, true, false, not}
 use mathlib.Core.List.{List, [], _∷_, _++_}
 use mathlib.Core.Option.{Option, none, some}
 use Prim.Native.Nat.{ℕ, zero, suc, _+_, _*_, _/_, _%_, _<_, _≤_}
 use lib.ListN.{getD, length, take, replicate}
 use lib.Ieee.{Float}
 use lib.Seq.{slice}
-use Rattle.words.specs.Layout.{LENT, DOUBLE, STARTS, POOL, MOST-NODES, GRAPH-LHS, GRAPH-RHS, WATCH-HEADS, WATCH-TAILS, WATCH-COUNTS, CLAUSE-STARTS, WATCHED, LINKS, LITERALS}
+use Rattle.facts.specs.Floats.{unsigned}
+use Rattle.words.specs.Layout.{LENT, DOUBLE, STARTS, POOL, MOST-NODES, BLOCKS, GRAPH-LHS, GRAPH-RHS, WATCH-HEADS, WATCH-TAILS, WATCH-COUNTS, CLAUSE-STARTS, WATCHED, LINKS, LITERALS}
 use Rattle.words.specs.Region.{region, stored, cleared}
 use Rattle.model.specs.Lists.{snoc}
 use Rattle.model.specs.Aig.{Node, Constant, Variable, And}
@@ -15,6 +16,8 @@ use Rattle.model.specs.Sat as Sat
 use Rattle.model.specs.Sat.{Solver}
 use Rattle.assignment.specs.State.{assignmentOf, assignmentRegions, TrailReady, Unchanged}
 use Rattle.assignment.specs.Scores.{Others}
+use Rattle.assignment.specs.Blocks.{Cached, Grown}
+use Rattle.assignment.specs.declared.state.Activity.{Activity}
 use Rattle.assignment.specs.declared.state.Trail.{Trail}
 use Rattle.clauses.specs.declared.state.Store.{Store}
 use Rattle.clauses.specs.declared.state.Clause.{Clause}
@@ -80,9 +83,17 @@ pub record SoundStore (m : Store) (t : Trail) (w : List ℕ) (p : List ℕ) : Ty
 abbrev pub watchRegions : List ℕ
 watchRegions = WATCH-HEADS ∷ WATCH-TAILS ∷ WATCH-COUNTS ∷ CLAUSE-STARTS ∷ WATCHED ∷ LINKS ∷ LITERALS ∷ []
 
+-- and the blocks, whose words are forgotten where scores change
+abbrev pub addRegions : List ℕ
+addRegions = BLOCKS ∷ watchRegions
+
 -- and those of the assignment
 abbrev pub searchRegions : List ℕ
 searchRegions = watchRegions ++ assignmentRegions
+
+-- all of them
+abbrev pub encodeRegions : List ℕ
+encodeRegions = BLOCKS ∷ searchRegions
 
 -- a step of a propagation: all but the search's words is unchanged, and with the cells p pending the rest is sound
 pub record Step (m : Store) (t : Trail) (w : List ℕ) (r : Trail) (w′ : List ℕ) (p : List ℕ) : Type 0 where
@@ -91,6 +102,7 @@ pub record Step (m : Store) (t : Trail) (w : List ℕ) (r : Trail) (w′ : List 
   pub variables : r .variables ≡ t .variables
   pub level : r .level ≡ t .level
   pub head : r .head ≡ t .head
+  pub grows : Grown t w r w′
 
 -- the slot of a number
 unfoldable pub slotOf : ℕ → Sat.Slot
@@ -157,12 +169,13 @@ clean (x ∷ xs) = not (Sat.tautological x xs)
 
 -- the clause of the pool's literals is added, with its scores
 pub record Added (m : Store) (t : Trail) (w : List ℕ) (x : List Float) (count : ℕ) (m′ : Store) (w′ : List ℕ) (x′ : List Float) : Type 0 where
-  pub frame : Unchanged watchRegions w w′
+  pub frame : Unchanged addRegions w w′
   pub sound : SoundStore m′ t w′ []
   pub clauses : m′ .clauses ≡ m .clauses + 1
   pub literals : m′ .literals ≡ m .literals + count
   pub others : Others (t .variables) x x′
   pub is : (s : Solver) → solverOf (scored s (t .variables) x′) m′ t w′ ≡ Sat.addSorted (solverOf (scored s (t .variables) x) m t w) (poolLiterals m count w)
+  pub cached : (a : Activity) → Cached t w a x → Cached t w′ a x′
 
 -- all members are below b
 abbrev pub AllBelow : ℕ → List ℕ → Type 0
@@ -178,12 +191,13 @@ pub record Pooled (m : Store) (t : Trail) (w : List ℕ) (count l : ℕ) (w′ :
 
 -- a clause of these sorted literals is added, with its scores
 pub record AddedList (m : Store) (t : Trail) (w : List ℕ) (x : List Float) (ls : List ℕ) (m′ : Store) (w′ : List ℕ) (x′ : List Float) : Type 0 where
-  pub frame : Unchanged watchRegions w w′
+  pub frame : Unchanged addRegions w w′
   pub sound : SoundStore m′ t w′ []
   pub clauses : m′ .clauses ≡ m .clauses + 1
   pub literals : m′ .literals ≡ m .literals + length ls
   pub others : Others (t .variables) x x′
   pub is : (s : Solver) → solverOf (scored s (t .variables) x′) m′ t w′ ≡ Sat.addSorted (solverOf (scored s (t .variables) x) m t w) ls
+  pub cached : (a : Activity) → Cached t w a x → Cached t w′ a x′
 
 -- all is sound, and there is room for a clause of n literals
 pub record Room (m : Store) (t : Trail) (w : List ℕ) (x : List Float) (n : ℕ) : Type 0 where
@@ -201,11 +215,12 @@ pub record Roomy (m : Store) (t : Trail) (w : List ℕ) (x : List Float) (c l : 
 
 -- at most c clauses of l literals together are added
 pub record Grows (m : Store) (t : Trail) (w : List ℕ) (x : List Float) (c l : ℕ) (m′ : Store) (w′ : List ℕ) (x′ : List Float) : Type 0 where
-  pub frame : Unchanged watchRegions w w′
+  pub frame : Unchanged addRegions w w′
   pub sound : SoundStore m′ t w′ []
   pub clauses : m′ .clauses ≤ m .clauses + c
   pub literals : m′ .literals ≤ m .literals + l
   pub others : Others (t .variables) x x′
+  pub cached : (a : Activity) → Cached t w a x → Cached t w′ a x′
 
 -- a conjunction whose operands are of variables in ascending order, both before its own
 pub record GateOf (t : Trail) (out lhs rhs : ℕ) : Type 0 where
@@ -277,10 +292,11 @@ pub record Encodable (n : ℕ) (w : List ℕ) (x : List Float) (ls : List ℕ) (
 
 -- the clauses of a graph and its assumptions, whatever the words and scores held before
 pub record Encodes (n : ℕ) (w : List ℕ) (x : List Float) (ls : List ℕ) (count : ℕ) (r : Encoded) (w′ : List ℕ) (x′ : List Float) : Type 0 where
-  pub frame : Unchanged searchRegions w w′
+  pub frame : Unchanged encodeRegions w w′
   pub sound : SoundStore (r .encoding .store) (r .trail) w′ []
   pub variables : r .trail .variables ≡ n
   pub clauses : r .encoding .store .clauses ≤ 3 * n + count
   pub literals : r .encoding .store .literals ≤ 7 * n + count
   pub others : Others n x x′
   pub is : (g : List Node) → Holds n w g → encodedOf (Sat.new n) (r .encoding) (r .trail) w′ x′ ≡ Sat.encode g (take count ls)
+  pub cached : (a : Activity) → unsigned (a .increment) ≡ true → Cached (r .trail) w′ a x′

@@ -19,6 +19,7 @@ use Rattle.model.specs.Sat as Sat
 use Rattle.model.specs.Sat.{Solver}
 use Rattle.assignment.specs.State.{assignmentOf, assignmentRegions, apartFrom, Unchanged, Assigns, wordReason}
 use Rattle.assignment.specs.StateLaws.{unchanged-none, unchanged-both, unchanged-stored, variables-are, trail-length}
+use Rattle.assignment.specs.KnownLaws.{assign-grows}
 use Rattle.assignment.specs.declared.state.Trail.{Trail}
 use Rattle.laws.specs.Search.Values.{unset-literal}
 use Rattle.clauses.specs.declared.state.Store.{Store}
@@ -128,6 +129,7 @@ module _ (m : Store) (t : Trail) (w : List ℕ) (l x : ℕ) (p : List ℕ) (s : 
     variables = refl;
     level = refl;
     head = refl;
+    grows = λ y f. rw (same-assignment t w (pushedWords w l x) (pushed-unchanged w l x)) at f;
   }
 
   pub push-clauses : clausesOf (m .clauses) (pushedWords w l x) ≡ clausesOf (m .clauses) w
@@ -226,6 +228,7 @@ module _ (m : Store) (t : Trail) (w : List ℕ) (x k i l : ℕ) (p : List ℕ) (
         variables = refl;
         level = refl;
         head = refl;
+        grows = λ y f. rw (same-assignment t w _ (move-unchanged m t w (half x) k i (x ∷ p) s)) at (r .grows y f);
       }
 
   pub replace-pending : (n c : ℕ) → p ≡ walk (region LINKS w) n c → walk (region LINKS (replacedWords w x k i l)) n c ≡ p
@@ -316,6 +319,7 @@ module _ (m : Store) (t : Trail) (w : List ℕ) (l : ℕ) (f : Formed m t w) (b 
       variables = a .variables;
       level = a .level;
       head = assigned-head;
+      grows = assign-grows t w l reason r w′ a;
     }
 
     -- and the clauses and the watch lists are as they were
@@ -331,6 +335,7 @@ step-both m t w r w′ u w″ p q a b = record {
   variables = b .variables ∙ a .variables;
   level = b .level ∙ a .level;
   head = b .head ∙ a .head;
+  grows = λ y f. a .grows y (b .grows y f);
 }
 
 -- a literal of a clause is one of the variables'

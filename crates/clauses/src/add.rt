@@ -9,6 +9,7 @@ use crate::queue::push_back;
 use crate::state::Store;
 use assignment::scores::add_ones;
 use assignment::state::Trail;
+use literals::Literal;
 use words::CELLS;
 use words::CLAUSE_STARTS;
 use words::LITERALS;
@@ -36,9 +37,9 @@ fn attach_unit(words: &mut [u32], store: Store, t: Trail) -> Store
 {
     let id = store.clauses;
     let start = store.literals;
-    let first = fetch(words, LITERALS, POOL, start);
+    let first = Literal(fetch(words, LITERALS, POOL, start));
     seal(words, id, start + 1, 0);
-    push_back(words, wide(first), (id * 2) as u32);
+    push_back(words, wide(first.0), (id * 2) as u32);
     Store {
         clauses: id + 1,
         literals: start + 1,
@@ -52,11 +53,11 @@ fn attach_longer(words: &mut [u32], store: Store, t: Trail, count: usize) -> Sto
 {
     let id = store.clauses;
     let start = store.literals;
-    let first = fetch(words, LITERALS, POOL, start);
-    let second = fetch(words, LITERALS, POOL, start + 1);
+    let first = Literal(fetch(words, LITERALS, POOL, start));
+    let second = Literal(fetch(words, LITERALS, POOL, start + 1));
     seal(words, id, start + count, 1);
-    push_back(words, wide(first), (id * 2) as u32);
-    push_back(words, wide(second), (id * 2 + 1) as u32);
+    push_back(words, wide(first.0), (id * 2) as u32);
+    push_back(words, wide(second.0), (id * 2 + 1) as u32);
     Store {
         clauses: id + 1,
         literals: start + count,
@@ -87,6 +88,6 @@ pub fn add_clause(
 {
     let start = store.literals;
     let end = start + count;
-    add_ones(words, scores, t.variables, start, end);
+    add_ones(words, scores, t, start, end);
     attach(words, store, t, count)
 }

@@ -1,10 +1,9 @@
-// Reading clauses: the clause with a number, a literal of it, the place that can be watched instead of a false one; and the literal of the other sign.
+// Reading clauses: the clause with a number, a literal of it, and the place that can be watched instead of a false one.
 ghost use mathlib.Core.Path.{_≡_};
 ghost use Prim.Native.Nat.{_+_, _<_, _≤_};
 ghost use lib.ListN.{length, getD};
 ghost use Rattle.words.specs.Layout.{LENT, POOL, CLAUSE-STARTS};
 ghost use Rattle.words.specs.Region.{region};
-ghost use Rattle.model.specs.Literal as Literals;
 ghost use Rattle.model.specs.Sat as Sat;
 ghost use Rattle.assignment.specs.State.{assignmentOf};
 ghost use Rattle.clauses.specs.Clauses.{clauseAt};
@@ -14,6 +13,7 @@ use crate::state::Place;
 use assignment::state::Trail;
 use assignment::state::Value;
 use assignment::trail::value;
+use literals::Literal;
 use words::CELLS;
 use words::CLAUSE_STARTS;
 use words::LITERALS;
@@ -40,16 +40,16 @@ pub fn clause(words: &[u32], id: usize) -> Clause
     }
 }
 
-// The literal at a place of a clause; 0 past its end.
-pub fn literal_at(words: &[u32], c: Clause, place: u32) -> u32
+// The literal at a place of a clause; the false one past its end.
+pub fn literal_at(words: &[u32], c: Clause, place: u32) -> Literal
     requires { ⌜ LENT ≤ length (now words) ⌝ }
-    ensures { λ r. ⌜ r ≡ getD (clauseOf c (now (words .entry)) .literals) place 0 ⌝ }
+    ensures { λ r. ⌜ r .0 ≡ getD (clauseOf c (now (words .entry)) .literals) place 0 ⌝ }
 {
     let at = wide(c.start) + wide(place);
     if at < wide(c.end) {
-        fetch(words, LITERALS, POOL, at)
+        Literal(fetch(words, LITERALS, POOL, at))
     } else {
-        0
+        Literal::FALSE
     }
 }
 
@@ -87,11 +87,4 @@ pub fn replacement(words: &[u32], t: Trail, c: Clause) -> Place
         i += 1;
     }
     Place::Nothing
-}
-
-// The literal of the same variable with the other sign.
-pub fn negate(l: u32) -> u32
-    ensures { λ r. ⌜ r ≡ Literals.negate l ⌝ }
-{
-    l ^ 1
 }

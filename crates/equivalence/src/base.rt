@@ -5,7 +5,7 @@ ghost use Rattle.unrolling.specs.Cycling.{Startable};
 ghost use Rattle.equivalence.specs.NamedState.{namedCost, NamedCycled, NamedLeft, Preservable, Preserves};
 use crate::induction::cycle_mismatch;
 use aig::Aig;
-use aig::Literal;
+use literals::Literal;
 use transition::system::System;
 use unrolling::cycle::import_frames;
 

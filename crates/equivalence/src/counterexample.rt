@@ -7,7 +7,7 @@ ghost use Rattle.equivalence.specs.Rows.{KeptRow, KeptComparison};
 ghost use Rattle.equivalence.specs.Counterexample.{comparedCost, ComparedNext, ComparedLeft, Comparable, Compares};
 use crate::base::Base;
 use aig::Aig;
-use aig::Literal;
+use literals::Literal;
 use transition::system::System;
 use unrolling::cycle::Frames;
 use unrolling::cycle::compared_cycle;

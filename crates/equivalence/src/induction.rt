@@ -13,7 +13,7 @@ ghost use Rattle.equivalence.specs.Inducing.{joinNamed, cycleCost, Cycle
 ghost use Rattle.equivalence.specs.FreeState.{Freed, Inducible, Induces};
 use aig::Aig;
 use aig::Built;
-use aig::Literal;
+use literals::Literal;
 use transition::system::System;
 use unrolling::compare::compare_named_state;
 use unrolling::cycle::compared_cycle;

@@ -2,3 +2,4 @@
 pub mod Bools
 pub mod Numbers
 pub mod Lists
+pub mod Floats

@@ -7,7 +7,7 @@ ghost use Rattle.words.specs.Region.{region};
 ghost use Rattle.model.specs.Equivalence.{remapLiteral};
 ghost use Rattle.import.specs.Importing.{Importable, Stepped, Importing, Sourced};
 use aig::Aig;
-use aig::Literal;
+use literals::Literal;
 use words::IMPORTED;
 use words::SMALL;
 use words::fetch;

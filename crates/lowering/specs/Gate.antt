@@ -7,7 +7,7 @@ use native.Mathlib.Omega.{arith}
 use lib.Dec.{eqb}
 use lib.ListN.{getD}
 use borrow.Author.Tests.{ne-eqb}
-use Rattle.words.specs.Layout.{IMPORTED, NETS}
+use Rattle.words.specs.Layout.{NETS, STATES}
 use Rattle.words.specs.Region.{region}
 use Rattle.model.specs.Kinds.{inputKind, constantKind, registerOutputKind, notKind, outputKind, andKind, orKind, xorKind, muxKind, byKind}
 use Rattle.model.specs.Literal.{Literal, FALSE, negate, constantLiteral}
@@ -87,7 +87,7 @@ gate-alike g xs ys (Mux c a b) e = rw (e .at c, e .at a, e .at b)
 pub record Netted (c : ℕ) (w : List ℕ) : Type 0 where
   pub ready : Ready c w
   pub nets : (a : ℕ) → netLiteral (region NETS w) a < c * 2
-  pub states : (k : ℕ) → getD (region IMPORTED w) k 0 < c * 2
+  pub states : (k : ℕ) → getD (region STATES w) k 0 < c * 2
 
 -- the same work with more room
 pub made-more : {k n : ℕ} {w : List ℕ} {n′ : ℕ} {w′ : List ℕ} {l : ℕ} {m : Built} (k′ : ℕ) → k ≤ k′ → Made k n w n′ w′ l m → Made k′ n w n′ w′ l m

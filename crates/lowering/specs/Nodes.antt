@@ -9,7 +9,7 @@ use lib.Dec.{eqb}
 use lib.ListN.{length, getD, take, set, length-take, length-map, List·getD-map}
 use lib.Seq.{take-suc, getD-take}
 use borrow.Author.Tests.{ne-eqb}
-use Rattle.words.specs.Layout.{SMALL, IMPORTED, NETS}
+use Rattle.words.specs.Layout.{TABLE, NETS, STATES}
 use Rattle.words.specs.Region.{region}
 use Rattle.model.specs.Aig.{variable}
 use Rattle.model.specs.Kinds.{inputKind, constantKind, registerOutputKind, notKind, outputKind, andKind, orKind, xorKind, muxKind, byKind}
@@ -57,10 +57,10 @@ a-register : (k : ℕ) (n : Name) (v : ℕ) (ins : List ℕ) → k ≡ registerO
 unfolding nodeOf byKind
 a-register k n v ins e = rw e
 
-module _ (node : Node) (n : Netlist) (net c c′ : ℕ) (w w′ : List ℕ) (before : Netted c w) (small : net < SMALL) where
+module _ (node : Node) (n : Netlist) (net c c′ : ℕ) (w w′ : List ℕ) (before : Netted c w) (small : net < TABLE) where
   -- no register output
   pub taken-gate : (node .kind ≡ registerOutputKind → ⊥)
-      → Entered 3 net c w c′ w′ (region IMPORTED w) (gateBy (graphOf c w) (region NETS w) (node .kind) (node .detail) (node .first) (node .second) (node .third))
+      → Entered 3 net c w c′ w′ (region STATES w) (gateBy (graphOf c w) (region NETS w) (node .kind) (node .detail) (node .first) (node .second) (node .third))
       → Taken node n net c w c′ w′
   unfolding decodedNode
   taken-gate h e =
@@ -76,7 +76,7 @@ module _ (node : Node) (n : Netlist) (net c c′ : ℕ) (w w′ : List ℕ) (bef
 
   -- a register output
   pub taken-register : (reset : ResetCell) (entry : ℕ) → node .kind ≡ registerOutputKind → Driven n net entry → ((s : List ℕ) → resetOf reset ≡ driverReset (driverBy s (n .registers) entry))
-      → Entered 4 net c w c′ w′ (set (region IMPORTED w) net (variable (graphOf c w) .literal))
+      → Entered 4 net c w c′ w′ (set (region STATES w) net (variable (graphOf c w) .literal))
       (shown (variable (graphOf c w) .aig) (region NETS w) (resetOf reset) (variable (graphOf c w) .literal))
       → Taken node n net c w c′ w′
   unfolding decodedNode

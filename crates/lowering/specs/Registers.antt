@@ -9,7 +9,7 @@ use lib.Dec.{eqb}
 use lib.ListN.{length, getD, take, set, length-take, length-map, List·getD-map}
 use lib.Seq.{take-suc, take-suc-set, getD-take}
 use Rattle.facts.specs.Lists.{set-any}
-use Rattle.words.specs.Layout.{IMPORTED, NETS}
+use Rattle.words.specs.Layout.{NETS, STATES}
 use Rattle.words.specs.Region.{region}
 use Rattle.model.specs.Literal.{Literal, FALSE, node, constantLiteral}
 use Rattle.model.specs.Lists.{snoc, lookup}
@@ -73,13 +73,13 @@ pub record Registered (r : RegisterCell) (c : ℕ) (w : List ℕ) (c′ : ℕ) (
   pub within : c′ ≤ c + 6
   pub grows : c ≤ c′
   pub built : record { aig = graphOf c′ w′; literal = next }
-      ≡ nextOf (graphOf c w) (region NETS w) (cellEnable r) (r .«data») (cellReset r) (getD (region IMPORTED w) (r .output) 0)
-  pub is-variable : variable ≡ node (getD (region IMPORTED w) (r .output) 0)
+      ≡ nextOf (graphOf c w) (region NETS w) (cellEnable r) (r .«data») (cellReset r) (getD (region STATES w) (r .output) 0)
+  pub is-variable : variable ≡ node (getD (region STATES w) (r .output) 0)
   pub below : next < c′ * 2
 
 -- the enable's part, then the reset's
 pub registered : (r : RegisterCell) (reset : ResetCell) (c : ℕ) (w : List ℕ) (c₁ : ℕ) (w₁ : List ℕ) (l₁ c₂ : ℕ) (w₂ : List ℕ) (l₂ state variable : ℕ) → Netted c w
-    → state ≡ getD (region IMPORTED w) (r .output) 0 → variable ≡ node state
+    → state ≡ getD (region STATES w) (r .output) 0 → variable ≡ node state
     → resetOf reset ≡ cellReset r
     → Made 3 c w c₁ w₁ l₁ (enabled (graphOf c w) (region NETS w) (cellEnable r) (netLiteral (region NETS w) (r .«data»)) state)
     → Made 3 c₁ w₁ c₂ w₂ l₂ (resetNext (record { aig = graphOf c₁ w₁; literal = l₁ }) (region NETS w₁) (resetOf reset))
@@ -173,11 +173,11 @@ module _ (n : Netlist) (c₀ : ℕ) (w₀ : List ℕ) where
     unfolding decodedRegister cellEnable cellReset
     made s low net at =
         t .built
-        ∙ rw (a .same .at NETS refl, a .same .at IMPORTED refl, at .states (getD (n .registers) i d .output), a .held s low net at .graph)
+        ∙ rw (a .same .at NETS refl, a .same .at STATES refl, at .states (getD (n .registers) i d .output), a .held s low net at .graph)
         (next-alike _ (region NETS w₀) (low .nets) _ _ _ _ (at .nets))
 
     state-is : (s : List ℕ) (low : Lowering) (net : ℕ) → Walked low net c₀ w₀ → v ≡ node (lookup FALSE (low .stateVariables) (getD (n .registers) i d .output))
-    state-is s low net at = t .is-variable ∙ rw (a .same .at IMPORTED refl, at .states (getD (n .registers) i d .output))
+    state-is s low net at = t .is-variable ∙ rw (a .same .at STATES refl, at .states (getD (n .registers) i d .output))
 
     now-held : (s : List ℕ) (low : Lowering) (net : ℕ) → Walked low net c₀ w₀
         → Held (lowerRegisters low (noStates low) (take (i + 1) (decoded s n .registers))) (i + 1) c′ w′ (set next i l) (set variable i v)

@@ -10,7 +10,7 @@ use lib.ListN.{length, set}
 use borrow.Author.Tests.{eq-eqb, ne-eqb}
 use Rattle.facts.specs.Bools.{and-both}
 use Rattle.facts.specs.Lists.{set-any}
-use Rattle.words.specs.Layout.{LENT, SMALL, IMPORTED, NETS}
+use Rattle.words.specs.Layout.{LENT, TABLE, NETS, STATES}
 use Rattle.words.specs.Region.{region, apart, stored, stores, length-region}
 use Rattle.model.specs.Literal.{Literal, constantLiteral}
 use Rattle.model.specs.Lists.{snoc}
@@ -38,7 +38,7 @@ netted-made k c w c′ w′ l m n d =
     record {
       ready = d .ready;
       nets = λ a. rw (d .same .at NETS refl) (omega (arith, n .nets a, d .grows));
-      states = λ a. rw (d .same .at IMPORTED refl) (omega (arith, n .states a, d .grows));
+      states = λ a. rw (d .same .at STATES refl) (omega (arith, n .states a, d .grows));
     }
 
 pub netted-net : (c : ℕ) (w : List ℕ) (i v : ℕ) → Netted c w → v < c * 2 → Netted c (stored NETS w i v)
@@ -50,20 +50,20 @@ netted-net c w i v n h =
       states = λ a. simp stores (n .states a);
     }
 
-pub netted-state : (c : ℕ) (w : List ℕ) (i v : ℕ) → Netted c w → v < c * 2 → Netted c (stored IMPORTED w i v)
+pub netted-state : (c : ℕ) (w : List ℕ) (i v : ℕ) → Netted c w → v < c * 2 → Netted c (stored STATES w i v)
 unfolding netLiteral
 netted-state c w i v n h =
     record {
-      ready = ready-stored IMPORTED c w i v refl (n .ready);
+      ready = ready-stored STATES c w i v refl (n .ready);
       nets = λ a. simp stores (n .nets a);
-      states = λ a. simp stores (set-any (λ l. l < c * 2) (region IMPORTED w) i a v 0 (n .states a) h);
+      states = λ a. simp stores (set-any (λ l. l < c * 2) (region STATES w) i a v 0 (n .states a) h);
     }
 
 -- the tests of `elsewhere`
-pub elsewhere-parts : (b : ℕ) → elsewhere b ≡ true → (outside b ≡ true) × (apart b NETS ≡ true) × (apart b IMPORTED ≡ true)
+pub elsewhere-parts : (b : ℕ) → elsewhere b ≡ true → (outside b ≡ true) × (apart b NETS ≡ true) × (apart b STATES ≡ true)
 elsewhere-parts b e =
-    let p : (outside b ≡ true) × ((apart b NETS && apart b IMPORTED) ≡ true) = and-both _ _ e in
-    let q : (apart b NETS ≡ true) × (apart b IMPORTED ≡ true) = and-both _ _ (p .1) in
+    let p : (outside b ≡ true) × ((apart b NETS && apart b STATES) ≡ true) = and-both _ _ e in
+    let q : (apart b NETS ≡ true) × (apart b STATES ≡ true) = and-both _ _ (p .1) in
     (p .0, q .0, q .1)
 
 pub same-elsewhere : {w w′ : List ℕ} → Same outside w w′ → Same elsewhere w w′
@@ -72,7 +72,7 @@ same-elsewhere f = record { at = λ b e. f .at b (elsewhere-parts b e .0) }
 pub same-net : (w : List ℕ) (i v : ℕ) → Same elsewhere w (stored NETS w i v)
 same-net w i v = record { at = λ b e. let q = elsewhere-parts b e in simp (stores, q .1) }
 
-pub same-state : (w : List ℕ) (i v : ℕ) → Same elsewhere w (stored IMPORTED w i v)
+pub same-state : (w : List ℕ) (i v : ℕ) → Same elsewhere w (stored STATES w i v)
 same-state w i v = record { at = λ b e. let q = elsewhere-parts b e in simp (stores, q .2) }
 
 -- ---- a node entered
@@ -83,42 +83,42 @@ pub record Entered (k net c : ℕ) (w : List ℕ) (c′ : ℕ) (w′ : List ℕ)
   pub same : Same elsewhere w w′
   pub grows : c ≤ c′
   pub within : c′ ≤ c + k
-  pub states : region IMPORTED w′ ≡ ss
+  pub states : region STATES w′ ≡ ss
   pub nets : region NETS w′ ≡ set (region NETS w) net (m .literal)
   pub graph : graphOf c′ w′ ≡ m .aig
 
 -- a gate's literal
 pub entered-gate : (net c : ℕ) (w : List ℕ) (c′ : ℕ) (w′ : List ℕ) (l : ℕ) (m : Built) → Netted c w → Made 3 c w c′ w′ l m
-    → Entered 3 net c w c′ (stored NETS w′ net l) (region IMPORTED w) m
+    → Entered 3 net c w c′ (stored NETS w′ net l) (region STATES w) m
 entered-gate net c w c′ w′ l m n d =
     record {
       netted = netted-net c′ w′ net l (netted-made 3 c w c′ w′ l m n d) (d .below);
       same = same-trans (same-elsewhere (d .same)) (same-net w′ net l);
       grows = d .grows;
       within = d .within;
-      states = simp stores (d .same .at IMPORTED refl);
+      states = simp stores (d .same .at STATES refl);
       nets = simp stores (ap₂ (λ (xs : List ℕ) (v : ℕ). set xs net v) (d .same .at NETS refl) (ap (λ (x : Built). x .literal) (d .built)));
       graph = graph-stored NETS c′ w′ net l refl ∙ ap (λ (x : Built). x .aig) (d .built);
     }
 
 -- a register output: its state's variable, then what it shows
 pub entered-register : (net c : ℕ) (w : List ℕ) (c₁ : ℕ) (w₁ : List ℕ) (state c₂ : ℕ) (w₂ : List ℕ) (l : ℕ) (m : Built) (r : Option Reset) → Netted c w
-    → Made 1 c w c₁ w₁ state m → Made 3 c₁ (stored IMPORTED w₁ net state) c₂ w₂ l (shown (graphOf c₁ (stored IMPORTED w₁ net state)) (region NETS (stored IMPORTED w₁ net state)) r state)
-    → Entered 4 net c w c₂ (stored NETS w₂ net l) (set (region IMPORTED w) net (m .literal)) (shown (m .aig) (region NETS w) r (m .literal))
+    → Made 1 c w c₁ w₁ state m → Made 3 c₁ (stored STATES w₁ net state) c₂ w₂ l (shown (graphOf c₁ (stored STATES w₁ net state)) (region NETS (stored STATES w₁ net state)) r state)
+    → Entered 4 net c w c₂ (stored NETS w₂ net l) (set (region STATES w) net (m .literal)) (shown (m .aig) (region NETS w) r (m .literal))
 entered-register net c w c₁ w₁ state c₂ w₂ l m r n d e =
-    let g : graphOf c₁ (stored IMPORTED w₁ net state) ≡ m .aig = graph-stored IMPORTED c₁ w₁ net state refl ∙ ap (λ (x : Built). x .aig) (d .built) in
+    let g : graphOf c₁ (stored STATES w₁ net state) ≡ m .aig = graph-stored STATES c₁ w₁ net state refl ∙ ap (λ (x : Built). x .aig) (d .built) in
     let s : state ≡ m .literal = ap (λ (x : Built). x .literal) (d .built) in
-    let nets : region NETS (stored IMPORTED w₁ net state) ≡ region NETS w = simp stores (d .same .at NETS refl) in
-    let n₁ : Netted c₁ (stored IMPORTED w₁ net state) = netted-state c₁ w₁ net state (netted-made 1 c w c₁ w₁ state m n d) (d .below) in
-    let f : Made 3 c₁ (stored IMPORTED w₁ net state) c₂ w₂ l (shown (m .aig) (region NETS w) r (m .literal)) =
+    let nets : region NETS (stored STATES w₁ net state) ≡ region NETS w = simp stores (d .same .at NETS refl) in
+    let n₁ : Netted c₁ (stored STATES w₁ net state) = netted-state c₁ w₁ net state (netted-made 1 c w c₁ w₁ state m n d) (d .below) in
+    let f : Made 3 c₁ (stored STATES w₁ net state) c₂ w₂ l (shown (m .aig) (region NETS w) r (m .literal)) =
     made-as (ap₂ (λ (x : Aig) (xs : List ℕ). shown x xs r state) g nets ∙ ap (λ (x : ℕ). shown (m .aig) (region NETS w) r x) s) e in
-    let p = entered-gate net c₁ (stored IMPORTED w₁ net state) c₂ w₂ l (shown (m .aig) (region NETS w) r (m .literal)) n₁ f in
+    let p = entered-gate net c₁ (stored STATES w₁ net state) c₂ w₂ l (shown (m .aig) (region NETS w) r (m .literal)) n₁ f in
     record {
       netted = p .netted;
       same = same-trans (same-trans (same-elsewhere (d .same)) (same-state w₁ net state)) (p .same);
       grows = omega (arith, d .grows, p .grows);
       within = omega (arith, d .within, p .within);
-      states = p .states ∙ simp stores (ap₂ (λ (xs : List ℕ) (v : ℕ). set xs net v) (d .same .at IMPORTED refl) s);
+      states = p .states ∙ simp stores (ap₂ (λ (xs : List ℕ) (v : ℕ). set xs net v) (d .same .at STATES refl) s);
       nets = p .nets ∙ ap (λ (xs : List ℕ). set xs net (shown (m .aig) (region NETS w) r (m .literal) .literal)) nets;
       graph = p .graph;
     }
@@ -194,8 +194,8 @@ gate-step rs l net (Or a b) e = (refl, refl, refl)
 gate-step rs l net (Xor a b) e = (refl, refl, refl)
 gate-step rs l net (Mux c a b) e = (refl, refl, refl)
 
-module _ (rs : List Register) (l : Lowering) (net c c′ : ℕ) (w w′ : List ℕ) (k : ℕ) (small : net < SMALL) (long : LENT ≤ length w) (at : Walked l net c w) where
-  pub walked-gate : (n : Node) → isRegisterOutput n ≡ false → Entered k net c w c′ w′ (region IMPORTED w) (gateOf (graphOf c w) (region NETS w) n)
+module _ (rs : List Register) (l : Lowering) (net c c′ : ℕ) (w w′ : List ℕ) (k : ℕ) (small : net < TABLE) (long : LENT ≤ length w) (at : Walked l net c w) where
+  pub walked-gate : (n : Node) → isRegisterOutput n ≡ false → Entered k net c w c′ w′ (region STATES w) (gateOf (graphOf c w) (region NETS w) n)
       → Walked (lowerNode rs l net n) (net + 1) c′ w′
   walked-gate n o e =
       let p = gate-step rs l net n o in
@@ -210,7 +210,7 @@ module _ (rs : List Register) (l : Lowering) (net c c′ : ℕ) (w w′ : List �
         fresh = λ i h z. rw (p .2) (at .fresh i (omega arith) z);
       }
 
-  pub walked-register : Entered k net c w c′ w′ (set (region IMPORTED w) net (variable (graphOf c w) .literal))
+  pub walked-register : Entered k net c w c′ w′ (set (region STATES w) net (variable (graphOf c w) .literal))
       (shown (variable (graphOf c w) .aig) (region NETS w) (driverReset (driver rs net)) (variable (graphOf c w) .literal))
       → Walked (lowerNode rs l net RegisterOutput) (net + 1) c′ w′
   unfolding lowerNode lowerRegisterOutput lowerShown
@@ -221,11 +221,11 @@ module _ (rs : List Register) (l : Lowering) (net c c′ : ℕ) (w w′ : List �
       ap (λ (x : Built). shown (x .aig) (region NETS w) (driverReset (driver rs net)) (x .literal)) v
       ∙ shown-alike _ (region NETS w) (l .nets) (driverReset (driver rs net)) _ (at .nets) in
       let room : net < length (region NETS w) = omega (arith, length-region NETS w (omega arith)) in
-      let room′ : net < length (region IMPORTED w) = omega (arith, length-region IMPORTED w (omega arith)) in
+      let room′ : net < length (region STATES w) = omega (arith, length-region STATES w (omega arith)) in
       record {
         graph = e .graph ∙ ap (λ (x : Built). x .aig) m;
         nets = rw (e .nets, ← m) (alike-more (region NETS w) (l .nets) net _ (at .nets) (at .count) room);
         count = length-more (l .nets) _ net (at .count);
-        states = λ i. rw (e .states, v) (states-more (region IMPORTED w) (l .stateVariables) net _ (at .states) (at .fresh) room′ i);
-        fresh = λ i h z. fresh-more (region IMPORTED w) (l .stateVariables) net _ (at .states) (at .fresh) room′ i h z;
+        states = λ i. rw (e .states, v) (states-more (region STATES w) (l .stateVariables) net _ (at .states) (at .fresh) room′ i);
+        fresh = λ i h z. fresh-more (region STATES w) (l .stateVariables) net _ (at .states) (at .fresh) room′ i h z;
       }

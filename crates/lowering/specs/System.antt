@@ -9,7 +9,7 @@ use lib.ListN.{length, getD, take, set, length-take, length-map, List·getD-eq-d
 use lib.Seq.{getD-set-other, getD-set-same, take-all}
 use borrow.Author.Tests.{eqb-true, eqb-false, ltb-true, ltb-false}
 use Rattle.facts.specs.Bools.{and-both}
-use Rattle.words.specs.Layout.{LENT, SMALL, MOST-NODES, GRAPH-LHS, GRAPH-RHS, AND-NEXT, GOLD-LHS, GATE-LHS, IMPORTED, NETS, AND-HEADS}
+use Rattle.words.specs.Layout.{LENT, SMALL, TABLE, MOST-NODES, GRAPH-LHS, GRAPH-RHS, AND-NEXT, GOLD-LHS, GATE-LHS, IMPORTED, NETS, STATES, AND-HEADS}
 use Rattle.words.specs.Fill.{filled, getD-filled, length-filled}
 use Rattle.words.specs.Region.{region, apart, sizeOf, stored, cleared, stores, stored-in, stored-out, length-region}
 use Rattle.model.specs.Lists.{lookup}
@@ -31,7 +31,7 @@ use Rattle.lowering.specs.Registers.{Held, Registering, noStates, nexts,
 
 -- the words of the nets and the state variables cleared
 abbrev pub wiped : List ℕ → List ℕ
-wiped w = cleared IMPORTED (cleared NETS w SMALL) SMALL
+wiped w = cleared STATES (cleared NETS w TABLE) TABLE
 
 -- the walk may begin: node 0 alone, every net FALSE, no state variable
 pub record Started (w₀ w : List ℕ) : Type 0 where
@@ -39,20 +39,20 @@ pub record Started (w₀ w : List ℕ) : Type 0 where
   pub walked : Walked noNodes 0 1 w
   pub same : Same elsewhere w₀ w
 
-zeroes : (xs : List ℕ) (a : ℕ) → length xs ≡ SMALL → getD (filled 0 SMALL xs) a 0 ≡ 0
-zeroes xs a e = go (ltb a SMALL) refl
+zeroes : (xs : List ℕ) (a : ℕ) → length xs ≡ TABLE → getD (filled 0 TABLE xs) a 0 ≡ 0
+zeroes xs a e = go (ltb a TABLE) refl
   where
-    go : (t : Bool) → ltb a SMALL ≡ t → getD (filled 0 SMALL xs) a 0 ≡ 0
-    go true f = getD-filled 0 SMALL xs a (ltb-true a SMALL f)
-    go false f = List·getD-eq-default (filled 0 SMALL xs) 0 (rw length-filled (omega (arith, ltb-false a SMALL f)))
+    go : (t : Bool) → ltb a TABLE ≡ t → getD (filled 0 TABLE xs) a 0 ≡ 0
+    go true f = getD-filled 0 TABLE xs a (ltb-true a TABLE f)
+    go false f = List·getD-eq-default (filled 0 TABLE xs) 0 (rw length-filled (omega (arith, ltb-false a TABLE f)))
 
 pub started : (w₀ w : List ℕ) → LENT ≤ length w₀ → graphOf 1 w ≡ new → Ready 1 w → Same outside (wiped w₀) w → Started w₀ w
 unfolding netLiteral lookup noNodes
 started w₀ w long g r s =
     let nets : (a : ℕ) → getD (region NETS w) a 0 ≡ 0 =
     λ a. rw (s .at NETS refl) (simp stores (zeroes (region NETS w₀) a (length-region NETS w₀ (omega arith)))) in
-    let states : (k : ℕ) → getD (region IMPORTED w) k 0 ≡ 0 =
-    λ k. rw (s .at IMPORTED refl) (simp stores (zeroes (region IMPORTED w₀) k (length-region IMPORTED w₀ (omega arith)))) in
+    let states : (k : ℕ) → getD (region STATES w) k 0 ≡ 0 =
+    λ k. rw (s .at STATES refl) (simp stores (zeroes (region STATES w₀) k (length-region STATES w₀ (omega arith)))) in
     record {
       netted = record { ready = r; nets = λ a. rw (nets a) (omega arith); states = λ k. rw (states k) (omega arith) };
       walked = record { graph = g; nets = record { at = nets }; count = refl; states = states; fresh = λ k h z. refl };

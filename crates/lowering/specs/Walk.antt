@@ -8,7 +8,7 @@ use lib.Dec.{eqb, ltb}
 use lib.ListN.{length, getD, set, length-append, List·getD-append, List·getD-eq-default}
 use lib.Seq.{getD-set-other, getD-set-same, getD-append-seam}
 use borrow.Author.Tests.{eqb-true, eqb-false, ne-eqb, ltb-true, ltb-false}
-use Rattle.words.specs.Layout.{IMPORTED, NETS}
+use Rattle.words.specs.Layout.{NETS, STATES}
 use Rattle.words.specs.Region.{region, apart}
 use Rattle.model.specs.Literal.{Literal, FALSE}
 use Rattle.model.specs.Lists.{snoc, lookup}
@@ -21,14 +21,14 @@ use Rattle.lowering.specs.Gate.{Alike}
 
 -- the region at b is none that the walk writes: the proof graph's four, the nets, the state variables
 abbrev pub elsewhere : ℕ → Bool
-elsewhere b = outside b && (apart b NETS && apart b IMPORTED)
+elsewhere b = outside b && (apart b NETS && apart b STATES)
 
 -- the words hold the walk's graph, nets and state variables; the next net is `net`
 pub record Walked (l : Lowering) (net c : ℕ) (w : List ℕ) : Type 0 where
   pub graph : graphOf c w ≡ l .aig
   pub nets : Alike (region NETS w) (l .nets)
   pub count : length (l .nets) ≡ net
-  pub states : (k : ℕ) → getD (region IMPORTED w) k 0 ≡ lookup FALSE (l .stateVariables) k
+  pub states : (k : ℕ) → getD (region STATES w) k 0 ≡ lookup FALSE (l .stateVariables) k
   pub fresh : (k : ℕ) → net ≤ k → (z : ℕ) → lookup z (l .stateVariables) k ≡ z
 
 -- ---- one net more

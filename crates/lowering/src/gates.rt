@@ -9,7 +9,6 @@ use crate::nets::constant_literal;
 use crate::nets::net_literal;
 use aig::Aig;
 use aig::Built;
-use aig::Literal;
 use fields::kinds::AND;
 use fields::kinds::CONSTANT;
 use fields::kinds::INPUT;
@@ -19,6 +18,7 @@ use fields::kinds::OR;
 use fields::kinds::OUTPUT;
 use fields::kinds::REGISTER_OUTPUT;
 use fields::kinds::XOR;
+use literals::Literal;
 use struo_ir::netlist::Node;
 
 // A gate of two or three inputs; FALSE for another kind.

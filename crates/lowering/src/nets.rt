@@ -8,9 +8,9 @@ ghost use Rattle.words.specs.Region.{region};
 ghost use Rattle.model.specs.Literal.{constantLiteral};
 ghost use Rattle.model.specs.Record.{levelOf};
 ghost use Rattle.model.specs.Transition.{assertedLiteral, netLiteral};
-use aig::Literal;
+use literals::Literal;
 use words::NETS;
-use words::SMALL;
+use words::TABLE;
 use words::fetch;
 
 // A node's number as an index.
@@ -32,7 +32,7 @@ pub fn net_literal(words: &[u32], net: u16) -> Literal
     requires { ⌜ LENT ≤ length (now words) ⌝ }
     ensures { λ r. ⌜ r .0 ≡ netLiteral (region NETS (now (words .entry))) net ⌝ }
 {
-    Literal(fetch(words, NETS, SMALL, index(net)))
+    Literal(fetch(words, NETS, TABLE, index(net)))
 }
 
 // The literal of a value 0 or 1.

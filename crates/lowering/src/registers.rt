@@ -2,7 +2,7 @@
 ghost use mathlib.Core.Path.{_≡_};
 ghost use lib.ListN.{length, getD};
 ghost use Prim.Native.Nat.{_+_, _*_, _≤_, _<_};
-ghost use Rattle.words.specs.Layout.{LENT, MOST-NODES, IMPORTED, NETS};
+ghost use Rattle.words.specs.Layout.{LENT, MOST-NODES, NETS, STATES};
 ghost use Rattle.words.specs.Region.{region};
 ghost use Rattle.model.specs.Transition.{netLiteral};
 ghost use Rattle.model.specs.Transition as Model;
@@ -17,13 +17,13 @@ use crate::nets::index;
 use crate::nets::net_literal;
 use crate::resets::reset_cell;
 use crate::resets::reset_next;
-use crate::walk::STATES;
 use aig::Aig;
 use aig::Built;
-use aig::Literal;
+use literals::Literal;
 use struo_ir::netlist::Netlist;
 use struo_ir::netlist::RegisterCell;
-use words::SMALL;
+use words::STATES;
+use words::TABLE;
 use words::fetch;
 
 // The data, or the state where an enable is not asserted.
@@ -54,9 +54,9 @@ pub struct StateBit {
 // The literal of the variable of a register output's net.
 fn state_literal(words: &[u32], net: u16) -> Literal
     requires { ⌜ LENT ≤ length (now words) ⌝ }
-    ensures { λ r. ⌜ r .0 ≡ getD (region IMPORTED (now (words .entry))) net 0 ⌝ }
+    ensures { λ r. ⌜ r .0 ≡ getD (region STATES (now (words .entry))) net 0 ⌝ }
 {
-    Literal(fetch(words, STATES, SMALL, index(net)))
+    Literal(fetch(words, STATES, TABLE, index(net)))
 }
 
 // One register: the enable's mux, then the reset's.

@@ -19,7 +19,7 @@ use crate::nets::net_literal;
 use crate::nets::widen;
 use aig::Aig;
 use aig::Built;
-use aig::Literal;
+use literals::Literal;
 use struo_ir::netlist::Netlist;
 use struo_ir::netlist::RegisterCell;
 

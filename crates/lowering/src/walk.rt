@@ -2,7 +2,7 @@
 ghost use mathlib.Core.Path.{_≡_};
 ghost use Prim.Native.Nat.{_+_, _≤_, _<_};
 ghost use lib.ListN.{length, set};
-ghost use Rattle.words.specs.Layout.{LENT, SMALL, MOST-NODES, IMPORTED, NETS};
+ghost use Rattle.words.specs.Layout.{LENT, TABLE, MOST-NODES, NETS, STATES};
 ghost use Rattle.words.specs.Region.{region};
 ghost use Rattle.model.specs.Transition as Model;
 ghost use Rattle.aig.specs.Graph.{graphOf};
@@ -22,39 +22,36 @@ use aig::Aig;
 use fields::kinds::REGISTER_OUTPUT;
 use struo_ir::netlist::Netlist;
 use struo_ir::netlist::Node;
-use words::IMPORTED;
 use words::NETS;
-use words::SMALL;
+use words::STATES;
+use words::TABLE;
 use words::clear;
 use words::stash;
 
-// The variable of each register output's net; the words that an import uses later.
-pub const STATES: usize = IMPORTED;
-
 // The net of a node that is no register output.
 fn lower_gate(aig: Aig, words: &mut [u32], net: usize, node: Node) -> Aig
-    requires { ⌜ Netted (aig .count) (now words) × (aig .count + 3 ≤ MOST-NODES) × (net < SMALL) ⌝ }
-    ensures { λ r. ⌜ Entered 3 net (aig .count) (now (words .entry)) (r .count) (now (words .exit)) (region IMPORTED (now (words .entry))) (gateBy (graphOf (aig .count) (now (words .entry))) (region NETS (now (words .entry))) (node .kind) (node .detail) (node .first) (node .second) (node .third)) ⌝ }
+    requires { ⌜ Netted (aig .count) (now words) × (aig .count + 3 ≤ MOST-NODES) × (net < TABLE) ⌝ }
+    ensures { λ r. ⌜ Entered 3 net (aig .count) (now (words .entry)) (r .count) (now (words .exit)) (region STATES (now (words .entry))) (gateBy (graphOf (aig .count) (now (words .entry))) (region NETS (now (words .entry))) (node .kind) (node .detail) (node .first) (node .second) (node .third)) ⌝ }
 {
     let made = gate(aig, words, node);
     let literal = made.literal;
-    stash(words, NETS, SMALL, net, literal.0);
+    stash(words, NETS, TABLE, net, literal.0);
     let aig = made.aig;
     aig
 }
 
 // The net of a register output: a new variable, then what it shows.
 fn lower_register_output(aig: Aig, words: &mut [u32], net: usize, reset: ResetCell) -> Aig
-    requires { ⌜ Netted (aig .count) (now words) × (aig .count + 4 ≤ MOST-NODES) × (net < SMALL) ⌝ }
-    ensures { λ r. ⌜ Entered 4 net (aig .count) (now (words .entry)) (r .count) (now (words .exit)) (set (region IMPORTED (now (words .entry))) net (variable (graphOf (aig .count) (now (words .entry))) .literal)) (Model.shown (variable (graphOf (aig .count) (now (words .entry))) .aig) (region NETS (now (words .entry))) (resetOf reset) (variable (graphOf (aig .count) (now (words .entry))) .literal)) ⌝ }
+    requires { ⌜ Netted (aig .count) (now words) × (aig .count + 4 ≤ MOST-NODES) × (net < TABLE) ⌝ }
+    ensures { λ r. ⌜ Entered 4 net (aig .count) (now (words .entry)) (r .count) (now (words .exit)) (set (region STATES (now (words .entry))) net (variable (graphOf (aig .count) (now (words .entry))) .literal)) (Model.shown (variable (graphOf (aig .count) (now (words .entry))) .aig) (region NETS (now (words .entry))) (resetOf reset) (variable (graphOf (aig .count) (now (words .entry))) .literal)) ⌝ }
 {
     let made = aig.variable(words);
     let state = made.literal;
     let aig = made.aig;
-    stash(words, STATES, SMALL, net, state.0);
+    stash(words, STATES, TABLE, net, state.0);
     let seen = shown(aig, words, reset, state);
     let literal = seen.literal;
-    stash(words, NETS, SMALL, net, literal.0);
+    stash(words, NETS, TABLE, net, literal.0);
     let aig = seen.aig;
     aig
 }
@@ -68,7 +65,7 @@ fn lower_node(
     netlist: Netlist,
     entry: u16,
 ) -> Aig
-    requires { ⌜ Netted (aig .count) (now words) × (aig .count + 4 ≤ MOST-NODES) × (net < SMALL) × (entry ≤ 128) × Driven netlist net entry ⌝ }
+    requires { ⌜ Netted (aig .count) (now words) × (aig .count + 4 ≤ MOST-NODES) × (net < TABLE) × (entry ≤ 128) × Driven netlist net entry ⌝ }
     ensures { λ r. ⌜ Taken node netlist net (aig .count) (now (words .entry)) (r .count) (now (words .exit)) ⌝ }
 {
     let kind = node.kind;
@@ -101,7 +98,7 @@ pub fn start_walk(words: &mut [u32]) -> Aig
     requires { ⌜ LENT ≤ length (now words) ⌝ }
     ensures { λ r. ⌜ (r .count ≡ 1) × Started (now (words .entry)) (now (words .exit)) ⌝ }
 {
-    clear(words, NETS, SMALL, SMALL);
-    clear(words, STATES, SMALL, SMALL);
+    clear(words, NETS, TABLE, TABLE);
+    clear(words, STATES, TABLE, TABLE);
     Aig::new(words)
 }

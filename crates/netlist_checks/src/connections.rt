@@ -1,6 +1,5 @@
 // The check of the connections: 13 a RegisterOutput that no register drives.
 use calls::fault::Fault;
-use drivers::drivers;
 use fields::kinds::REGISTER_OUTPUT;
 use struo_ir::netlist::Netlist;
 ghost use mathlib.Core.Path.{_≡_};
@@ -13,6 +12,7 @@ ghost use Rattle.model.specs.Validate.{connectionFault};
 ghost use Rattle.calls.specs.Faults.{faultOf};
 ghost use Rattle.struo_ir.specs.Decoded.{decoded};
 ghost use Rattle.struo_ir.specs.Designs.{Padded};
+ghost use Rattle.drivers.specs.Drivers.{Drivers};
 
 // A RegisterOutput that no register drives.
 fn is_undriven(kind: u8, driver: u16) -> bool
@@ -24,12 +24,11 @@ fn is_undriven(kind: u8, driver: u16) -> bool
     false
 }
 
-// 13: the lowest RegisterOutput that has no register.
-pub fn connection_fault(netlist: Netlist) -> Fault
-    requires { ⌜ Padded netlist ⌝ }
+// 13: the lowest RegisterOutput that has no register, by the table of drivers.
+pub fn connection_fault(netlist: Netlist, table: [u16; 1024]) -> Fault
+    requires { ⌜ Padded netlist × Drivers netlist table ⌝ }
     ensures { λ r. ⌜ ((s : List ℕ) → faultOf r ≡ connectionFault (decoded s netlist .registers) 0 (decoded s netlist .nodes)) ⌝ }
 {
-    let table = drivers(netlist);
     let count = netlist.node_count;
     let mut i: usize = 0;
     while i < count {

@@ -1,6 +1,5 @@
 // The check of the resets: 14 an asynchronous reset whose signal is not below the RegisterOutput that it shows at.
 use calls::fault::Fault;
-use drivers::drivers;
 use drivers::register_of;
 use fields::kinds::REGISTER_OUTPUT;
 use struo_ir::netlist::Netlist;
@@ -15,6 +14,7 @@ ghost use Rattle.model.specs.Validate.{resetFault};
 ghost use Rattle.calls.specs.Faults.{faultOf};
 ghost use Rattle.struo_ir.specs.Decoded.{decoded};
 ghost use Rattle.struo_ir.specs.Designs.{Padded};
+ghost use Rattle.drivers.specs.Drivers.{Drivers};
 ghost use Rattle.netlist_checks.specs.ResetChecks.{lateCell};
 
 // A RegisterOutput i with a driver whose reset is asynchronous and has a signal not below i.
@@ -36,12 +36,11 @@ fn is_late(kind: u8, driver: u16, cell: RegisterCell, i: usize) -> bool
     i <= cell.reset_signal as usize
 }
 
-// 14: the lowest RegisterOutput with such a driver.
-pub fn reset_fault(netlist: Netlist) -> Fault
-    requires { ⌜ Padded netlist ⌝ }
+// 14: the lowest RegisterOutput with such a driver, by the table of drivers.
+pub fn reset_fault(netlist: Netlist, table: [u16; 1024]) -> Fault
+    requires { ⌜ Padded netlist × Drivers netlist table ⌝ }
     ensures { λ r. ⌜ ((s : List ℕ) → faultOf r ≡ resetFault (decoded s netlist .registers) 0 (decoded s netlist .nodes)) ⌝ }
 {
-    let table = drivers(netlist);
     let count = netlist.node_count;
     let mut i: usize = 0;
     while i < count {

@@ -5,6 +5,7 @@ use crate::nodes::nodes_fault;
 use crate::registers::registers_fault;
 use crate::resets::reset_fault;
 use calls::fault::Fault;
+use drivers::drivers;
 use struo_ir::netlist::Netlist;
 ghost use mathlib.Core.Path.{_≡_};
 ghost use Prim.Native.Nat.{ℕ};
@@ -13,29 +14,31 @@ ghost use Rattle.model.specs.Validate as Validate;
 ghost use Rattle.calls.specs.Faults.{faultOf};
 ghost use Rattle.struo_ir.specs.Decoded.{decoded};
 ghost use Rattle.struo_ir.specs.Designs.{Padded};
+ghost use Rattle.drivers.specs.Drivers.{Drivers};
 ghost use Rattle.netlist_checks.specs.Chain.{afterNodes, afterRegisters, afterConnections};
 
 // 14, then 15.
-fn after_connections(netlist: Netlist) -> Fault
-    requires { ⌜ Padded netlist ⌝ }
+fn after_connections(netlist: Netlist, table: [u16; 1024]) -> Fault
+    requires { ⌜ Padded netlist × Drivers netlist table ⌝ }
     ensures { λ r. ⌜ ((s : List ℕ) → faultOf r ≡ afterConnections (decoded s netlist)) ⌝ }
 {
-    let fault = reset_fault(netlist);
+    let fault = reset_fault(netlist, table);
     match fault {
         Fault::Refused(_, _, _) => fault,
         Fault::Nothing => clock_fault(netlist),
     }
 }
 
-// 13, then the checks after it.
+// 13, then the checks after it; one table of drivers for both.
 fn after_registers(netlist: Netlist) -> Fault
     requires { ⌜ Padded netlist ⌝ }
     ensures { λ r. ⌜ ((s : List ℕ) → faultOf r ≡ afterRegisters (decoded s netlist)) ⌝ }
 {
-    let fault = connection_fault(netlist);
+    let table = drivers(netlist);
+    let fault = connection_fault(netlist, table);
     match fault {
         Fault::Refused(_, _, _) => fault,
-        Fault::Nothing => after_connections(netlist),
+        Fault::Nothing => after_connections(netlist, table),
     }
 }
 

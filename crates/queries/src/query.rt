@@ -1,5 +1,4 @@
-// The queries of a depth asked: base_counterexample, base_preserves_named_state and induction_closes of equivalence.rs. Each begins a graph of
-// its own, and clears the lookup of pairs for all nodes that there is room for: as many words as the search clears of its watch queues.
+// The queries of a depth asked: base_counterexample, base_preserves_named_state and induction_closes of equivalence.rs. Each begins a graph of its own.
 ghost use Prim.Native.Nat.{suc, _+_, _*_, _≤_};
 ghost use lib.ListN.{length};
 ghost use Rattle.model.specs.Equivalence.{basePreservesNamedState, inductionCloses};

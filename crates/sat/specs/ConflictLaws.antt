@@ -20,13 +20,15 @@ use Rattle.assignment.specs.Scores.{scoresOf, Fixed, Others, Decays}
 use Rattle.assignment.specs.StateLaws.{unchanged-none, unchanged-both, unchanged-within, level-is}
 use Rattle.assignment.specs.declared.state.Activity.{Activity}
 use Rattle.clauses.specs.Clauses.{length-clauses}
+use Rattle.assignment.specs.Blocks.{Cached}
+use Rattle.assignment.specs.OrderLaws.{decay-unsigned}
 use Rattle.clauses.specs.State.{solverOf, SoundStore}
+use Rattle.clauses.specs.KeptLaws.{sound-kept, solver-kept}
 use Rattle.analysis.specs.Analysis.{analysisOf, analysisRegions, viewOf, Bounded, Analyzes}
 use Rattle.analysis.specs.declared.state.Analyzed as Answers
 use Rattle.assignment.specs.ScoreLaws.{others-none, others-both}
 use Rattle.sat.specs.CapacityLaws.{analysis-fits, asserting-below, clause-below, clause-length, clause-clean}
 use Rattle.sat.specs.ViewLaws.{analysis-of}
-use Rattle.sat.specs.SoundLaws.{sound-analysis, solver-analysis}
 use Rattle.sat.specs.State.{baseOf, stateOf, Stopped, solveRegions, Results, Assertable}
 use Rattle.sat.specs.declared.state.State.{State}
 use Rattle.sat.specs.declared.state.Step.{Step}
@@ -97,10 +99,10 @@ module _ (limit : ℕ) (s : State) (w : List ℕ) (x : List Float) (id : ℕ) (h
       abbrev count : ℕ
       count = r .analysis .learned
 
-      analyzed : Sat.analyze S id ≡ Sat.resolved A (r .pivot)
+      analyzed : Sat.analyze S id ≡ Sat.resolved A (r .pivot .0)
       analyzed = viewed ∙ sym (z .is)
 
-      facts : Analyzed (s .trail .variables) (S .clauses) (S .assignment) A (r .pivot)
+      facts : Analyzed (s .trail .variables) (S .clauses) (S .assignment) A (r .pivot .0)
       facts = subst (AnalysisEnded (s .trail .variables) (S .clauses) (S .assignment)) analyzed ended
 
       learned-are : A .learned ≡ column count LEARNED w₁
@@ -118,11 +120,11 @@ module _ (limit : ℕ) (s : State) (w : List ℕ) (x : List Float) (id : ℕ) (h
 
       -- the definition's outcome by the limit
       outcome : (b : Bool) → ltb limit (s .learned + suc (length (A .learned))) ≡ b
-          → Sat.afterConflict limit S id (Sat.decisionLevel (S .assignment)) ≡ Sat.learnUnless S (Sat.decayActivity (A .scores)) (negate (r .pivot)) (A .learned) b
+          → Sat.afterConflict limit S id (Sat.decisionLevel (S .assignment)) ≡ Sat.learnUnless S (Sat.decayActivity (A .scores)) (negate (r .pivot .0)) (A .learned) b
       unfolding Sat.afterConflict Sat.afterAnalysis stateOf solverOf baseOf
       outcome b e =
           ap (Sat.afterConflict limit S id) level-suc ∙ ap (Sat.afterAnalysis limit S) analyzed
-          ∙ ap (Sat.learnUnless S (Sat.decayActivity (A .scores)) (negate (r .pivot)) (A .learned)) e
+          ∙ ap (Sat.learnUnless S (Sat.decayActivity (A .scores)) (negate (r .pivot .0)) (A .learned)) e
 
       pub conflict-over : limit < s .learned + count + 1 → Results limit (s .trail .variables) w x (Sat.afterConflict limit S id (Sat.decisionLevel (S .assignment))) (Steps.GaveUp (s .learned)) w₁ x₁
       unfolding Sat.learnUnless stateOf solverOf baseOf
@@ -140,17 +142,27 @@ module _ (limit : ℕ) (s : State) (w : List ℕ) (x : List Float) (id : ℕ) (h
         decayed = record { store = s .store; trail = s .trail; activity = activity; learned = s .learned }
 
         sound₁ : SoundStore (s .store) (s .trail) w₁ []
-        sound₁ = sound-analysis (s .store) (s .trail) w w₁ [] (h .fits .sound) (z .frame) long
+        sound₁ = sound-kept analysisRegions refl (s .store) (s .trail) w w₁ (z .frame) [] long (h .fits .sound)
+
+        -- the increment divided by the decay is ordered still
+        decayed-cached : Cached (s .trail) w₁ (r .analysis .activity) x₁ → Cached (s .trail) w₁ activity x₁
+        unfolding scoresOf Sat.decayActivity
+        decayed-cached c =
+            record {
+              known = c .known;
+              scores = c .scores;
+              increment = rw (ap (λ (u : Sat.Scores). u .activityIncrement) (d .is (s .trail .variables) x₁)) (decay-unsigned (r .analysis .activity .increment) (c .increment));
+            }
 
         levels : 0 < length (S .assignment .trailLimits)
         levels = omega (arith, top)
 
-        sorted-length : length (Sat.sortLiterals (negate (r .pivot) ∷ column count LEARNED w₁)) ≡ suc count
-        sorted-length = ap (λ ls. length (Sat.sortLiterals (negate (r .pivot) ∷ ls))) (sym learned-are)
-            ∙ clause-length (s .trail .variables) (h .original) S (h .stuck) levels A (r .pivot) facts ∙ ap suc length-is
+        sorted-length : length (Sat.sortLiterals (negate (r .pivot .0) ∷ column count LEARNED w₁)) ≡ suc count
+        sorted-length = ap (λ ls. length (Sat.sortLiterals (negate (r .pivot .0) ∷ ls))) (sym learned-are)
+            ∙ clause-length (s .trail .variables) (h .original) S (h .stuck) levels A (r .pivot .0) facts ∙ ap suc length-is
 
         -- what `assert_learned` asks
-        pub assert-asked : Assertable limit decayed w₁ x₁ (negate (r .pivot)) count
+        pub assert-asked : Assertable limit decayed w₁ x₁ (negate (r .pivot .0)) count
         unfolding analysisOf
         assert-asked =
             record {
@@ -163,6 +175,7 @@ module _ (limit : ℕ) (s : State) (w : List ℕ) (x : List Float) (id : ℕ) (h
                     total = h .fits .total;
                     clauses = h .fits .clauses;
                     literals = h .fits .literals;
+                    cached = decayed-cached (z .cached (h .fits .cached));
                   };
               able =
                   record {
@@ -171,35 +184,35 @@ module _ (limit : ℕ) (s : State) (w : List ℕ) (x : List Float) (id : ℕ) (h
                     few = z .room;
                     clauses = omega (arith, h .fits .clauses, h .fits .limited);
                     literals = omega (arith, h .fits .literals, h .fits .limited);
-                    range = clause-below (s .trail .variables) (h .original) S (h .stuck) levels A (r .pivot) facts;
-                    distinct = clause-clean (s .trail .variables) (h .original) S (h .stuck) levels A (r .pivot) facts;
+                    range = clause-below (s .trail .variables) (h .original) S (h .stuck) levels A (r .pivot .0) facts;
+                    distinct = clause-clean (s .trail .variables) (h .original) S (h .stuck) levels A (r .pivot .0) facts;
                   };
-              range = asserting-below (s .trail .variables) (h .original) S (h .stuck) levels A (r .pivot) facts;
+              range = asserting-below (s .trail .variables) (h .original) S (h .stuck) levels A (r .pivot .0) facts;
               within = omega arith;
               size = sorted-length;
             }
 
         -- learning is the same before and after the analysis
-        learn-same : Sat.learn (stateOf decayed w₁ x₁) (stateOf decayed w₁ x₁ .scores) (negate (r .pivot)) (column count LEARNED w₁)
-            ≡ Sat.learn S (Sat.decayActivity (A .scores)) (negate (r .pivot)) (A .learned)
+        learn-same : Sat.learn (stateOf decayed w₁ x₁) (stateOf decayed w₁ x₁ .scores) (negate (r .pivot .0)) (column count LEARNED w₁)
+            ≡ Sat.learn S (Sat.decayActivity (A .scores)) (negate (r .pivot .0)) (A .learned)
         unfolding stateOf baseOf solverOf analysisOf Sat.learn
         learn-same =
-            ap (λ (u : Sat.Solver). Sat.learn u (scoresOf (s .trail .variables) activity x₁) (negate (r .pivot)) (column count LEARNED w₁)) (solver-analysis (baseOf decayed x₁) (s .store) (s .trail) w w₁ (z .frame))
-            ∙ ap (λ (u : Sat.Scores). Sat.learn S u (negate (r .pivot)) (column count LEARNED w₁)) (d .is (s .trail .variables) x₁)
+            ap (λ (u : Sat.Solver). Sat.learn u (scoresOf (s .trail .variables) activity x₁) (negate (r .pivot .0)) (column count LEARNED w₁)) (solver-kept analysisRegions refl (s .store) (s .trail) w w₁ (z .frame) (baseOf decayed x₁))
+            ∙ ap (λ (u : Sat.Scores). Sat.learn S u (negate (r .pivot .0)) (column count LEARNED w₁)) (d .is (s .trail .variables) x₁)
 
         clause-count : s .store .clauses ≡ length (S .clauses)
         unfolding stateOf solverOf
         clause-count = sym (length-clauses (s .store .clauses) w)
 
-        goal-same : Sat.assertLearned (s .store .clauses) (negate (r .pivot)) (Sat.learn (stateOf decayed w₁ x₁) (stateOf decayed w₁ x₁ .scores) (negate (r .pivot)) (column count LEARNED w₁))
+        goal-same : Sat.assertLearned (s .store .clauses) (negate (r .pivot .0)) (Sat.learn (stateOf decayed w₁ x₁) (stateOf decayed w₁ x₁ .scores) (negate (r .pivot .0)) (column count LEARNED w₁))
             ≡ Sat.afterConflict limit S id (Sat.decisionLevel (S .assignment))
         unfolding Sat.learnUnless
         goal-same =
-            ap (λ (u : Sat.Solver). Sat.assertLearned (s .store .clauses) (negate (r .pivot)) u) learn-same
-            ∙ ap (λ (k : ℕ). Sat.assertLearned k (negate (r .pivot)) (Sat.learn S (Sat.decayActivity (A .scores)) (negate (r .pivot)) (A .learned))) clause-count
+            ap (λ (u : Sat.Solver). Sat.assertLearned (s .store .clauses) (negate (r .pivot .0)) u) learn-same
+            ∙ ap (λ (k : ℕ). Sat.assertLearned k (negate (r .pivot .0)) (Sat.learn S (Sat.decayActivity (A .scores)) (negate (r .pivot .0)) (A .learned))) clause-count
             ∙ sym (outcome false (le-ltb limit (s .learned + suc (length (A .learned))) (omega (arith, length-is))))
 
         pub conflict-learns : (q : Step) (w′ : List ℕ) (x′ : List Float)
-            → Results limit (s .trail .variables) w₁ x₁ (Sat.assertLearned (s .store .clauses) (negate (r .pivot)) (Sat.learn (stateOf decayed w₁ x₁) (stateOf decayed w₁ x₁ .scores) (negate (r .pivot)) (column count LEARNED w₁))) q w′ x′
+            → Results limit (s .trail .variables) w₁ x₁ (Sat.assertLearned (s .store .clauses) (negate (r .pivot .0)) (Sat.learn (stateOf decayed w₁ x₁) (stateOf decayed w₁ x₁ .scores) (negate (r .pivot .0)) (column count LEARNED w₁))) q w′ x′
             → Results limit (s .trail .variables) w x (Sat.afterConflict limit S id (Sat.decisionLevel (S .assignment))) q w′ x′
         conflict-learns q w′ x′ y = results-after frame₁ (z .others) goal-same y

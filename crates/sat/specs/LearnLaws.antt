@@ -1,5 +1,5 @@
 -- Laws of the learned clause: its literals put into the pool one after another, and the clause that they become. Assumes nothing.
-use mathlib.Core.Path.{_≡_, refl, ap, sym, _∙_}
+use mathlib.Core.Path.{_≡_, refl, ap, sym, subst, _∙_}
 use mathlib.Core.Bool.{true}
 use mathlib.Core.List.{List, [], _∷_}
 use Prim.Native.Nat.{ℕ, zero, suc, _+_, _-_, _*_, _<_, _≤_}
@@ -8,21 +8,24 @@ use native.Mathlib.Numerals.{add-one}
 use lib.ListN.{length, take, drop, getD, length-drop}
 use lib.Seq.{take-suc, getD-drop, length-take-le, slice-empty}
 use lib.Ieee.{Float}
-use Rattle.words.specs.Layout.{LENT, SMALL, STARTS, POOL, LEARNED, LITERALS}
+use Rattle.words.specs.Layout.{LENT, SMALL, STARTS, POOL, LEARNED, BLOCKS, LITERALS}
 use Rattle.words.specs.Region.{region, length-region}
 use Rattle.model.specs.Lists.{snoc}
 use Rattle.model.specs.Sat as Sat
-use Rattle.assignment.specs.State.{Unchanged, column, assignmentOf, assignmentRegions, Becomes}
+use Rattle.assignment.specs.State.{Unchanged, column, assignmentOf, assignmentRegions}
+use Rattle.assignment.specs.Blocks.{Unsigned, Cached, Undoes}
+use Rattle.assignment.specs.KnownLaws.{cached-kept}
+use Rattle.assignment.specs.declared.state.Activity.{Activity}
 use Rattle.assignment.specs.Scores.{Others}
 use Rattle.assignment.specs.StateLaws.{unchanged-none, unchanged-both, unchanged-within, assignment-kept}
 use Rattle.assignment.specs.declared.state.Trail.{Trail}
-use Rattle.clauses.specs.State.{solverOf, scored, searchRegions, SoundStore, watchRegions, poolLiterals, Attachable, AllBelow, Pooled, clean, Added, AddedList}
+use Rattle.clauses.specs.State.{solverOf, scored, encodeRegions, SoundStore, watchRegions, addRegions, poolLiterals, Attachable, AllBelow, Pooled, clean, Added, AddedList}
+use Rattle.clauses.specs.KeptLaws.{sound-kept, solver-kept}
 use Rattle.clauses.specs.PoolLaws.{attachable, added-list}
 use Rattle.clauses.specs.declared.state.Store.{Store}
 use Rattle.analysis.specs.SortLaws.{part}
 use Rattle.analysis.specs.Sorting.{Sorts}
-use Rattle.analysis.specs.Analysis.{analysisRegions}
-use Rattle.sat.specs.SoundLaws.{sound-back, sound-analysis, solver-becomes, solver-analysis}
+use Rattle.sat.specs.SoundLaws.{Changes, undoes-changes, sound-back, solver-becomes}
 use Rattle.sat.specs.declared.state.Learned.{Learned}
 
 -- of `push_learned`
@@ -107,7 +110,7 @@ pub record Learnable (m : Store) (t : Trail) (w : List ℕ) (x : List Float) (as
 
 -- the regions that learning writes
 abbrev pub learnRegions : List ℕ
-learnRegions = LEARNED ∷ searchRegions
+learnRegions = LEARNED ∷ encodeRegions
 
 -- of `learn`
 pub record Learns (m : Store) (t : Trail) (w : List ℕ) (x : List Float) (asserting count : ℕ) (r : Learned) (w′ : List ℕ) (x′ : List Float) : Type 0 where
@@ -122,17 +125,24 @@ pub record Learns (m : Store) (t : Trail) (w : List ℕ) (x : List Float) (asser
   pub literals : r .store .literals ≡ m .literals + length (learnedClause asserting count w)
   pub others : Others (t .variables) x x′
   pub frame : Unchanged learnRegions w w′
+  pub cached : (a : Activity) → Cached t w a x → Cached (r .trail) w′ a x′
 
 module _ (m : Store) (t : Trail) (w : List ℕ) (x : List Float) (asserting count : ℕ) (able : Learnable m t w x asserting count) (start : ℕ) (w₁ : List ℕ) (o : Sorts count asserting w start w₁) (long : length w₁ ≡ length w) where
-  within : Unchanged analysisRegions w w₁
-  within = unchanged-within (LEARNED ∷ []) analysisRegions refl (o .frame)
-
   same : assignmentOf t w₁ ≡ assignmentOf t w
-  same = assignment-kept analysisRegions t refl within
+  same = assignment-kept (LEARNED ∷ []) t refl (o .frame)
 
-  module _ (level : ℕ) (l : level ≡ Sat.highestLevel (assignmentOf t w) (column count LEARNED w)) (r : Trail) (w₂ : List ℕ) (b : Becomes t w₁ (Sat.backtrack (assignmentOf t w₁) level) r w₂) where
+  module _ (level : ℕ) (l : level ≡ Sat.highestLevel (assignmentOf t w) (column count LEARNED w)) (r : Trail) (w₂ : List ℕ) (b : Undoes t w₁ (Sat.backtrack (assignmentOf t w₁) level) r w₂) where
+    changed : Changes t w₁ (Sat.backtrack (assignmentOf t w₁) level) r w₂
+    changed = undoes-changes t w₁ (Sat.backtrack (assignmentOf t w₁) level) r w₂ b
+
     sound₂ : SoundStore m r w₂ []
-    sound₂ = sound-back m t r w₁ w₂ level (sound-analysis m t w w₁ [] (able .sound) within long) b
+    sound₂ = sound-back m t r w₁ w₂ level (sound-kept (LEARNED ∷ []) refl m t w w₁ (o .frame) [] long (able .sound)) changed
+
+    -- the words of the blocks are true once all is sorted and undone
+    cached₂ : (a : Activity) → Cached t w a x → Cached r w₂ a x
+    cached₂ a k =
+        let c = cached-kept (LEARNED ∷ []) t a x refl (o .frame) k in
+        record { known = b .known x (c .known); scores = subst (λ (n : ℕ). Unsigned (take n x)) (sym (b .variables)) (c .scores); increment = c .increment }
 
     clause-is : part (count + 1 - start) start (region LEARNED w₂) ≡ learnedClause asserting count w
     clause-is = ap (λ (u : List ℕ). part (count + 1 - start) start u) (b .frame .same LEARNED refl) ∙ o .is
@@ -166,8 +176,8 @@ module _ (m : Store) (t : Trail) (w : List ℕ) (x : List Float) (asserting coun
               let S = solverOf (scored s (t .variables) x) m t w in
               sym (ap (λ (n : ℕ). solverOf (scored s n x′) m′ r w′) (b .variables)) ∙ a .is s
               ∙ ap (λ (n : ℕ). Sat.addSorted (solverOf (scored s n x) m r w₂) ls) (b .variables)
-              ∙ ap (λ (z : Sat.Solver). Sat.addSorted z ls) (solver-becomes (scored s (t .variables) x) m t r w₁ w₂ (Sat.backtrack (assignmentOf t w₁) level) b)
-              ∙ ap (λ (z : Sat.Solver). Sat.addSorted (Sat.withAssignment z (Sat.backtrack (assignmentOf t w₁) level)) ls) (solver-analysis (scored s (t .variables) x) m t w w₁ within)
+              ∙ ap (λ (z : Sat.Solver). Sat.addSorted z ls) (solver-becomes (scored s (t .variables) x) m t r w₁ w₂ (Sat.backtrack (assignmentOf t w₁) level) changed)
+              ∙ ap (λ (z : Sat.Solver). Sat.addSorted (Sat.withAssignment z (Sat.backtrack (assignmentOf t w₁) level)) ls) (solver-kept (LEARNED ∷ []) refl m t w w₁ (o .frame) (scored s (t .variables) x))
               ∙ ap (λ (u : Sat.Assignment). Sat.addSorted (Sat.withAssignment S (Sat.backtrack u level)) ls) same
               ∙ ap (λ (k : ℕ). Sat.addSorted (Sat.withAssignment S (Sat.backtrack (assignmentOf t w) k)) ls) l
               ∙ ap (λ (k : List ℕ). Sat.addSorted (Sat.withAssignment S (Sat.backtrack (assignmentOf t w) (Sat.highestLevel (assignmentOf t w) (column count LEARNED w)))) k) clause-is;
@@ -177,7 +187,8 @@ module _ (m : Store) (t : Trail) (w : List ℕ) (x : List Float) (asserting coun
           literals = rw clause-is at (a .literals);
           others = rw (b .variables) at (a .others);
           frame = unchanged-both learnRegions (unchanged-within (LEARNED ∷ []) learnRegions refl (o .frame))
-              (unchanged-both learnRegions (unchanged-within assignmentRegions learnRegions refl (b .frame)) (unchanged-within watchRegions learnRegions refl (a .frame)));
+              (unchanged-both learnRegions (unchanged-within (BLOCKS ∷ assignmentRegions) learnRegions refl (b .frame)) (unchanged-within addRegions learnRegions refl (a .frame)));
+          cached = λ y k. a .cached y (cached₂ y k);
         }
 
 -- ---- as the definition has it

@@ -9,7 +9,7 @@ use native.Mathlib.Numerals.{add-one}
 use lib.ListN.{length}
 use lib.Seq.{length-take-le}
 use lib.Ieee.{Float}
-use Rattle.words.specs.Layout.{LEARNED}
+use Rattle.words.specs.Layout.{LEARNED, BLOCKS}
 use Rattle.words.specs.Region.{region, length-region}
 use Rattle.model.specs.Sat as Sat
 use Rattle.assignment.specs.State.{assignmentOf, assignmentRegions, column, enqueued, wordReason, Unchanged}
@@ -17,6 +17,7 @@ use Rattle.assignment.specs.Scores.{scoresOf}
 use Rattle.assignment.specs.StateLaws.{unchanged-both, unchanged-within}
 use Rattle.assignment.specs.declared.state.Enqueued.{Enqueued}
 use Rattle.clauses.specs.Clauses.{watchesOf}
+use Rattle.assignment.specs.KnownLaws.{cached-grown}
 use Rattle.clauses.specs.State.{solverOf, scored}
 use Rattle.clauses.specs.StepLaws.{assigned-clauses, assigned-queues}
 use Rattle.watches.specs.State.{UnitStep}
@@ -105,6 +106,7 @@ module _ (limit : ℕ) (s : State) (w : List ℕ) (x : List Float) (asserting co
         total = omega (arith, a .within, total-is);
         clauses = omega (arith, a .fits .clauses, L .clauses, total-is);
         literals = omega (arith, a .fits .literals, L .literals, total-is, z);
+        cached = cached-grown (l .trail) w₁ (e .trail) w₂ (s .activity) x₁ (u .variables) (u .frame .same BLOCKS refl) (u .grows) (L .cached (s .activity) (a .fits .cached));
       }
 
   pub asserts : e .ok ≡ true → Results limit (s .trail .variables) w x

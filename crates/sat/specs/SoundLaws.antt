@@ -1,4 +1,4 @@
--- Backtracking and analysis keep a search's clauses and queues sound, and the solver but for what they change. Assumes nothing.
+-- Backtracking and decisions keep a search's clauses and queues sound, and the solver but for its assignment. Assumes nothing.
 use mathlib.Core.Path.{_≡_, refl, ap}
 use mathlib.Core.Bool.{Bool, true, false, cond}
 use mathlib.Core.List.{List, [], _∷_}
@@ -6,18 +6,19 @@ use Prim.Native.Nat.{ℕ, zero, suc, _+_, _*_, _/_, _<_, _≤_}
 use native.Mathlib.Omega.{arith}
 use lib.Dec.{leb}
 use lib.ListN.{length, take, drop, set, getD, length-take, length-drop, length-append}
-use Rattle.words.specs.Layout.{WATCH-HEADS, WATCH-TAILS, WATCH-COUNTS, CLAUSE-STARTS, WATCHED, LINKS, LITERALS}
+use Rattle.words.specs.Layout.{BLOCKS, WATCH-HEADS, WATCH-TAILS, WATCH-COUNTS, CLAUSE-STARTS, WATCHED, LINKS, LITERALS}
 use Rattle.model.specs.Literal.{node, inverted}
 use Rattle.model.specs.Lists as Lists
 use Rattle.model.specs.Sat as Sat
-use Rattle.assignment.specs.State.{assignmentOf, Unchanged, Becomes, decided}
-use Rattle.assignment.specs.StateLaws.{assignment-kept, trail-length, variables-are}
+use Rattle.assignment.specs.State.{assignmentOf, assignmentRegions, Unchanged, TrailReady, Becomes, decided}
+use Rattle.assignment.specs.Blocks.{Undoes}
+use Rattle.assignment.specs.StateLaws.{unchanged-within, trail-length, variables-are}
 use Rattle.assignment.specs.declared.state.Trail.{Trail}
+use Rattle.clauses.specs.Queue.{queuesOf}
 use Rattle.clauses.specs.Clauses.{watchesOf, same-clauses, same-queues}
 use Rattle.clauses.specs.State.{solverOf, unassigned, Formed, SoundStore}
-use Rattle.clauses.specs.StepLaws.{formed-kept, assigned-clauses, assigned-queues, one-fewer}
+use Rattle.clauses.specs.StepLaws.{one-fewer}
 use Rattle.clauses.specs.declared.state.Store.{Store}
-use Rattle.analysis.specs.Analysis.{analysisRegions}
 
 -- ---- the room of the trail
 
@@ -68,8 +69,25 @@ back-room t level = go (leb (Sat.decisionLevel t) level)
 
 -- ---- soundness
 
+-- of a function that makes the assignment another one, whatever it does with the blocks
+pub record Changes (t : Trail) (w : List ℕ) (a : Sat.Assignment) (r : Trail) (w′ : List ℕ) : Type 0 where
+  pub is : assignmentOf r w′ ≡ a
+  pub frame : Unchanged (BLOCKS ∷ assignmentRegions) w w′
+  pub ready : TrailReady r w′
+  pub variables : r .variables ≡ t .variables
+
+pub becomes-changes : (t : Trail) (w : List ℕ) (a : Sat.Assignment) (r : Trail) (w′ : List ℕ) → Becomes t w a r w′ → Changes t w a r w′
+becomes-changes t w a r w′ b = record { is = b .is; frame = unchanged-within assignmentRegions (BLOCKS ∷ assignmentRegions) refl (b .frame); ready = b .ready; variables = b .variables }
+
+pub undoes-changes : (t : Trail) (w : List ℕ) (a : Sat.Assignment) (r : Trail) (w′ : List ℕ) → Undoes t w a r w′ → Changes t w a r w′
+undoes-changes t w a r w′ b = record { is = b .is; frame = b .frame; ready = b .ready; variables = b .variables }
+
+-- the queues and the clauses are as they were
+queues-same : (w w′ : List ℕ) → Unchanged (BLOCKS ∷ assignmentRegions) w w′ → queuesOf w′ ≡ queuesOf w
+queues-same w w′ f = same-queues w′ w (f .same WATCH-HEADS refl) (f .same WATCH-TAILS refl) (f .same WATCH-COUNTS refl) (f .same LINKS refl)
+
 -- another assignment that leaves as much room is sound
-sound-becomes : (m : Store) (t r : Trail) (w w′ : List ℕ) (a : Sat.Assignment) → SoundStore m t w [] → Becomes t w a r w′
+sound-becomes : (m : Store) (t r : Trail) (w w′ : List ℕ) (a : Sat.Assignment) → SoundStore m t w [] → Changes t w a r w′
     → unassigned (a .assignments) + length (a .trail) ≤ unassigned (assignmentOf t w .assignments) + length (assignmentOf t w .trail) → SoundStore m r w′ []
 sound-becomes m t r w w′ a s b k =
     let f = s .formed in
@@ -95,17 +113,23 @@ sound-becomes m t r w w′ a s b k =
                   ap (λ (u : Sat.Assignment). length (u .trail)) (b .is),
                 );
           };
-      queues = rw (assigned-queues w w′ (b .frame)) (s .queues);
+      queues = rw (queues-same w w′ (b .frame)) (s .queues);
     }
 
 -- after backtracking all is sound
-pub sound-back : (m : Store) (t r : Trail) (w w′ : List ℕ) (level : ℕ) → SoundStore m t w [] → Becomes t w (Sat.backtrack (assignmentOf t w) level) r w′ → SoundStore m r w′ []
+pub sound-back : (m : Store) (t r : Trail) (w w′ : List ℕ) (level : ℕ) → SoundStore m t w [] → Changes t w (Sat.backtrack (assignmentOf t w) level) r w′ → SoundStore m r w′ []
 sound-back m t r w w′ level s b = sound-becomes m t r w w′ (Sat.backtrack (assignmentOf t w) level) s b (back-room (assignmentOf t w) level)
 
 -- the solver with another assignment
-pub solver-becomes : (s : Sat.Solver) (m : Store) (t r : Trail) (w w′ : List ℕ) (a : Sat.Assignment) → Becomes t w a r w′ → solverOf s m r w′ ≡ Sat.withAssignment (solverOf s m t w) a
+pub solver-becomes : (s : Sat.Solver) (m : Store) (t r : Trail) (w w′ : List ℕ) (a : Sat.Assignment) → Changes t w a r w′ → solverOf s m r w′ ≡ Sat.withAssignment (solverOf s m t w) a
 unfolding solverOf Sat.withAssignment watchesOf
-solver-becomes s m t r w w′ a b = rw (assigned-clauses (m .clauses) w w′ (b .frame), assigned-queues w w′ (b .frame), b .is, b .variables)
+solver-becomes s m t r w w′ a b =
+    rw (
+      same-clauses (m .clauses) w′ w (b .frame .same CLAUSE-STARTS refl) (b .frame .same WATCHED refl) (b .frame .same LITERALS refl),
+      queues-same w w′ (b .frame),
+      b .is,
+      b .variables,
+    )
 
 -- ---- a decision
 
@@ -134,26 +158,7 @@ decide-fits m t w v f h e =
 
 -- after a decision all is sound
 pub sound-decide : (m : Store) (t r : Trail) (w w′ : List ℕ) (v : ℕ) → SoundStore m t w [] → v < t .variables → getD (assignmentOf t w .assignments) v Sat.Unassigned ≡ Sat.Unassigned
-    → Becomes t w (decided (assignmentOf t w) v) r w′ → SoundStore m r w′ []
+    → Changes t w (decided (assignmentOf t w) v) r w′ → SoundStore m r w′ []
 sound-decide m t r w w′ v s h e b =
     sound-becomes m t r w w′ (decided (assignmentOf t w) v) s b
     (omega (arith, decide-room (assignmentOf t w) v (omega (arith, variables-are t w (s .formed .ready))) e))
-
--- ---- an analysis
-
--- an analysis touches nothing of it
-pub sound-analysis : (m : Store) (t : Trail) (w w′ : List ℕ) (p : List ℕ) → SoundStore m t w p → Unchanged analysisRegions w w′ → length w′ ≡ length w → SoundStore m t w′ p
-sound-analysis m t w w′ p s f l =
-    record {
-      formed = formed-kept m t w w′ (s .formed) (f .same CLAUSE-STARTS refl) (f .same LITERALS refl) (assignment-kept analysisRegions t refl f) l;
-      queues = rw (same-queues w′ w (f .same WATCH-HEADS refl) (f .same WATCH-TAILS refl) (f .same WATCH-COUNTS refl) (f .same LINKS refl)) (s .queues);
-    }
-
-pub solver-analysis : (s : Sat.Solver) (m : Store) (t : Trail) (w w′ : List ℕ) → Unchanged analysisRegions w w′ → solverOf s m t w′ ≡ solverOf s m t w
-unfolding solverOf watchesOf
-solver-analysis s m t w w′ f =
-    rw (
-      same-clauses (m .clauses) w′ w (f .same CLAUSE-STARTS refl) (f .same WATCHED refl) (f .same LITERALS refl),
-      same-queues w′ w (f .same WATCH-HEADS refl) (f .same WATCH-TAILS refl) (f .same WATCH-COUNTS refl) (f .same LINKS refl),
-      assignment-kept analysisRegions t refl f,
-    )

@@ -9,7 +9,7 @@ use native.Mathlib.Nat.{mul-le-mul}
 use lib.ListN.{length, take}
 use lib.Seq.{getD-take, length-take-le}
 use lib.Ieee.{Float}
-use Rattle.words.specs.Layout.{MOST-NODES, MOST-LEARNED}
+use Rattle.words.specs.Layout.{MOST-NODES, MOST-LEARNED, BLOCKS}
 use Rattle.model.specs.Aig.{Node}
 use Rattle.model.specs.Literal.{Literal, node}
 use Rattle.model.specs.Sat as Sat
@@ -22,9 +22,11 @@ use Rattle.assignment.specs.State.{assignmentOf, assignmentRegions, enqueued, U
 use Rattle.assignment.specs.Scores.{scoresOf, Others, Starts}
 use Rattle.assignment.specs.StateLaws.{unchanged-both, unchanged-within}
 use Rattle.assignment.specs.declared.state.Activity.{Activity}
+use Rattle.assignment.specs.KnownLaws.{cached-grown}
+use Rattle.assignment.specs.OrderLaws.{one-unsigned}
 use Rattle.assignment.specs.declared.state.Enqueued.{Enqueued}
 use Rattle.clauses.specs.Clauses.{clausesOf, watchesOf}
-use Rattle.clauses.specs.State.{solverOf, scored, flagged, encodedOf, Encodable, Encodes, Holds, searchRegions}
+use Rattle.clauses.specs.State.{solverOf, scored, flagged, encodedOf, Encodable, Encodes, Holds, encodeRegions}
 use Rattle.clauses.specs.StepLaws.{assigned-clauses, assigned-queues}
 use Rattle.clauses.specs.declared.state.Encoded.{Encoded}
 use Rattle.watches.specs.State.{UnitStep}
@@ -76,7 +78,7 @@ module _ (limit n : ℕ) (w : List ℕ) (x : List Float) (ls : List ℕ) (count 
   at-once a e g k = sym (solve-is g k ∙ ap (Sat.searchRounds limit ((limit + 2) * (n + 2))) e ∙ search-answered limit ((limit + 2) * (n + 2)) a)
 
   frame₁ : Unchanged solveRegions w w₁
-  frame₁ = unchanged-within searchRegions solveRegions refl (E .frame)
+  frame₁ = unchanged-within encodeRegions solveRegions refl (E .frame)
 
   -- an assumption is FALSE
   pub solve-inconsistent : r .encoding .inconsistent ≡ true → Solves limit n w x ls count (Answers.NoModel 0) w₁ x₁
@@ -140,6 +142,7 @@ module _ (limit n : ℕ) (w : List ℕ) (x : List Float) (ls : List ℕ) (count 
             total = omega arith;
             clauses = omega (arith, E .clauses, h .encodable .variables, h .few);
             literals = omega (arith, E .literals, h .encodable .variables, h .few);
+            cached = cached-grown (r .trail) w₁ (u .trail) w₂ a x₁ (U .variables) (U .frame .same BLOCKS refl) (U .grows) (E .cached a (rw (A .increment) one-unsigned));
           }
 
       same-run : (g : List Node) → Holds n w g → Sat.solve limit g given ≡ ranFrom limit ((limit + 2) * (n + 2)) first w₂ x₁

@@ -12,7 +12,8 @@ use Rattle.model.specs.Sat as Sat
 use Rattle.laws.specs.Search.State.{Idle, Stuck, Conflicting}
 use Rattle.assignment.specs.State.{modelOf, Unchanged}
 use Rattle.assignment.specs.Scores.{scoresOf, Fixed, Others}
-use Rattle.clauses.specs.State.{solverOf, SoundStore, searchRegions}
+use Rattle.assignment.specs.Blocks.{Cached}
+use Rattle.clauses.specs.State.{solverOf, SoundStore, encodeRegions}
 use Rattle.sat.specs.LearnLaws.{learnedClause, Learnable}
 use Rattle.sat.specs.declared.state.State.{State}
 use Rattle.sat.specs.declared.state.Step.{Step}
@@ -54,6 +55,7 @@ pub record Fits (limit : ℕ) (s : State) (w : List ℕ) (x : List Float) : Type
   pub total : s .learned ≤ limit
   pub clauses : s .store .clauses < 4 * MOST-NODES + s .learned
   pub literals : s .store .literals ≤ 8 * MOST-NODES + s .learned
+  pub cached : Cached (s .trail) w (s .activity) x
 
 -- between rounds: the invariant of the search of a graph and its assumptions
 pub record Going (limit : ℕ) (s : State) (w : List ℕ) (x : List Float) : Type 0 where
@@ -74,7 +76,7 @@ pub record Stopped (limit : ℕ) (s : State) (w : List ℕ) (x : List Float) (id
 
 -- the regions that a search writes
 abbrev pub solveRegions : List ℕ
-solveRegions = SEEN ∷ LEARNED ∷ searchRegions
+solveRegions = SEEN ∷ LEARNED ∷ encodeRegions
 
 -- a search that goes on is sound, with the same variables
 abbrev pub Next : ℕ → ℕ → Step → List ℕ → List Float → Type 0

@@ -1,11 +1,11 @@
 -- Laws of a round of the search by the end of its propagation: a decision, the model, or a conflict. Assumes nothing.
 use mathlib.Core.Path.{_≡_, refl, ap, sym, subst, _∙_}
-use mathlib.Core.List.{List, [], map}
+use mathlib.Core.List.{List, [], _∷_, map}
 use Prim.Native.Nat.{ℕ, _<_, _≤_}
 use native.Mathlib.Omega.{arith}
-use lib.ListN.{length}
+use lib.ListN.{length, take}
 use lib.Ieee.{Float}
-use Rattle.words.specs.Layout.{SMALL}
+use Rattle.words.specs.Layout.{SMALL, BLOCKS}
 use Rattle.model.specs.Sat as Sat
 use Rattle.laws.specs.Search.State.{Done, RoundOk}
 use Rattle.laws.specs.Search.Propagation.{propagate-keeps}
@@ -15,6 +15,8 @@ use Rattle.assignment.specs.State.{assignmentOf, assignmentRegions, Unchanged, 
 use Rattle.assignment.specs.Scores.{scoresOf}
 use Rattle.assignment.specs.StateLaws.{unchanged-both, unchanged-within, level-is}
 use Rattle.assignment.specs.declared.state.Trail.{Trail}
+use Rattle.assignment.specs.Blocks.{Unsigned, KnownIn}
+use Rattle.assignment.specs.KnownLaws.{cached-grown}
 use Rattle.clauses.specs.State.{solverOf, scored, SoundStore, searchRegions}
 use Rattle.watches.specs.declared.state.Propagation.{Propagation}
 use Rattle.watches.specs.declared.state.Propagation.the-variants as Propagations
@@ -84,6 +86,9 @@ module _ (limit : ℕ) (s : State) (w : List ℕ) (x : List Float) (g : Going li
           total = f .total;
           clauses = f .clauses;
           literals = f .literals;
+          cached =
+              let q : Propagates (s .store) (s .trail) w t w₁ = rw trail-is at P in
+              cached-grown (s .trail) w t w₁ (s .activity) x same-variables (q .frame .same BLOCKS refl) (q .grows) (f .cached);
         }
 
   -- ---- a conflict
@@ -145,8 +150,8 @@ module _ (limit : ℕ) (s : State) (w : List ℕ) (x : List Float) (g : Going li
         )
 
     -- what `decide` asks
-    pub decide-needs : SoundStore (s .store) t w₁ [] × (t .variables ≤ length x) × (t .level < SMALL)
-    decide-needs = (fits .sound, fits .scores, level-low)
+    pub decide-needs : SoundStore (s .store) t w₁ [] × (t .variables ≤ length x) × (t .level < SMALL) × Unsigned (take (t .variables) x) × KnownIn t w₁ x
+    decide-needs = (fits .sound, fits .scores, level-low, fits .cached .scores, fits .cached .known)
 
     decide-goal : Sat.step limit S ≡ Sat.decide T (Sat.chooseVariable T)
     unfolding Sat.afterPropagation
@@ -171,7 +176,7 @@ module _ (limit : ℕ) (s : State) (w : List ℕ) (x : List Float) (g : Going li
               );
           next = tt;
           others = others-none (s .trail .variables) x;
-          frame = unchanged-both solveRegions frame₁ (unchanged-within assignmentRegions solveRegions refl (d .frame));
+          frame = unchanged-both solveRegions frame₁ (unchanged-within (BLOCKS ∷ assignmentRegions) solveRegions refl (d .frame));
         }
 
     pub step-decided : (u : Trail) (w₂ : List ℕ) → Decides (s .store) t w₁ x (Outcomes.Deeper u) w₂ → Results limit (s .trail .variables) w x (Sat.step limit S) (Steps.Searching (moved s u)) w₂ x
@@ -190,9 +195,10 @@ module _ (limit : ℕ) (s : State) (w : List ℕ) (x : List Float) (g : Going li
               total = g .fits .total;
               clauses = g .fits .clauses;
               literals = g .fits .literals;
+              cached = d .cached (s .activity) (fits .cached);
             },
             same,
           );
           others = others-none (s .trail .variables) x;
-          frame = unchanged-both solveRegions frame₁ (unchanged-within assignmentRegions solveRegions refl (d .frame));
+          frame = unchanged-both solveRegions frame₁ (unchanged-within (BLOCKS ∷ assignmentRegions) solveRegions refl (d .frame));
         }

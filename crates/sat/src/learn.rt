@@ -17,6 +17,7 @@ use assignment::trail::backtrack;
 use clauses::add::add_clause;
 use clauses::encode::push_literal;
 use clauses::state::Store;
+use literals::Literal;
 use words::LEARNED;
 use words::SMALL;
 use words::fetch;
@@ -28,7 +29,7 @@ fn push_learned(words: &mut [u32], store: Store, t: Trail, start: usize, count: 
 {
     let mut i: usize = 0;
     while i < count {
-        let literal = fetch(words, LEARNED, SMALL, start + i);
+        let literal = Literal(fetch(words, LEARNED, SMALL, start + i));
         push_literal(words, store, t, i, literal);
         i += 1;
     }
@@ -57,11 +58,11 @@ pub fn learn(
     scores: &mut [f64],
     store: Store,
     t: Trail,
-    asserting: u32,
+    asserting: Literal,
     count: usize,
 ) -> Learned
-    requires { ⌜ Learnable store t (now words) (now scores) asserting count ⌝ }
-    ensures { λ r. ⌜ Learns store t (now (words .entry)) (now (scores .entry)) asserting count r (now (words .exit)) (now (scores .exit)) ⌝ }
+    requires { ⌜ Learnable store t (now words) (now scores) (asserting .0) count ⌝ }
+    ensures { λ r. ⌜ Learns store t (now (words .entry)) (now (scores .entry)) (asserting .0) count r (now (words .exit)) (now (scores .exit)) ⌝ }
 {
     let level = highest_level(words, t, count);
     let start = sort_learned(words, count, asserting);

@@ -10,7 +10,7 @@ use crate::state::State;
 use crate::state::Step;
 use analysis::resolve::analyze;
 use assignment::scores::decay_activity;
-use clauses::clause::negate;
+use literals::Literal;
 use watches::propagate::propagate;
 use watches::state::Propagation;
 use watches::units::enqueue;
@@ -20,13 +20,13 @@ fn assert_learned(
     words: &mut [u32],
     scores: &mut [f64],
     s: State,
-    asserting: u32,
+    asserting: Literal,
     count: usize,
     limit: usize,
 ) -> Step
-    requires { ⌜ Assertable limit s (now words) (now scores) asserting count ⌝ }
+    requires { ⌜ Assertable limit s (now words) (now scores) (asserting .0) count ⌝ }
     ensures { λ r. ⌜ Results limit (s .trail .variables) (now (words .entry)) (now (scores .entry))
-        (Sat.assertLearned (s .store .clauses) asserting (Sat.learn (stateOf s (now (words .entry)) (now (scores .entry))) (stateOf s (now (words .entry)) (now (scores .entry)) .scores) asserting (column count LEARNED (now (words .entry)))))
+        (Sat.assertLearned (s .store .clauses) (asserting .0) (Sat.learn (stateOf s (now (words .entry)) (now (scores .entry))) (stateOf s (now (words .entry)) (now (scores .entry)) .scores) (asserting .0) (column count LEARNED (now (words .entry)))))
         r (now (words .exit)) (now (scores .exit)) ⌝ }
 {
     let before = s.store;
@@ -72,6 +72,7 @@ fn after_conflict(
     let clauses = store.clauses;
     let r = analyze(words, scores, trail, s.activity, clauses, conflict);
     let analysis = r.analysis;
+    let pivot = r.pivot;
     let count = analysis.learned;
     let activity = decay_activity(analysis.activity);
     if limit < learned + count + 1 {
@@ -83,7 +84,7 @@ fn after_conflict(
         activity,
         learned,
     };
-    assert_learned(words, scores, next, negate(r.pivot), count, limit)
+    assert_learned(words, scores, next, pivot.negate(), count, limit)
 }
 
 // One round: propagation, then the clause that a conflict teaches, or a decision, or the model where every variable is assigned.

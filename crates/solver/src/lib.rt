@@ -9,7 +9,7 @@ ghost use Rattle.solver.specs.Query.{Extendable, Extends, Rebuilding, Se
 ghost use mathlib.Core.Option.{some};
 ghost use Rattle.aig.specs.Graph.{graphOf};
 use aig::Aig;
-use aig::Literal;
+use literals::Literal;
 use sat::solve::solve;
 use sat::state::Answer;
 use words::LENT;

@@ -13,7 +13,7 @@ ghost use Rattle.trace.specs.Trace.{FirstMismatch, Traceable, Traced};
 ghost use Rattle.trace.specs.Writing.{Wrote};
 ghost use Rattle.trace.specs.Cycles.{bytesOf, marksOf, inputsOf};
 use aig::Aig;
-use aig::Literal;
+use literals::Literal;
 use words::FRAMES;
 use words::GATE_OUTPUTS;
 use words::GOLD_OUTPUTS;

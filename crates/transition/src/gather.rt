@@ -9,7 +9,7 @@ ghost use Rattle.model.specs.Transition.{netLiteral};
 ghost use Rattle.lowering.specs.Firsts.{Mapped};
 ghost use Rattle.struo_ir.specs.Orders.{Formed};
 ghost use Rattle.transition.specs.Gather.{Gathered, byNumber};
-use aig::Literal;
+use literals::Literal;
 use lowering::nets::index;
 use lowering::nets::net_literal;
 use struo_ir::design::Order;

@@ -4,7 +4,7 @@ ghost use Rattle.model.specs.Literal.{constantLiteral};
 ghost use Rattle.model.specs.Run.{bitAt};
 ghost use Rattle.struo_ir.specs.Orders.{Formed};
 ghost use Rattle.transition.specs.Named.{Starts};
-use aig::Literal;
+use literals::Literal;
 use lowering::nets::index;
 use struo_ir::design::Design;
 

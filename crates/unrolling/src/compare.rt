@@ -11,7 +11,7 @@ ghost use Rattle.unrolling.specs.Naming.{orNamed, MatchesBelow};
 use crate::variables::at;
 use aig::Aig;
 use aig::Built;
-use aig::Literal;
+use literals::Literal;
 use words::wide;
 
 // The mismatch so far, or a difference of two literals.

@@ -5,7 +5,7 @@ use crate::compare::compare_outputs;
 use crate::frame::import_frame;
 use crate::variables::new_variables;
 use aig::Aig;
-use aig::Literal;
+use literals::Literal;
 use transition::system::System;
 
 // A graph with the inputs of a cycle, and the outputs and next states of both sides.

@@ -12,7 +12,7 @@ ghost use Rattle.unrolling.specs.Naming.{MatchesBelow};
 ghost use Rattle.unrolling.specs.Variables.{Listed, grown};
 use aig::Aig;
 use aig::Built;
-use aig::Literal;
+use literals::Literal;
 use words::wide;
 
 // A graph and literals of it; how many of them count, the caller knows.

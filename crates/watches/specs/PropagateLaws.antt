@@ -60,7 +60,7 @@ unfolding pendingOf walk
 pending-none d w h = let e : d .left ≡ 0 = omega arith in rw e
 
 step-none : (m : Store) (t : Trail) (w : List ℕ) (p : List ℕ) → SoundStore m t w p → Step m t w t w p
-step-none m t w p s = record { frame = unchanged-none searchRegions w; sound = s; variables = refl; level = refl; head = refl }
+step-none m t w p s = record { frame = unchanged-none searchRegions w; sound = s; variables = refl; level = refl; head = refl; grows = λ y f. f }
 
 -- ---- the pending clauses restored
 
@@ -144,7 +144,7 @@ module _ (m : Store) (f : ℕ) (t₀ : Trail) (w₀ : List ℕ) (d₀ : Pending)
           → Step m t₀ w₀ u w′ [] × ((s : Solver) → Sat.complete (solverOf s m u w′) ≡ Sat.visitPending f (map half (pendingOf d₀ w₀)) (Sat.propagating (solverOf s m t₀ w₀)))
       pends-complete u e =
           let z : Step m t₀ w₀ u w′ (restOf d w w) = rw e at steps in (
-            record { frame = z .frame; sound = record { formed = z .sound .formed; queues = drop-all m w′ (restOf d w w) (z .sound .queues) }; variables = z .variables; level = z .level; head = z .head },
+            record { frame = z .frame; sound = record { formed = z .sound .formed; queues = drop-all m w′ (restOf d w w) (z .sound .queues) }; variables = z .variables; level = z .level; head = z .head; grows = z .grows },
             λ s. sym (pending-complete f (map half (restOf d w w)) (solverOf s m u w′)) ∙ rw e at (visited s),
           )
 
@@ -196,6 +196,7 @@ module _ (m : Store) (t : Trail) (w : List ℕ) (f : ℕ) (s : SoundStore m t w 
         variables = refl;
         level = refl;
         head = refl;
+        grows = λ y f. rw (same-assignment t w u taken-unchanged) at f;
       };
       cells = rw (taken-pending d a b) (sym (watch-list (t .variables) w f h));
       watches = rw e (taken-watches w (s .formed .ready .words) (m .clauses * 2) (omega (arith, s .formed .clauses)) f (s .queues) near (t .variables));
@@ -247,6 +248,10 @@ advanced-assignment : (t : Trail) (w : List ℕ) → assignmentOf (advanced t) w
 unfolding assignmentOf further
 advanced-assignment t w = rw add-one
 
+further-values : (t : Trail) (w : List ℕ) → assignmentOf (advanced t) w .assignments ≡ assignmentOf t w .assignments
+unfolding assignmentOf
+further-values t w = refl
+
 head-is : (t : Trail) (w : List ℕ) → assignmentOf t w .propagationHead ≡ t .head
 unfolding assignmentOf
 head-is t w = refl
@@ -265,7 +270,7 @@ module _ (m : Store) (t : Trail) (w : List ℕ) (f : ℕ) (d : Pending) (u : Lis
         → ((s : Solver) → propagationOf s m w′ q ≡ Sat.visitPending f (map half (pendingOf d u)) (Sat.propagating (solverOf s m (advanced t) u)))
         → Step m (advanced t) w (trailOf q) w′ [] × ((s : Solver) → propagationOf s m w′ q ≡ Sat.propagateRound (solverOf s m t w))
     round-done q w′ z g = (
-      record { frame = unchanged-both searchRegions (k .step .frame) (z .frame); sound = z .sound; variables = z .variables; level = z .level; head = z .head },
+      record { frame = unchanged-both searchRegions (k .step .frame) (z .frame); sound = z .sound; variables = z .variables; level = z .level; head = z .head; grows = λ y f. rw (further-values t w) (k .step .grows y (rw (further-values t u) at (z .grows y f))) },
       λ s. g s ∙ sym (round-is s),
     )
 
@@ -301,7 +306,7 @@ module _ (m : Store) (t₀ : Trail) (w₀ : List ℕ) where
   pub rounds-start : SoundStore m t₀ w₀ [] → Rounds m t₀ w₀ t₀ w₀
   unfolding Sat.propagate solverOf
   rounds-start s = record {
-    done = record { frame = unchanged-none searchRegions w₀; sound = s; variables = refl; level = refl };
+    done = record { frame = unchanged-none searchRegions w₀; sound = s; variables = refl; level = refl; grows = λ y f. f };
     from = omega arith;
     fuel = omega arith;
     left = λ v. let e : suc (t₀ .variables) - (t₀ .head - t₀ .head) ≡ suc (t₀ .variables) = omega arith in rw (e, variables-are t₀ w₀ (s .formed .ready));
@@ -322,7 +327,7 @@ module _ (m : Store) (t₀ : Trail) (w₀ : List ℕ) where
     module _ (h : t .head < t .length) (w′ : List ℕ) (q : Propagation) (z : Step m (advanced t) w (trailOf q) w′ [])
         (g : (s : Solver) → propagationOf s m w′ q ≡ Sat.propagateRound (solverOf s m t w)) where
       done : Propagates m t₀ w₀ (trailOf q) w′
-      done = record { frame = unchanged-both searchRegions (i .done .frame) (z .frame); sound = z .sound; variables = z .variables ∙ i .done .variables; level = z .level ∙ i .done .level }
+      done = record { frame = unchanged-both searchRegions (i .done .frame) (z .frame); sound = z .sound; variables = z .variables ∙ i .done .variables; level = z .level ∙ i .done .level; grows = λ y f. i .done .grows y (rw (further-values t w) at (z .grows y f)) }
 
       left : (s : Solver) → Sat.propagateRounds (suc (t₀ .variables) - (t .head - t₀ .head + 1)) (propagationOf s m w′ q) ≡ Sat.propagate (solverOf s m t₀ w₀)
       left s = rw (g s) (sym (rounds-more (t₀ .variables) (t .head - t₀ .head) (solverOf s m t w) (i .fuel)) ∙ i .left s)

@@ -8,6 +8,7 @@ use Rattle.words.specs.Region.{region}
 use Rattle.model.specs.Sat as Sat
 use Rattle.model.specs.Sat.{Solver}
 use Rattle.assignment.specs.State.{assignmentOf, assignmentRegions, Unchanged}
+use Rattle.assignment.specs.Blocks.{Grown}
 use Rattle.assignment.specs.declared.state.Trail.{Trail}
 use Rattle.assignment.specs.declared.state.Enqueued.{Enqueued}
 use Rattle.clauses.specs.declared.state.Store.{Store}
@@ -78,6 +79,7 @@ pub record Propagates (m : Store) (t : Trail) (w : List ℕ) (r : Trail) (w′ :
   pub sound : SoundStore m r w′ []
   pub variables : r .variables ≡ t .variables
   pub level : r .level ≡ t .level
+  pub grows : Grown t w r w′
 
 -- ---- unit clauses
 
@@ -88,3 +90,4 @@ pub record UnitStep (m : Store) (t : Trail) (w : List ℕ) (r : Enqueued) (w′ 
   pub variables : r .trail .variables ≡ t .variables
   pub level : r .trail .level ≡ t .level
   pub head : r .trail .head ≡ t .head
+  pub grows : Grown t w (r .trail) w′

@@ -31,11 +31,11 @@ use Rattle.watches.specs.State.{UnitStep}
 module _ (m : Store) (t : Trail) (w : List ℕ) (l reason : ℕ) (s : SoundStore m t w []) {x : Value} (e : valueOf x ≡ Sat.value (assignmentOf t w) l) where
   pub unit-true : x ≡ Values.True → UnitStep m t w (record { ok = true; trail = t }) w × (enqueued true (assignmentOf t w) ≡ Sat.enqueue (assignmentOf t w) l (wordReason reason))
   unfolding enqueued Sat.enqueue Sat.enqueueValued
-  unit-true k = (record { frame = unchanged-none assignmentRegions w; sound = s; variables = refl; level = refl; head = refl }, rw (← e, k))
+  unit-true k = (record { frame = unchanged-none assignmentRegions w; sound = s; variables = refl; level = refl; head = refl; grows = λ y f. f }, rw (← e, k))
 
   pub unit-false : x ≡ Values.False → UnitStep m t w (record { ok = false; trail = t }) w × (enqueued false (assignmentOf t w) ≡ Sat.enqueue (assignmentOf t w) l (wordReason reason))
   unfolding enqueued Sat.enqueue Sat.enqueueValued
-  unit-false k = (record { frame = unchanged-none assignmentRegions w; sound = s; variables = refl; level = refl; head = refl }, rw (← e, k))
+  unit-false k = (record { frame = unchanged-none assignmentRegions w; sound = s; variables = refl; level = refl; head = refl; grows = λ y f. f }, rw (← e, k))
 
   module _ (k : x ≡ Values.Unassigned) (b : l < t .variables * 2) where
     free : Sat.value (assignmentOf t w) l ≡ Sat.Unassigned
@@ -48,7 +48,7 @@ module _ (m : Store) (t : Trail) (w : List ℕ) (l reason : ℕ) (s : SoundStore
     unfolding enqueued Sat.enqueue Sat.enqueueValued
     unit-assigned r w′ a =
         let z = assign-step m t w l (s .formed) b free reason r w′ a [] (s .queues) in
-        (record { frame = a .frame; sound = z .sound; variables = z .variables; level = z .level; head = z .head }, rw free (ap (λ (q : Assignment). some q) (a .is)))
+        (record { frame = a .frame; sound = z .sound; variables = z .variables; level = z .level; head = z .head; grows = z .grows }, rw free (ap (λ (q : Assignment). some q) (a .is)))
 
 -- ---- a clause
 
@@ -87,7 +87,7 @@ module _ (m : Store) (t : Trail) (w : List ℕ) (id : ℕ) (s : SoundStore m t w
   pub unit-skipped : (c .start + 1 ≡ c .end → ⊥) → UnitStep m t w (record { ok = true; trail = t }) w × (enqueued true (assignmentOf t w) ≡ Sat.initializeUnit (assignmentOf t w) id (clauseAt w id .literals))
   unfolding enqueued
   unit-skipped n = (
-    record { frame = unchanged-none assignmentRegions w; sound = s; variables = refl; level = refl; head = refl },
+    record { frame = unchanged-none assignmentRegions w; sound = s; variables = refl; level = refl; head = refl; grows = λ y f. f },
     sym (unit-not (assignmentOf t w) id (clauseAt w id .literals) (λ z. n (omega (arith, size)))),
   )
 
@@ -115,7 +115,7 @@ pub record Units (m : Store) (t₀ : Trail) (w₀ : List ℕ) (t : Trail) (w : L
 
 module _ (m : Store) (t₀ : Trail) (w₀ : List ℕ) where
   pub units-start : SoundStore m t₀ w₀ [] → Units m t₀ w₀ t₀ w₀ 0
-  units-start s = record { most = omega arith; step = record { frame = unchanged-none assignmentRegions w₀; sound = s; variables = refl; level = refl; head = refl }; left = refl }
+  units-start s = record { most = omega arith; step = record { frame = unchanged-none assignmentRegions w₀; sound = s; variables = refl; level = refl; head = refl; grows = λ y f. f }; left = refl }
 
   module _ (t : Trail) (w : List ℕ) (id : ℕ) (u : Units m t₀ w₀ t w id) where
     pub units-done : m .clauses ≤ id → UnitStep m t₀ w₀ (record { ok = true; trail = t }) w × (enqueued true (assignmentOf t w) ≡ Sat.initializeUnits 0 (clausesOf (m .clauses) w₀) (some (assignmentOf t₀ w₀)))
@@ -138,13 +138,14 @@ module _ (m : Store) (t₀ : Trail) (w₀ : List ℕ) where
         variables = a .variables ∙ u .step .variables;
         level = a .level ∙ u .step .level;
         head = a .head ∙ u .step .head;
+        grows = λ y f. u .step .grows y (a .grows y f);
       }
 
       pub units-next : r .ok ≡ true → Units m t₀ w₀ (r .trail) w′ (id + 1)
       unfolding enqueued
       units-next e = record {
         most = omega arith;
-        step = record { frame = steps .frame; sound = steps .sound; variables = steps .variables; level = steps .level; head = steps .head };
+        step = record { frame = steps .frame; sound = steps .sound; variables = steps .variables; level = steps .level; head = steps .head; grows = steps .grows };
         left = rw e at left;
       }
 

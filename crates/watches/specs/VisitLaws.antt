@@ -221,6 +221,7 @@ module _ (m : Store) (t : Trail) (w : List ℕ) (d : Pending) (v : Visiting m t 
       variables = refl;
       level = refl;
       head = refl;
+      grows = λ y f. f;
     };
     same = refl;
   }

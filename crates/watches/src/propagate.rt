@@ -13,9 +13,9 @@ use crate::state::Pending;
 use crate::state::Propagation;
 use crate::visit::visit;
 use assignment::state::Trail;
-use clauses::clause::negate;
 use clauses::queue::push_back;
 use clauses::state::Store;
+use literals::Literal;
 use words::CELLS;
 use words::DOUBLE;
 use words::LINKS;
@@ -40,19 +40,19 @@ fn rest(words: &[u32], d: Pending) -> Pending
 }
 
 // The first pending clause stays with f.
-fn keep(words: &mut [u32], store: Store, t: Trail, f: u32, d: Pending)
+fn keep(words: &mut [u32], store: Store, t: Trail, f: Literal, d: Pending)
     requires { ⌜ Visiting store t (now words) d ⌝ }
     ensures { λ _. ⌜ Visits store t (now (words .entry)) d t (now (words .exit))
-        × ((s : Sat.Solver) → solverOf s store t (now (words .exit)) ≡ Sat.keepWatch f (half (d .cell)) (solverOf s store t (now (words .entry)))) ⌝ }
+        × ((s : Sat.Solver) → solverOf s store t (now (words .exit)) ≡ Sat.keepWatch (f .0) (half (d .cell)) (solverOf s store t (now (words .entry)))) ⌝ }
 {
-    push_back(words, wide(f), d.cell);
+    push_back(words, wide(f.0), d.cell);
 }
 
 // The pending clauses go back to the queue of f, in order.
-fn restore(words: &mut [u32], store: Store, t: Trail, f: u32, first: Pending)
+fn restore(words: &mut [u32], store: Store, t: Trail, f: Literal, first: Pending)
     requires { ⌜ SoundStore store t (now words) (pendingOf first (now words)) ⌝ }
     ensures { λ _. ⌜ Step store t (now (words .entry)) t (now (words .exit)) []
-        × ((s : Sat.Solver) → solverOf s store t (now (words .exit)) ≡ appended f (map half (pendingOf first (now (words .entry)))) (solverOf s store t (now (words .entry)))) ⌝ }
+        × ((s : Sat.Solver) → solverOf s store t (now (words .exit)) ≡ appended (f .0) (map half (pendingOf first (now (words .entry)))) (solverOf s store t (now (words .entry)))) ⌝ }
 {
     let mut d = first;
     while 0 < d.left {
@@ -67,12 +67,12 @@ fn visit_pending(
     words: &mut [u32],
     store: Store,
     start: Trail,
-    f: u32,
+    f: Literal,
     first: Pending,
 ) -> Propagation
     requires { ⌜ SoundStore store start (now words) (pendingOf first (now words)) ⌝ }
     ensures { λ r. ⌜ Step store start (now (words .entry)) (trailOf r) (now (words .exit)) []
-        × ((s : Sat.Solver) → propagationOf s store (now (words .exit)) r ≡ Sat.visitPending f (map half (pendingOf first (now (words .entry)))) (Sat.propagating (solverOf s store start (now (words .entry))))) ⌝ }
+        × ((s : Sat.Solver) → propagationOf s store (now (words .exit)) r ≡ Sat.visitPending (f .0) (map half (pendingOf first (now (words .entry)))) (Sat.propagating (solverOf s store start (now (words .entry))))) ⌝ }
 {
     let mut t = start;
     let mut d = first;
@@ -96,11 +96,11 @@ fn visit_pending(
 }
 
 // The queue of f taken whole: its cells are pending. There is none where f is no literal of the variables.
-fn take_watches(words: &mut [u32], store: Store, t: Trail, f: u32) -> Pending
+fn take_watches(words: &mut [u32], store: Store, t: Trail, f: Literal) -> Pending
     requires { ⌜ SoundStore store t (now words) [] ⌝ }
-    ensures { λ r. ⌜ Taken store t (now (words .entry)) f r (now (words .exit)) ⌝ }
+    ensures { λ r. ⌜ Taken store t (now (words .entry)) (f .0) r (now (words .exit)) ⌝ }
 {
-    let l = wide(f);
+    let l = wide(f.0);
     if t.variables * 2 <= l {
         return Pending { cell: 0, left: 0 };
     }
@@ -117,7 +117,8 @@ fn propagate_round(words: &mut [u32], store: Store, t: Trail) -> Propagation
         × ((s : Sat.Solver) → propagationOf s store (now (words .exit)) r ≡ Sat.propagateRound (solverOf s store t (now (words .entry)))) ⌝ }
 {
     let head = t.head;
-    let f = negate(fetch(words, TRAIL, SMALL, head));
+    let literal = Literal(fetch(words, TRAIL, SMALL, head));
+    let f = literal.negate();
     let d = take_watches(words, store, t, f);
     let next = Trail {
         variables: t.variables,

@@ -16,13 +16,14 @@ use assignment::trail::value;
 use clauses::clause::clause;
 use clauses::clause::literal_at;
 use clauses::state::Store;
+use literals::Literal;
 use words::wide;
 
 // A literal of the variables made true with its reason; not ok where it is false.
-pub fn enqueue(words: &mut [u32], store: Store, t: Trail, l: u32, reason: u32) -> Enqueued
-    requires { ⌜ SoundStore store t (now words) [] × (l < t .variables * 2) ⌝ }
+pub fn enqueue(words: &mut [u32], store: Store, t: Trail, l: Literal, reason: u32) -> Enqueued
+    requires { ⌜ SoundStore store t (now words) [] × (l .0 < t .variables * 2) ⌝ }
     ensures { λ r. ⌜ UnitStep store t (now (words .entry)) r (now (words .exit))
-        × (enqueued (r .ok) (assignmentOf (r .trail) (now (words .exit))) ≡ Sat.enqueue (assignmentOf t (now (words .entry))) l (wordReason reason)) ⌝ }
+        × (enqueued (r .ok) (assignmentOf (r .trail) (now (words .exit))) ≡ Sat.enqueue (assignmentOf t (now (words .entry))) (l .0) (wordReason reason)) ⌝ }
 {
     match value(words, t, l) {
         Value::True => Enqueued { ok: true, trail: t },

@@ -22,6 +22,7 @@ use clauses::queue::push_back;
 use clauses::state::Clause;
 use clauses::state::Place;
 use clauses::state::Store;
+use literals::Literal;
 use words::CELLS;
 use words::WATCHED;
 use words::stash;
@@ -32,17 +33,17 @@ fn visit_enqueued(
     words: &mut [u32],
     store: Store,
     t: Trail,
-    f: u32,
+    f: Literal,
     d: Pending,
-    other: u32,
+    other: Literal,
 ) -> Propagation
-    requires { ⌜ Visiting store t (now words) d × (other < t .variables * 2) ⌝ }
+    requires { ⌜ Visiting store t (now words) d × (other .0 < t .variables * 2) ⌝ }
     ensures { λ r. ⌜ Visits store t (now (words .entry)) d (trailOf r) (now (words .exit))
-        × ((s : Sat.Solver) → propagationOf s store (now (words .exit)) r ≡ Sat.visitEnqueued (half (d .cell)) (Sat.keepWatch f (half (d .cell)) (solverOf s store t (now (words .entry)))) (Sat.enqueue (assignmentOf t (now (words .entry))) other (some (half (d .cell))))) ⌝ }
+        × ((s : Sat.Solver) → propagationOf s store (now (words .exit)) r ≡ Sat.visitEnqueued (half (d .cell)) (Sat.keepWatch (f .0) (half (d .cell)) (solverOf s store t (now (words .entry)))) (Sat.enqueue (assignmentOf t (now (words .entry))) (other .0) (some (half (d .cell))))) ⌝ }
 {
     let cell = d.cell;
     let id = cell / 2;
-    push_back(words, wide(f), cell);
+    push_back(words, wide(f.0), cell);
     match value(words, t, other) {
         Value::True => Propagation::Propagating(t),
         Value::False => Propagation::Conflict(wide(id), t),
@@ -70,13 +71,13 @@ fn replace_watch(
     let cell = d.cell;
     let l = literal_at(words, c, i);
     stash(words, WATCHED, CELLS, wide(cell / 2) * 2 + wide(slot), i);
-    push_back(words, wide(l), cell);
+    push_back(words, wide(l.0), cell);
 }
 
 // Whether a literal is true.
-pub fn is_true(words: &[u32], t: Trail, l: u32) -> bool
+pub fn is_true(words: &[u32], t: Trail, l: Literal) -> bool
     requires { ⌜ LENT ≤ length (now words) ⌝ }
-    ensures { λ r. ⌜ r ≡ Sat.isTrue (Sat.value (assignmentOf t (now (words .entry))) l) ⌝ }
+    ensures { λ r. ⌜ r ≡ Sat.isTrue (Sat.value (assignmentOf t (now (words .entry))) (l .0)) ⌝ }
 {
     match value(words, t, l) {
         Value::True => true,
@@ -90,19 +91,19 @@ fn visit_other(
     words: &mut [u32],
     store: Store,
     t: Trail,
-    f: u32,
+    f: Literal,
     d: Pending,
     c: Clause,
     slot: u32,
-    other: u32,
+    other: Literal,
 ) -> Propagation
-    requires { ⌜ Visiting store t (now words) d × (clauseOf c (now words) ≡ clauseAt (now words) (half (d .cell))) × (slot < 2) × (other < t .variables * 2) × (c .end ≤ POOL) ⌝ }
-    requires { ⌜ other ≡ Sat.otherLiteral (clauseOf c (now words)) (slotOf slot) ⌝ }
+    requires { ⌜ Visiting store t (now words) d × (clauseOf c (now words) ≡ clauseAt (now words) (half (d .cell))) × (slot < 2) × (other .0 < t .variables * 2) × (c .end ≤ POOL) ⌝ }
+    requires { ⌜ other .0 ≡ Sat.otherLiteral (clauseOf c (now words)) (slotOf slot) ⌝ }
     ensures { λ r. ⌜ Visits store t (now (words .entry)) d (trailOf r) (now (words .exit))
-        × ((s : Sat.Solver) → propagationOf s store (now (words .exit)) r ≡ Sat.visitOther f (half (d .cell)) (solverOf s store t (now (words .entry))) (clauseOf c (now (words .entry))) (slotOf slot) (Sat.value (assignmentOf t (now (words .entry))) other)) ⌝ }
+        × ((s : Sat.Solver) → propagationOf s store (now (words .exit)) r ≡ Sat.visitOther (f .0) (half (d .cell)) (solverOf s store t (now (words .entry))) (clauseOf c (now (words .entry))) (slotOf slot) (Sat.value (assignmentOf t (now (words .entry))) (other .0))) ⌝ }
 {
     if is_true(words, t, other) {
-        push_back(words, wide(f), d.cell);
+        push_back(words, wide(f.0), d.cell);
         return Propagation::Propagating(t);
     }
     match replacement(words, t, c) {
@@ -115,18 +116,18 @@ fn visit_other(
 }
 
 // One clause of the queue of f, which has become false.
-pub fn visit(words: &mut [u32], store: Store, t: Trail, f: u32, d: Pending) -> Propagation
+pub fn visit(words: &mut [u32], store: Store, t: Trail, f: Literal, d: Pending) -> Propagation
     requires { ⌜ Visiting store t (now words) d ⌝ }
     ensures { λ r. ⌜ Visits store t (now (words .entry)) d (trailOf r) (now (words .exit))
-        × ((s : Sat.Solver) → propagationOf s store (now (words .exit)) r ≡ Sat.visit f (half (d .cell)) (solverOf s store t (now (words .entry)))) ⌝ }
+        × ((s : Sat.Solver) → propagationOf s store (now (words .exit)) r ≡ Sat.visit (f .0) (half (d .cell)) (solverOf s store t (now (words .entry)))) ⌝ }
 {
     let c = clause(words, wide(d.cell / 2));
     let a = literal_at(words, c, c.first);
     let b = literal_at(words, c, c.second);
-    if a == f {
+    if a.0 == f.0 {
         return visit_other(words, store, t, f, d, c, 0, b);
     }
-    if b == f {
+    if b.0 == f.0 {
         return visit_other(words, store, t, f, d, c, 1, a);
     }
     Propagation::Propagating(t)

@@ -42,14 +42,6 @@ length-filled a zero xs = refl
 length-filled a (suc n) [] = refl
 length-filled a (suc n) (x ∷ xs) = ap suc (length-filled a n xs)
 
--- an element past the filled ones
-pub getD-filled-past : {A : Type 0} (a : A) (n : ℕ) (xs : List A) (i : ℕ) (d : A) → n ≤ i → getD (filled a n xs) i d ≡ getD xs i d
-unfolding filled
-getD-filled-past a zero xs i d h = refl
-getD-filled-past a (suc n) [] i d h = refl
-getD-filled-past a (suc n) (x ∷ xs) zero d h = absurd (omega arith)
-getD-filled-past a (suc n) (x ∷ xs) (suc i) d h = getD-filled-past a n xs i d (omega arith)
-
 -- a filled element
 pub getD-filled : {A : Type 0} (a : A) (n : ℕ) (xs : List A) (i : ℕ) → i < n → getD (filled a n xs) i a ≡ a
 unfolding filled

@@ -1,6 +1,6 @@
 -- The layout of the lent words, with the names of words/src/lib.rt (a - stands for a _). Each name is its number, everywhere. Definitions only.
 --
--- The 128 units of 65,536 words that are lent, and what is free among them (78 are used, 50 are free):
+-- The 128 units of 65,536 words that are lent, and what is free among them (79 are used, the last of them in part, and 49 are free):
 --
 --     units      words                   regions
 --     0 to 17    0 to 1179647            the 18 regions of SMALL words, from GRAPH-LHS to LEARNED
@@ -10,7 +10,8 @@
 --     40 to 55   2621440 to 3670015      WATCHED, of CELLS words
 --     56 to 71   3670016 to 4718591      LINKS, of CELLS words
 --     72 to 83   4718592 to 5505023      LITERALS, of POOL words
---     84 to 127  5505024 to 8388607      free: 44 units
+--     84         5505024 to 5507071      NETS and STATES, of TABLE words each; the rest of the unit is free
+--     85 to 127  5570560 to 8388607      free: 43 units
 --
 -- In FRAMES the rows of cycles 0 to 64 take 33,280 words; the other 32,256 are free, and so are words 385 to 511 of each row.
 -- A new region stands where `sizeOf` of Region.antt gives it its size.
@@ -41,6 +42,10 @@ CELLS = 1048576
 -- a word for each literal of a clause
 abbrev pub POOL : ℕ
 POOL = 786432
+
+-- a word for each net of a design
+abbrev pub TABLE : ℕ
+TABLE = 1024
 
 -- ---- bounds
 
@@ -82,7 +87,7 @@ GATE-LHS = 327680
 abbrev pub GATE-RHS : ℕ
 GATE-RHS = 393216
 
--- the literal of each node of an imported graph; of each register output while a design is lowered
+-- the literal of each node of an imported graph
 abbrev pub IMPORTED : ℕ
 IMPORTED = 458752
 
@@ -90,9 +95,13 @@ IMPORTED = 458752
 abbrev pub FRAMES : ℕ
 FRAMES = 524288
 
--- the literal of each net
-abbrev pub NETS : ℕ
-NETS = 589824
+-- what is known of the best of each block of BLOCK variables
+abbrev pub BLOCKS : ℕ
+BLOCKS = 589824
+
+-- how many variables a block has
+abbrev pub BLOCK : ℕ
+BLOCK = 64
 
 -- the value of each variable
 abbrev pub VALUES : ℕ
@@ -179,3 +188,13 @@ LINKS = 3670016
 -- the literals of all clauses
 abbrev pub LITERALS : ℕ
 LITERALS = 4718592
+
+-- ---- regions of TABLE words
+
+-- the literal of each net
+abbrev pub NETS : ℕ
+NETS = 5505024
+
+-- the variable of each register output, by its net, while a design is lowered
+abbrev pub STATES : ℕ
+STATES = 5506048

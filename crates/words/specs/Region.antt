@@ -3,21 +3,21 @@ use mathlib.Core.Path.{_≡_, refl, ap, sym, _∙_}
 use mathlib.Core.Bool.{Bool, true, false, _||_, cond}
 use mathlib.Core.List.{List, [], _∷_, _++_}
 use mathlib.Core.Logic.{⊎-elim}
-use Prim.Native.Nat.{ℕ, zero, suc, _+_, _-_, _≤_, _<_}
+use Prim.Native.Nat.{ℕ, zero, suc, _+_, _-_, _≤_, _<_, min}
 use native.Mathlib.Omega.{arith}
 use native.Mathlib.Numerals.{add-one}
 use lib.Dec.{leb, ltb}
-use borrow.Author.Tests.{leb-true, ltb-true, ltb-false}
+use borrow.Author.Tests.{leb-true, lt-ltb, ltb-true, ltb-false}
 use lib.ListN.{length, take, drop, set, getD, length-take, length-drop, length-set, List·getD-eq-default}
 use Rattle.facts.specs.Bools.{or-cases}
-use Rattle.words.specs.Layout.{SMALL, DOUBLE, STARTS, CELLS, POOL, AND-HEADS, CLAUSE-STARTS, WATCHED, LITERALS}
+use Rattle.words.specs.Layout.{SMALL, DOUBLE, STARTS, CELLS, POOL, TABLE, AND-HEADS, CLAUSE-STARTS, WATCHED, LITERALS, NETS}
 use Rattle.words.specs.Fill.{filled, filled-suc, filled-none}
 use lib.Seq.{take-set-le, take-set-lt, take-suc-set, drop-set-lt, drop-set-add, getD-take, getD-drop, set-out}
 
 -- how many words the region that starts at `base` has: the one table of sizes
 abbrev pub sizeOf : ℕ → ℕ
 sizeOf base =
-    cond (ltb base AND-HEADS) SMALL (cond (ltb base CLAUSE-STARTS) DOUBLE (cond (ltb base WATCHED) STARTS (cond (ltb base LITERALS) CELLS POOL)))
+    cond (ltb base AND-HEADS) SMALL (cond (ltb base CLAUSE-STARTS) DOUBLE (cond (ltb base WATCHED) STARTS (cond (ltb base LITERALS) CELLS (cond (ltb base NETS) POOL TABLE))))
 
 unfoldable pub region : ℕ → List ℕ → List ℕ
 region base words = take (sizeOf base) (drop base words)
@@ -98,9 +98,22 @@ unfolding cleared
 cleared-none b w = refl
 
 -- one word more
-pub cleared-more : (b : ℕ) (w : List ℕ) (n : ℕ) → stored b (cleared b w n) n 0 ≡ cleared b w (n + 1)
+cleared-more : (b : ℕ) (w : List ℕ) (n : ℕ) → stored b (cleared b w n) n 0 ≡ cleared b w (n + 1)
 unfolding cleared
 cleared-more b w n = rw add-one
+
+-- one word more, in the region
+pub cleared-next : (b : ℕ) (w : List ℕ) (n : ℕ) → n < sizeOf b → set (cleared b w n) (b + n) 0 ≡ cleared b w (n + 1)
+unfolding stored
+cleared-next b w n h = rw (lt-ltb n (sizeOf b) h) at (cleared-more b w n)
+
+-- nothing past its end: the lower of the number and the region's size says which
+pub cleared-least : (b : ℕ) (w : List ℕ) (n : ℕ) → cleared b w (min n (sizeOf b)) ≡ cleared b w n
+unfolding cleared stored
+cleared-least b w zero = let e : min 0 (sizeOf b) ≡ 0 = omega arith in ap (cleared b w) e
+cleared-least b w (suc n) = by-test n (sizeOf b) (λ (t : Bool). cleared b w (min (suc n) (sizeOf b)) ≡ cond t (set (cleared b w n) (b + n) 0) (cleared b w n))
+    (λ h. let e : min (suc n) (sizeOf b) ≡ n + 1 = omega arith in ap (cleared b w) e ∙ sym (cleared-next b w n h))
+    (λ h. let e : min (suc n) (sizeOf b) ≡ min n (sizeOf b) = omega arith in ap (cleared b w) e ∙ cleared-least b w n)
 
 -- inside
 pub cleared-in : (b : ℕ) (w : List ℕ) (n : ℕ) → region b (cleared b w n) ≡ filled 0 n (region b w)

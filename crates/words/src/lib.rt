@@ -1,6 +1,6 @@
 // The lent words: the layout of their regions, and total accessors. Everything else reaches lent words through this crate.
 //
-// The 128 units of 65,536 words that are lent, and what is free among them (78 are used, 50 are free):
+// The 128 units of 65,536 words that are lent, and what is free among them (79 are used, the last of them in part, and 49 are free):
 //
 //     units      words                   regions
 //     0 to 17    0 to 1179647            the 18 regions of 65,536 words, from GRAPH_LHS to LEARNED
@@ -10,12 +10,13 @@
 //     40 to 55   2621440 to 3670015      WATCHED
 //     56 to 71   3670016 to 4718591      LINKS
 //     72 to 83   4718592 to 5505023      LITERALS
-//     84 to 127  5505024 to 8388607      free: 44 units
+//     84         5505024 to 5507071      the 2 regions of 1,024 words, NETS and STATES; the rest of the unit is free
+//     85 to 127  5570560 to 8388607      free: 43 units
 //
 // In FRAMES the rows of cycles 0 to 64 take 33,280 words; the other 32,256 are free, and so are words 385 to 511 of each row.
 // A new region needs a name here and in specs/Layout.antt; its size by its base is what `sizeOf` of specs/Region.antt says.
 ghost use mathlib.Core.Path.{_≡_};
-ghost use Prim.Native.Nat.{_+_, _<_, _≤_};
+ghost use Prim.Native.Nat.{_+_, _<_, _≤_, min};
 ghost use lib.ListN.{length, getD, replicate};
 ghost use lib.Ieee.{fin};
 ghost use lib.IntN.{pos};
@@ -48,12 +49,16 @@ pub const GOLD_RHS: usize = 262144;
 pub const GATE_LHS: usize = 327680;
 
 pub const GATE_RHS: usize = 393216;
-// The literal in the proof graph of each node of an imported graph; while a design is lowered, the variable of each register output by its net.
+// The literal in the proof graph of each node of an imported graph.
 pub const IMPORTED: usize = 458752;
 // The literals of inputs, outputs and mismatches of each cycle: a row of ROW words for each, with the inputs at its beginning.
 pub const FRAMES: usize = 524288;
-// The literal of each net.
-pub const NETS: usize = 589824;
+// The search, by block of BLOCK variables: 0 where its best is unknown, else one more than the unassigned variable of the highest score, or 1 where none was
+// unassigned. A word for each block; the rest of the region is free.
+pub const BLOCKS: usize = 589824;
+
+// How many variables a block has.
+pub const BLOCK: usize = 64;
 // The search, by variable: value, level, reason, phase and whether it is seen.
 pub const VALUES: usize = 655360;
 
@@ -112,6 +117,15 @@ pub const LITERALS: usize = 4718592;
 
 pub const POOL: usize = 786432;
 
+// ---- regions of 1,024 words, one for each net of a design
+
+pub const TABLE: usize = 1024;
+
+// The literal of each net.
+pub const NETS: usize = 5505024;
+// While a design is lowered, the variable of each register output by its net.
+pub const STATES: usize = 5506048;
+
 // A word as an index.
 pub fn wide(x: u32) -> usize
     ensures { λ r. ⌜ r ≡ x ⌝ }
@@ -137,14 +151,22 @@ pub fn stash(words: &mut [u32], base: usize, size: usize, i: usize, value: u32)
     }
 }
 
+// The lower of two numbers.
+pub fn lower(a: usize, b: usize) -> usize
+    ensures { λ r. ⌜ r ≡ min a b ⌝ }
+{
+    if a < b { a } else { b }
+}
+
 // Clears the first `n` words of the region at `base`, of `size` words; nothing past its end.
 pub fn clear(words: &mut [u32], base: usize, size: usize, n: usize)
     requires { ⌜ (LENT ≤ length (now words)) × (base + size ≤ LENT) × (size ≡ sizeOf base) ⌝ }
     ensures { λ _. ⌜ (now (words .exit) ≡ cleared base (now (words .entry)) n) × (LENT ≤ length (now (words .exit))) ⌝ }
 {
+    let end = lower(n, size);
     let mut i: usize = 0;
-    while i < n {
-        stash(words, base, size, i, 0);
+    while i < end {
+        words[base + i] = 0;
         i += 1;
     }
 }

@@ -23,7 +23,7 @@ abbrev μ-loop : tie.MeasureT-loop
 head : (c : tie.After-fetch Inv-loop μ-loop) → let s = c .before .before .before in Link (s .args .words .now) (s .args .lhs) (s .args .rhs) (s .args .self .count) (c .fetch .result)
 head c =
     let s = c .before .before .before in
-    link-head (s .args .self .count) _ (s .pre .0) _ _ (s .pre .1) (omega arith) _ (c .fetch .ensures ∙ ap (λ (i : ℕ). getD (region AND-HEADS (s .args .words .now)) i 0) (c .before .wide .ensures))
+    link-head (s .args .self .count) _ (s .pre .0) _ _ (s .pre .1) (s .pre .2) _ (c .fetch .ensures ∙ ap (λ (i : ℕ). getD (region AND-HEADS (s .args .words .now)) i 0) (c .before .wide .ensures))
 
 loop-holds : tie.Need-loop-holds Inv-loop μ-loop
 loop-holds c = (omega arith, head c .has, refl)

@@ -6,4 +6,4 @@ returns : tie.Need-returns
 returns c = cc
 
 pub level-of-spec : {M : Type 1} → statement M
-level-of-spec = tie.close (tie.spec (λ c κs. search needs) (λ c κs. search needs) (λ c κs. search needs) returns)
+level-of-spec = tie.close (tie.spec (λ c κs. search needs) (λ c κs. search needs) (λ c κs. search needs) (λ c κs. search needs) returns)

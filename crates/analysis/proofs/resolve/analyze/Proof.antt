@@ -2,8 +2,9 @@ use Prim.Native.Nat.{_<_}
 use borrow.Author.Count.{falls-down}
 use lib.ListN.{getD}
 use native.Mathlib.Omega.{arith}
+use Rattle.literals.specs.declared.Literal.{Literal}
 use Rattle.assignment.specs.State.{assignmentOf}
-use mathlib.Core.Path.{_≡_, refl, _∙_}
+use mathlib.Core.Path.{_≡_, refl, ap, _∙_}
 use mathlib.Core.Logic.{⊎-elim}
 use Rattle.analysis.specs.RoundLaws.{pivotFrom, pivot-back, met-none, met-here}
 use Rattle.analysis.specs.AnalyzeLaws.{Resolving, resolving-begins, analyzes, round-some, round-room, round-more}
@@ -51,15 +52,15 @@ fetch-below-requires-2 c κs =
 
 fetch-below-requires-3 : tie.Need-fetch-below-requires-3 Inv-loop2 μ-loop2 Inv-loop μ-loop
 fetch-below-requires-3 c κs =
-    let q = c .before .before .before .before .before .before .before .before .before .before in
+    let q = c .before .before .before .before .before .before .before .before .before .before .before in
     (q .see-clause .ensures .words, search needs, refl)
 
 loop2-again : tie.Need-loop2-again Inv-loop2 μ-loop2 Inv-loop μ-loop
 loop2-again c =
     let v = c .before .before in
-    let k = v .before .before in
+    let k = v .before .before .before in
     let i = k .before .before in
-    pivot-back _ _ _ _ _ _ (i .if1 .left) (k .fetch-below2 .ensures) (v .wide .ensures) (c .before .fetch-below3 .ensures) (c .if2 .left) ∙ i .before .loop2 .inv
+    pivot-back _ _ _ _ _ _ (i .if1 .left) (k .fetch-below2 .ensures) (v .wide .ensures ∙ v .before .node .ensures) (c .before .fetch-below3 .ensures) (c .if2 .left) ∙ i .before .loop2 .inv
 
 -- where the pivot is, and what it is
 met : (c : tie.Joined1 Inv-loop2 μ-loop2 Inv-loop μ-loop) →
@@ -67,10 +68,10 @@ met : (c : tie.Joined1 Inv-loop2 μ-loop2 Inv-loop μ-loop) →
     let l = q .before .before .before in
     let s = l .before .before .before .before .before .before .before in
     (c .if1 .trail-index ≡ pivotFrom (s .args .t) (q .see-clause .last .0) (l .loop .trail-index))
-    × (c .if1 .pivot ≡ getD (assignmentOf (s .args .t) (q .see-clause .last .0) .trail) (c .if1 .trail-index) 0)
+    × (c .if1 .pivot .0 ≡ getD (assignmentOf (s .args .t) (q .see-clause .last .0) .trail) (c .if1 .trail-index) 0)
 met c =
-    ⊎-elim (λ w. met-none _ _ _ _ (c .before .loop2 .inv) _ _ _ (w .0 .taken) (w .3) (w .2 .ensures) (w .4))
-    (λ w. met-here _ _ _ _ (c .before .loop2 .inv) _ _ _ _ _ (w .0 .left) (w .2 .ensures) (w .4 .ensures) (w .5 .ensures) (w .6 .taken) (w .7) (w .8))
+    ⊎-elim (λ w. met-none _ _ _ _ (c .before .loop2 .inv) _ _ _ (w .0 .taken) (w .3) (w .2 .ensures) (ap (λ (l : Literal). l .0) (w .4)))
+    (λ w. met-here _ _ _ _ (c .before .loop2 .inv) _ _ _ _ _ (w .0 .left) (w .2 .ensures) (w .5 .ensures ∙ w .4 .ensures) (w .6 .ensures) (w .7 .taken) (w .8) (ap (λ (l : Literal). l .0) (w .9)))
     (c .if1 .came)
 
 close-pivot-requires : tie.Need-close-pivot-requires Inv-loop2 μ-loop2 Inv-loop μ-loop
@@ -130,10 +131,10 @@ loop-again c =
     let m = k .before .before in
     let q = m .before .before .before .before .before .before in
     let l = q .before .before .before in
-    round-more _ _ _ _ _ _ (l .loop .inv) _ _ (q .see-clause .ensures) (met m .0) (met m .1) (k .close-pivot .ensures) _ _ (i .if3 .left) (d .wide2 .ensures) (c .reason-of .ensures) (q .see-clause .kept .0)
+    round-more _ _ _ _ _ _ (l .loop .inv) _ _ (q .see-clause .ensures) (met m .0) (met m .1) (k .close-pivot .ensures) _ _ (i .if3 .left) (d .wide2 .ensures ∙ d .before .node2 .ensures) (c .reason-of .ensures) (q .see-clause .kept .0)
     (k .close-pivot .kept .0) (k .close-pivot .ensures .words)
 
 pub analyze-spec : {M : Type 1} → statement M
 analyze-spec =
     tie.close
-    (tie.spec Inv-loop2 μ-loop2 Inv-loop μ-loop (λ c κs. search needs) loop-holds see-clause-requires loop2-holds fetch-below-requires (λ c. search needs) fetch-below-requires-2 (λ c κs. search needs) fetch-below-requires-3 (λ c. search needs) loop2-again close-pivot-requires same-length same-length-2 returns (λ c κs. search needs) reason-of-requires sub-rounds loop-less loop-again)
+    (tie.spec Inv-loop2 μ-loop2 Inv-loop μ-loop (λ c κs. search needs) loop-holds see-clause-requires loop2-holds fetch-below-requires (λ c. search needs) fetch-below-requires-2 (λ c κs. search needs) (λ c κs. search needs) fetch-below-requires-3 (λ c. search needs) loop2-again close-pivot-requires same-length same-length-2 returns (λ c κs. search needs) (λ c κs. search needs) reason-of-requires sub-rounds loop-less loop-again)

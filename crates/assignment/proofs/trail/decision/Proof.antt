@@ -1,4 +1,5 @@
-use mathlib.Core.Path.{_≡_}
+use mathlib.Core.Path.{_≡_, ap, _∙_}
+use Rattle.model.specs.Literal as Literals
 use Rattle.words.specs.Layout.{PHASES}
 use Rattle.assignment.specs.DecideLaws.{decision-false, decision-true}
 use lib.ListN.{getD}
@@ -13,12 +14,14 @@ read : (c : tie.After-fetch-below) → let a = c .before .before .before .args i
 read c = cc
 
 returns : tie.Need-returns
-returns c = decision-false _ _ _ _ (read (c .before)) (c .if1 .taken)
+returns c =
+    let o = c .before in
+    c .negate .ensures ∙ ap Literals.negate (o .of .ensures) ∙ decision-false _ _ _ _ (read (o .before .before)) (o .before .if1 .taken)
 
 returns-2 : tie.Need-returns-2
-returns-2 c = decision-true _ _ _ _ (read (c .before)) (c .if1 .left)
+returns-2 c = c .of2 .ensures ∙ decision-true _ _ _ _ (read (c .before .before)) (c .before .if1 .left)
 
 pub decision-spec : {M : Type 1} → statement M
 decision-spec =
     tie.close
-    (tie.spec (λ c κs. search needs) (λ c κs. search needs) (λ c. search needs) (λ c. search needs) returns (λ c. search needs) returns-2)
+    (tie.spec (λ c κs. search needs) (λ c κs. search needs) (λ c κs. search needs) (λ c κs. search needs) returns (λ c κs. search needs) returns-2)

@@ -9,7 +9,7 @@ add-clause-requires c κs =
     let p1 = c .before .before .before .before in
     let s = c .before .before .before .before .before .before .before .before in
     let a = s .args in
-    one-asked (a .store) (a .t) (a .words .now) (a .scores .now) (a .a) _ (p1 .push-literal .ensures) (s .pre .0) (s .pre .1)
+    one-asked (a .store) (a .t) (a .words .now) (a .scores .now) (a .a .0) _ (p1 .push-literal .ensures) (s .pre .0) (s .pre .1)
 
 returns : tie.Need-returns
 returns c =
@@ -17,7 +17,7 @@ returns c =
     let p1 = c .before .before .before .before .before .before .before .before .before in
     let s = c .before .before .before .before .before .before .before .before .before .before .before .before .before in
     let a = s .args in
-    one-added (a .store) (a .t) (a .words .now) (a .scores .now) (a .a) _ (p1 .push-literal .ensures) _ _ _ (k .add-clause .ensures)
+    one-added (a .store) (a .t) (a .words .now) (a .scores .now) (a .a .0) _ (p1 .push-literal .ensures) _ _ _ (k .add-clause .ensures)
 
 pub add-one-spec : {M : Type 1} → statement M
 add-one-spec =

@@ -11,7 +11,7 @@ add-clause-requires c κs =
     let p1 = c .before .before .before .before .before .before .before .before .before .before .before .before in
     let s = c .before .before .before .before .before .before .before .before .before .before .before .before .before .before .before .before in
     let a = s .args in
-    three-asked (a .store) (a .t) (a .words .now) (a .scores .now) (a .a) _ (p1 .push-literal .ensures) (a .b) _ (p2 .push-literal2 .ensures) (a .c) _ (p3 .push-literal3 .ensures) (s .pre .0) (s .pre .1) (s .pre .2) (s .pre .3)
+    three-asked (a .store) (a .t) (a .words .now) (a .scores .now) (a .a .0) _ (p1 .push-literal .ensures) (a .b .0) _ (p2 .push-literal2 .ensures) (a .c .0) _ (p3 .push-literal3 .ensures) (s .pre .0) (s .pre .1) (s .pre .2) (s .pre .3)
 
 returns : tie.Need-returns
 returns c =
@@ -21,7 +21,7 @@ returns c =
     let p1 = c .before .before .before .before .before .before .before .before .before .before .before .before .before .before .before .before .before in
     let s = c .before .before .before .before .before .before .before .before .before .before .before .before .before .before .before .before .before .before .before .before .before in
     let a = s .args in
-    three-added (a .store) (a .t) (a .words .now) (a .scores .now) (a .a) _ (p1 .push-literal .ensures) (a .b) _ (p2 .push-literal2 .ensures) (a .c) _ (p3 .push-literal3 .ensures) _ _ _ (k .add-clause .ensures)
+    three-added (a .store) (a .t) (a .words .now) (a .scores .now) (a .a .0) _ (p1 .push-literal .ensures) (a .b .0) _ (p2 .push-literal2 .ensures) (a .c .0) _ (p3 .push-literal3 .ensures) _ _ _ (k .add-clause .ensures)
 
 pub add-three-spec : {M : Type 1} → statement M
 add-three-spec =

@@ -10,7 +10,7 @@ add-clause-requires c κs =
     let p1 = c .before .before .before .before .before .before .before .before in
     let s = c .before .before .before .before .before .before .before .before .before .before .before .before in
     let a = s .args in
-    two-asked (a .store) (a .t) (a .words .now) (a .scores .now) (a .a) _ (p1 .push-literal .ensures) (a .b) _ (p2 .push-literal2 .ensures) (s .pre .0) (s .pre .1) (s .pre .2)
+    two-asked (a .store) (a .t) (a .words .now) (a .scores .now) (a .a .0) _ (p1 .push-literal .ensures) (a .b .0) _ (p2 .push-literal2 .ensures) (s .pre .0) (s .pre .1) (s .pre .2)
 
 returns : tie.Need-returns
 returns c =
@@ -19,7 +19,7 @@ returns c =
     let p1 = c .before .before .before .before .before .before .before .before .before .before .before .before .before in
     let s = c .before .before .before .before .before .before .before .before .before .before .before .before .before .before .before .before .before in
     let a = s .args in
-    two-added (a .store) (a .t) (a .words .now) (a .scores .now) (a .a) _ (p1 .push-literal .ensures) (a .b) _ (p2 .push-literal2 .ensures) _ _ _ (k .add-clause .ensures)
+    two-added (a .store) (a .t) (a .words .now) (a .scores .now) (a .a .0) _ (p1 .push-literal .ensures) (a .b .0) _ (p2 .push-literal2 .ensures) _ _ _ (k .add-clause .ensures)
 
 pub add-two-spec : {M : Type 1} → statement M
 add-two-spec =

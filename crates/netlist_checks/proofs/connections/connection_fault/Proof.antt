@@ -23,14 +23,14 @@ loop-holds c = (omega arith, λ s. refl)
 
 -- the node's number is below 1,024
 small : (c : tie.In-loop Inv-loop μ-loop) → c .before .loop .i < 1024
-small c = omega (arith, c .before .before .before .pre .nodes-padded .fits)
+small c = omega (arith, c .before .before .pre .0 .nodes-padded .fits)
 
 returns : tie.Need-returns Inv-loop μ-loop
 unfolding faultOf
-returns c = λ s. let l = c .before .before .before in let d = l .before .before in unconnected s _ _ (d .drivers .ensures) (d .before .pre) _ (l .loop-test .taken) (sym (c .if1 .taken) ∙ c .before .is-undriven .ensures) ∙ l .before .loop .inv .1 s
+returns c = λ s. let l = c .before .before .before in let d = l .before .before in unconnected s _ _ (d .pre .1) (d .pre .0) _ (l .loop-test .taken) (sym (c .if1 .taken) ∙ c .before .is-undriven .ensures) ∙ l .before .loop .inv .1 s
 
 loop-again : tie.Need-loop-again Inv-loop μ-loop
-loop-again c = let l = c .before .before .before in let d = l .before .before in (omega arith, λ s. connected s _ _ (d .drivers .ensures) (d .before .pre) _ (l .loop-test .taken) (sym (c .if1 .left) ∙ c .before .is-undriven .ensures) ∙ l .before .loop .inv .1 s)
+loop-again c = let l = c .before .before .before in let d = l .before .before in (omega arith, λ s. connected s _ _ (d .pre .1) (d .pre .0) _ (l .loop-test .taken) (sym (c .if1 .left) ∙ c .before .is-undriven .ensures) ∙ l .before .loop .inv .1 s)
 
 returns-2 : tie.Need-returns-2 Inv-loop μ-loop
 unfolding faultOf
@@ -39,4 +39,4 @@ returns-2 c = λ s. all-connected s _ _ (c .loop-test .left) ∙ c .before .loop
 pub connection-fault-spec : {M : Type 1} → statement M
 connection-fault-spec =
     tie.close
-    (tie.spec Inv-loop μ-loop (λ c κs. search needs) loop-holds (λ c. omega (arith, small c)) (λ c. omega (arith, small c)) (λ c. omega (arith, small (c .before))) (λ c. omega (arith, small (c .before))) (λ c κs. search needs) (λ c. omega (arith, small (c .before .before .before))) returns (λ c. omega (arith, small (c .before .before .before))) (λ c. search needs) loop-again returns-2)
+    (tie.spec Inv-loop μ-loop loop-holds (λ c. omega (arith, small c)) (λ c. omega (arith, small c)) (λ c. omega (arith, small (c .before))) (λ c. omega (arith, small (c .before))) (λ c κs. search needs) (λ c. omega (arith, small (c .before .before .before))) returns (λ c. omega (arith, small (c .before .before .before))) (λ c. search needs) loop-again returns-2)

@@ -14,4 +14,4 @@ unfolding afterRegisters
 returns-2 c = λ s. goes-on _ _ _ (c .before .before .before .connection-fault .ensures s) (c .before .enum-told2 .given .1) _ (c .after-connections .ensures s)
 
 pub after-registers-spec : {M : Type 1} → statement M
-after-registers-spec = tie.close (tie.spec (λ c κs. search needs) (λ c. search needs) (λ c. search needs) (λ c κs. search needs) returns returns-2)
+after-registers-spec = tie.close (tie.spec (λ c κs. search needs) (λ c κs. search needs) (λ c. search needs) (λ c. search needs) (λ c κs. search needs) returns returns-2)

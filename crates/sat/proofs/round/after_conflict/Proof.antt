@@ -15,7 +15,7 @@ analyze-requires c κs =
 
 returns-2 : tie.Need-returns-2
 returns-2 c =
-    let a = c .before .before .before .before .before .before .before in
+    let a = c .before .before .before .before .before .before .before .before in
     let i = a .before .before .before .before in
     let s = i .before .before .before .before .before in
     conflict-over _ _ _ _ _ (s .pre) (i .if1 .left) _ _ _ (a .analyze .ensures) (c .if2 .taken)
@@ -24,7 +24,7 @@ assert-learned-requires : tie.Need-assert-learned-requires
 assert-learned-requires c κs =
     let k = c .before .before .before in
     let d = k .before in
-    let a = d .before .before .before .before .before .before in
+    let a = d .before .before .before .before .before .before .before in
     let i = a .before .before .before .before in
     let s = i .before .before .before .before .before in
     rw (c .negate .ensures) (assert-asked _ _ _ _ _ (s .pre) (i .if1 .left) _ _ _ (a .analyze .ensures) (a .analyze .kept .0) (k .if2 .left) _ (d .decay-activity .ensures))
@@ -34,7 +34,7 @@ returns-3 c =
     let n = c .before .before .before .before .before in
     let k = n .before .before .before in
     let d = k .before in
-    let a = d .before .before .before .before .before .before in
+    let a = d .before .before .before .before .before .before .before in
     let i = a .before .before .before .before in
     let s = i .before .before .before .before .before in
     conflict-learns _ _ _ _ _ (s .pre) (i .if1 .left) _ _ _ (a .analyze .ensures) (a .analyze .kept .0) (k .if2 .left) _ (d .decay-activity .ensures) _ _ _ (rw (n .negate .ensures) at (c .before .before .before .before .assert-learned .ensures))

@@ -18,8 +18,8 @@ returns c =
     let b = c .before .before in
     let s = b .before .before .before .before in
     let a = s .args in
-    let e : b .push-back .last .0 ≡ pushedWords (a .words .now) (a .f) (a .d .cell) = b .push-back .ensures .0 ∙ ap (λ (l : ℕ). pushedWords (a .words .now) l (a .d .cell)) (b .before .wide .ensures) in
-    (rw e (kept-visits (a .store) (a .t) (a .words .now) (a .d) (s .pre) (a .f)), λ v. rw e (kept (a .store) (a .t) (a .words .now) (a .d) (s .pre) (a .f) v))
+    let e : b .push-back .last .0 ≡ pushedWords (a .words .now) (a .f .0) (a .d .cell) = b .push-back .ensures .0 ∙ ap (λ (l : ℕ). pushedWords (a .words .now) l (a .d .cell)) (b .before .wide .ensures) in
+    (rw e (kept-visits (a .store) (a .t) (a .words .now) (a .d) (s .pre) (a .f .0)), λ v. rw e (kept (a .store) (a .t) (a .words .now) (a .d) (s .pre) (a .f .0) v))
 
 pub keep-spec : {M : Type 1} → statement M
 keep-spec = tie.close (tie.spec (λ c κs. search needs) push-back-requires (λ c. search needs) returns)

@@ -19,7 +19,7 @@ returns c =
     let n = k .before .before in
     let s = n .before .before .before .before in
     let a = s .args in
-    round-done (a .store) (a .t) (a .words .now) (n .negate .result) (k .take-watches .result) _ (k .take-watches .ensures) (s .pre .0 .formed .ready) (s .pre .1) (n .negate .ensures ∙ ap Literals.negate (n .before .fetch .ensures)) (v .visit-pending .result) _ (v .visit-pending .ensures .0) (v .visit-pending .ensures .1)
+    round-done (a .store) (a .t) (a .words .now) (n .negate .result .0) (k .take-watches .result) _ (k .take-watches .ensures) (s .pre .0 .formed .ready) (s .pre .1) (n .negate .ensures ∙ ap Literals.negate (n .before .fetch .ensures)) (v .visit-pending .result) _ (v .visit-pending .ensures .0) (v .visit-pending .ensures .1)
 
 pub propagate-round-spec : {M : Type 1} → statement M
 propagate-round-spec =

@@ -7,7 +7,7 @@ use Rattle.watches.proofs.propagate.restore.Statement.{statement}
 use Rattle.watches.proofs.propagate.restore.Tie as tie
 
 abbrev Inv-loop : tie.InvT-loop
-Inv-loop words₀ store t f d₀ words d = (length words ≡ length words₀) × Restoring store t f words₀ d₀ words d
+Inv-loop words₀ store t f d₀ words d = (length words ≡ length words₀) × Restoring store t (f .0) words₀ d₀ words d
 
 abbrev μ-loop : tie.MeasureT-loop
 μ-loop words₀ store t f d₀ words d = d .left
@@ -16,7 +16,7 @@ loop-holds : tie.Need-loop-holds Inv-loop μ-loop
 loop-holds c =
     let s = c .before in
     let a = s .args in
-    (search needs, restore-start (a .store) (a .t) (a .f) (a .words .now) (a .first) (s .pre))
+    (search needs, restore-start (a .store) (a .t) (a .f .0) (a .words .now) (a .first) (s .pre))
 
 rest-requires : tie.Need-rest-requires Inv-loop μ-loop
 rest-requires c κs =
@@ -28,7 +28,7 @@ keep-requires c κs =
     let p = c .before .before .before .before .before in
     let l = p .loop in
     let a = p .before .before .args in
-    restore-visiting (a .store) (a .t) (a .f) (a .words .now) (a .first) (l .words) (l .d) (l .inv .1) (c .before .before .before .if1 .taken)
+    restore-visiting (a .store) (a .t) (a .f .0) (a .words .now) (a .first) (l .words) (l .d) (l .inv .1) (c .before .before .before .if1 .taken)
 
 loop-again : tie.Need-loop-again Inv-loop μ-loop
 loop-again c =
@@ -37,14 +37,14 @@ loop-again c =
     let p = r .before .before .before .before in
     let l = p .loop in
     let a = p .before .before .args in
-    (search needs, restore-more (a .store) (a .t) (a .f) (a .words .now) (a .first) (l .words) (l .d) (l .inv .1) (r .before .before .if1 .taken) _ (k .keep .ensures .0) (k .keep .ensures .1) (r .rest .result) (r .rest .ensures .0) (r .rest .ensures .1))
+    (search needs, restore-more (a .store) (a .t) (a .f .0) (a .words .now) (a .first) (l .words) (l .d) (l .inv .1) (r .before .before .if1 .taken) _ (k .keep .ensures .0) (k .keep .ensures .1) (r .rest .result) (r .rest .ensures .0) (r .rest .ensures .1))
 
 returns : tie.Need-returns Inv-loop μ-loop
 returns c =
     let p = c .before .before in
     let l = p .loop in
     let a = p .before .before .args in
-    restore-end (a .store) (a .t) (a .f) (a .words .now) (a .first) (l .words) (l .d) (l .inv .1) (c .if1 .left)
+    restore-end (a .store) (a .t) (a .f .0) (a .words .now) (a .first) (l .words) (l .d) (l .inv .1) (c .if1 .left)
 
 pub restore-spec : {M : Type 1} → statement M
 restore-spec =

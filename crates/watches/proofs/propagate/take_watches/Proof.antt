@@ -14,8 +14,8 @@ returns : tie.Need-returns
 returns c =
     let s = c .before .before .before .before in
     let a = s .args in
-    let h : a .t .variables * 2 ≤ a .f = omega (arith, c .if1 .taken, c .before .before .wide .ensures) in
-    take-none (a .store) (a .t) (a .words .now) (a .f) (s .pre) h
+    let h : a .t .variables * 2 ≤ a .f .0 = omega (arith, c .if1 .taken, c .before .before .wide .ensures) in
+    take-none (a .store) (a .t) (a .words .now) (a .f .0) (s .pre) h
 
 returns-2 : tie.Need-returns-2
 returns-2 c =
@@ -25,9 +25,9 @@ returns-2 c =
     let l = i .before .before in
     let s = l .before .before in
     let a = s .args in
-    let h : a .f < a .t .variables * 2 = omega (arith, i .if1 .left, l .wide .ensures) in
-    let e : k .stash .last .0 ≡ stored WATCH-COUNTS (a .words .now) (a .f) 0 = k .stash .ensures .0 ∙ ap (λ (x : ℕ). stored WATCH-COUNTS (a .words .now) x 0) (l .wide .ensures) in
-    take-some (a .store) (a .t) (a .words .now) (a .f) (s .pre) h _ e _ (n .before .before .before .fetch .ensures ∙ ap (λ (x : ℕ). getD (region WATCH-HEADS (a .words .now)) x 0) (l .wide .ensures)) (n .wide2 .ensures ∙ n .before .fetch2 .ensures ∙ ap (λ (x : ℕ). getD (region WATCH-COUNTS (a .words .now)) x 0) (l .wide .ensures))
+    let h : a .f .0 < a .t .variables * 2 = omega (arith, i .if1 .left, l .wide .ensures) in
+    let e : k .stash .last .0 ≡ stored WATCH-COUNTS (a .words .now) (a .f .0) 0 = k .stash .ensures .0 ∙ ap (λ (x : ℕ). stored WATCH-COUNTS (a .words .now) x 0) (l .wide .ensures) in
+    take-some (a .store) (a .t) (a .words .now) (a .f .0) (s .pre) h _ e _ (n .before .before .before .fetch .ensures ∙ ap (λ (x : ℕ). getD (region WATCH-HEADS (a .words .now)) x 0) (l .wide .ensures)) (n .wide2 .ensures ∙ n .before .fetch2 .ensures ∙ ap (λ (x : ℕ). getD (region WATCH-COUNTS (a .words .now)) x 0) (l .wide .ensures))
 
 pub take-watches-spec : {M : Type 1} → statement M
 take-watches-spec =

@@ -7,7 +7,7 @@ use Rattle.watches.proofs.propagate.visit_pending.Statement.{statement}
 use Rattle.watches.proofs.propagate.visit_pending.Tie as tie
 
 abbrev Inv-loop : tie.InvT-loop
-Inv-loop words₀ store f t₀ d₀ words t d = (length words ≡ length words₀) × Pends store f t₀ words₀ d₀ t words d
+Inv-loop words₀ store f t₀ d₀ words t d = (length words ≡ length words₀) × Pends store (f .0) t₀ words₀ d₀ t words d
 
 abbrev μ-loop : tie.MeasureT-loop
 μ-loop words₀ store f t₀ d₀ words t d = d .left
@@ -16,7 +16,7 @@ loop-holds : tie.Need-loop-holds Inv-loop μ-loop
 loop-holds c =
     let s = c .before in
     let a = s .args in
-    (search needs, pends-start (a .store) (a .f) (a .start) (a .words .now) (a .first) (s .pre))
+    (search needs, pends-start (a .store) (a .f .0) (a .start) (a .words .now) (a .first) (s .pre))
 
 rest-requires : tie.Need-rest-requires Inv-loop μ-loop
 rest-requires c κs =
@@ -28,7 +28,7 @@ visit-requires c κs =
     let p = c .before .before .before .before .before in
     let l = p .loop in
     let a = p .before .before .args in
-    pends-visiting (a .store) (a .f) (a .start) (a .words .now) (a .first) (l .t) (l .words) (l .d) (l .inv .1) (c .before .before .before .if1 .taken)
+    pends-visiting (a .store) (a .f .0) (a .start) (a .words .now) (a .first) (l .t) (l .words) (l .d) (l .inv .1) (c .before .before .before .if1 .taken)
 
 loop-again : tie.Need-loop-again Inv-loop μ-loop
 loop-again c =
@@ -37,7 +37,7 @@ loop-again c =
     let p = r .before .before .before .before in
     let l = p .loop in
     let a = p .before .before .args in
-    (search needs, pends-more (a .store) (a .f) (a .start) (a .words .now) (a .first) (l .t) (l .words) (l .d) (l .inv .1) (r .before .before .if1 .taken) _ _ (v .visit .ensures .0) (v .visit .ensures .1) (r .rest .result) (r .rest .ensures .0) (r .rest .ensures .1) _ (c .before .u .given .1))
+    (search needs, pends-more (a .store) (a .f .0) (a .start) (a .words .now) (a .first) (l .t) (l .words) (l .d) (l .inv .1) (r .before .before .if1 .taken) _ _ (v .visit .ensures .0) (v .visit .ensures .1) (r .rest .result) (r .rest .ensures .0) (r .rest .ensures .1) _ (c .before .u .given .1))
 
 returns : tie.Need-returns Inv-loop μ-loop
 returns c =
@@ -46,7 +46,7 @@ returns c =
     let p = r .before .before .before .before in
     let l = p .loop in
     let a = p .before .before .args in
-    pends-complete (a .store) (a .f) (a .start) (a .words .now) (a .first) (l .t) (l .words) (l .d) (l .inv .1) (r .before .before .if1 .taken) _ _ (v .visit .ensures .0) (v .visit .ensures .1) (r .rest .result) (r .rest .ensures .0) (r .rest .ensures .1) _ (c .before .u2 .given .1)
+    pends-complete (a .store) (a .f .0) (a .start) (a .words .now) (a .first) (l .t) (l .words) (l .d) (l .inv .1) (r .before .before .if1 .taken) _ _ (v .visit .ensures .0) (v .visit .ensures .1) (r .rest .result) (r .rest .ensures .0) (r .rest .ensures .1) _ (c .before .u2 .given .1)
 
 restore-requires : tie.Need-restore-requires Inv-loop μ-loop
 restore-requires c κs =
@@ -55,7 +55,7 @@ restore-requires c κs =
     let p = r .before .before .before .before in
     let l = p .loop in
     let a = p .before .before .args in
-    conflict-sound (a .store) (a .f) (a .start) (a .words .now) (a .first) (l .t) (l .words) (l .d) (l .inv .1) (r .before .before .if1 .taken) _ _ (v .visit .ensures .0) (v .visit .ensures .1) (r .rest .result) (r .rest .ensures .0) (r .rest .ensures .1) _ _ (c .before .before .id .given .1)
+    conflict-sound (a .store) (a .f .0) (a .start) (a .words .now) (a .first) (l .t) (l .words) (l .d) (l .inv .1) (r .before .before .if1 .taken) _ _ (v .visit .ensures .0) (v .visit .ensures .1) (r .rest .result) (r .rest .ensures .0) (r .rest .ensures .1) _ _ (c .before .before .id .given .1)
 
 returns-2 : tie.Need-returns-2 Inv-loop μ-loop
 returns-2 c =
@@ -65,14 +65,14 @@ returns-2 c =
     let p = r .before .before .before .before in
     let l = p .loop in
     let a = p .before .before .args in
-    pends-conflict (a .store) (a .f) (a .start) (a .words .now) (a .first) (l .t) (l .words) (l .d) (l .inv .1) (r .before .before .if1 .taken) _ _ (v .visit .ensures .0) (v .visit .ensures .1) (r .rest .result) (r .rest .ensures .0) (r .rest .ensures .1) _ _ (z .before .before .before .id .given .1) _ (z .restore .ensures .0) (z .restore .ensures .1)
+    pends-conflict (a .store) (a .f .0) (a .start) (a .words .now) (a .first) (l .t) (l .words) (l .d) (l .inv .1) (r .before .before .if1 .taken) _ _ (v .visit .ensures .0) (v .visit .ensures .1) (r .rest .result) (r .rest .ensures .0) (r .rest .ensures .1) _ _ (z .before .before .before .id .given .1) _ (z .restore .ensures .0) (z .restore .ensures .1)
 
 returns-3 : tie.Need-returns-3 Inv-loop μ-loop
 returns-3 c =
     let p = c .before .before in
     let l = p .loop in
     let a = p .before .before .args in
-    pends-end (a .store) (a .f) (a .start) (a .words .now) (a .first) (l .t) (l .words) (l .d) (l .inv .1) (c .if1 .left)
+    pends-end (a .store) (a .f .0) (a .start) (a .words .now) (a .first) (l .t) (l .words) (l .d) (l .inv .1) (c .if1 .left)
 
 pub visit-pending-spec : {M : Type 1} → statement M
 visit-pending-spec =

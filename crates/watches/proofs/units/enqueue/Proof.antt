@@ -9,21 +9,21 @@ assign-requires c κs =
     let v = c .before .before .before in
     let s = v .before .before .before in
     let a = s .args in
-    (s .pre .0 .formed .ready, unit-room (a .store) (a .t) (a .words .now) (a .l) (a .reason) (s .pre .0) (v .value .ensures) (c .before .enum-told3 .given .1) (s .pre .1))
+    (s .pre .0 .formed .ready, unit-room (a .store) (a .t) (a .words .now) (a .l .0) (a .reason) (s .pre .0) (v .value .ensures) (c .before .enum-told3 .given .1) (s .pre .1))
 
 returns : tie.Need-returns
 returns c =
     let v = c .before .before in
     let s = v .before .before .before in
     let a = s .args in
-    unit-true (a .store) (a .t) (a .words .now) (a .l) (a .reason) (s .pre .0) (v .value .ensures) (c .enum-told .given .1)
+    unit-true (a .store) (a .t) (a .words .now) (a .l .0) (a .reason) (s .pre .0) (v .value .ensures) (c .enum-told .given .1)
 
 returns-2 : tie.Need-returns-2
 returns-2 c =
     let v = c .before .before in
     let s = v .before .before .before in
     let a = s .args in
-    unit-false (a .store) (a .t) (a .words .now) (a .l) (a .reason) (s .pre .0) (v .value .ensures) (c .enum-told2 .given .1)
+    unit-false (a .store) (a .t) (a .words .now) (a .l .0) (a .reason) (s .pre .0) (v .value .ensures) (c .enum-told2 .given .1)
 
 returns-3 : tie.Need-returns-3
 returns-3 c =
@@ -31,7 +31,7 @@ returns-3 c =
     let v = n .before .before .before .before in
     let s = v .before .before .before in
     let a = s .args in
-    unit-assigned (a .store) (a .t) (a .words .now) (a .l) (a .reason) (s .pre .0) (v .value .ensures) (n .before .before .enum-told3 .given .1) (s .pre .1) _ _ (n .assign .ensures)
+    unit-assigned (a .store) (a .t) (a .words .now) (a .l .0) (a .reason) (s .pre .0) (v .value .ensures) (n .before .before .enum-told3 .given .1) (s .pre .1) _ _ (n .assign .ensures)
 
 pub enqueue-spec : {M : Type 1} → statement M
 enqueue-spec =

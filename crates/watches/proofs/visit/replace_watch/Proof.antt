@@ -28,10 +28,10 @@ returns c =
     let s = r .before .before .before in
     let a = s .args in
     let p : k .before .before .wide .result * 2 + k .before .wide2 .result ≡ half (a .d .cell) * 2 + a .slot = cc in
-    let e : b .push-back .last .0 ≡ pushedWords (stored WATCHED (a .words .now) (half (a .d .cell) * 2 + a .slot) (a .i)) (r .literal-at .result) (a .d .cell) =
+    let e : b .push-back .last .0 ≡ pushedWords (stored WATCHED (a .words .now) (half (a .d .cell) * 2 + a .slot) (a .i)) (r .literal-at .result .0) (a .d .cell) =
     b .push-back .ensures .0 ∙ ap (λ (l : ℕ). pushedWords (k .stash .last .0) l (a .d .cell)) (b .before .wide3 .ensures)
-    ∙ ap (λ (x : List ℕ). pushedWords x (r .literal-at .result) (a .d .cell)) (k .stash .ensures .0 ∙ ap (λ (j : ℕ). stored WATCHED (a .words .now) j (a .i)) p) in
-    rw e (replaced (a .store) (a .t) (a .words .now) (a .d) (s .pre .0) (a .c) (a .slot) (a .i) (r .literal-at .result) (s .pre .1) (s .pre .2) (r .literal-at .ensures))
+    ∙ ap (λ (x : List ℕ). pushedWords x (r .literal-at .result .0) (a .d .cell)) (k .stash .ensures .0 ∙ ap (λ (j : ℕ). stored WATCHED (a .words .now) j (a .i)) p) in
+    rw e (replaced (a .store) (a .t) (a .words .now) (a .d) (s .pre .0) (a .c) (a .slot) (a .i) (r .literal-at .result .0) (s .pre .1) (s .pre .2) (r .literal-at .ensures))
 
 pub replace-watch-spec : {M : Type 1} → statement M
 replace-watch-spec =

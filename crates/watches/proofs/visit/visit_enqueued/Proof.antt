@@ -19,9 +19,9 @@ assign-requires c κs =
     let b = v .before .before .before .before in
     let s = b .before .before .before .before in
     let a = s .args in
-    let e : b .push-back .last .0 ≡ pushedWords (a .words .now) (a .f) (a .d .cell) = b .push-back .ensures .0 ∙ ap (λ (l : ℕ). pushedWords (a .words .now) l (a .d .cell)) (b .before .wide .ensures) in (
-      rw e (kept-visits (a .store) (a .t) (a .words .now) (a .d) (s .pre .0) (a .f) .step .sound .formed .ready),
-      assign-room (a .store) (a .t) (a .words .now) (a .d) (s .pre .0) (a .f) (a .other) _ e (v .value .ensures) (c .before .enum-told3 .given .1) (s .pre .1),
+    let e : b .push-back .last .0 ≡ pushedWords (a .words .now) (a .f .0) (a .d .cell) = b .push-back .ensures .0 ∙ ap (λ (l : ℕ). pushedWords (a .words .now) l (a .d .cell)) (b .before .wide .ensures) in (
+      rw e (kept-visits (a .store) (a .t) (a .words .now) (a .d) (s .pre .0) (a .f .0) .step .sound .formed .ready),
+      assign-room (a .store) (a .t) (a .words .now) (a .d) (s .pre .0) (a .f .0) (a .other .0) _ e (v .value .ensures) (c .before .enum-told3 .given .1) (s .pre .1),
     )
 
 returns : tie.Need-returns
@@ -30,8 +30,8 @@ returns c =
     let b = v .before .before .before .before in
     let s = b .before .before .before .before in
     let a = s .args in
-    let e : b .push-back .last .0 ≡ pushedWords (a .words .now) (a .f) (a .d .cell) = b .push-back .ensures .0 ∙ ap (λ (l : ℕ). pushedWords (a .words .now) l (a .d .cell)) (b .before .wide .ensures) in
-    enqueued-true (a .store) (a .t) (a .words .now) (a .d) (s .pre .0) (a .f) (a .other) _ e (v .value .ensures) (c .enum-told .given .1)
+    let e : b .push-back .last .0 ≡ pushedWords (a .words .now) (a .f .0) (a .d .cell) = b .push-back .ensures .0 ∙ ap (λ (l : ℕ). pushedWords (a .words .now) l (a .d .cell)) (b .before .wide .ensures) in
+    enqueued-true (a .store) (a .t) (a .words .now) (a .d) (s .pre .0) (a .f .0) (a .other .0) _ e (v .value .ensures) (c .enum-told .given .1)
 
 returns-2 : tie.Need-returns-2
 returns-2 c =
@@ -39,8 +39,8 @@ returns-2 c =
     let b = v .before .before .before .before in
     let s = b .before .before .before .before in
     let a = s .args in
-    let e : b .push-back .last .0 ≡ pushedWords (a .words .now) (a .f) (a .d .cell) = b .push-back .ensures .0 ∙ ap (λ (l : ℕ). pushedWords (a .words .now) l (a .d .cell)) (b .before .wide .ensures) in
-    enqueued-false (a .store) (a .t) (a .words .now) (a .d) (s .pre .0) (a .f) (a .other) _ e (v .value .ensures) (c .before .enum-told2 .given .1) (c .wide2 .ensures)
+    let e : b .push-back .last .0 ≡ pushedWords (a .words .now) (a .f .0) (a .d .cell) = b .push-back .ensures .0 ∙ ap (λ (l : ℕ). pushedWords (a .words .now) l (a .d .cell)) (b .before .wide .ensures) in
+    enqueued-false (a .store) (a .t) (a .words .now) (a .d) (s .pre .0) (a .f .0) (a .other .0) _ e (v .value .ensures) (c .before .enum-told2 .given .1) (c .wide2 .ensures)
 
 returns-3 : tie.Need-returns-3
 returns-3 c =
@@ -49,8 +49,8 @@ returns-3 c =
     let b = v .before .before .before .before in
     let s = b .before .before .before .before in
     let a = s .args in
-    let e : b .push-back .last .0 ≡ pushedWords (a .words .now) (a .f) (a .d .cell) = b .push-back .ensures .0 ∙ ap (λ (l : ℕ). pushedWords (a .words .now) l (a .d .cell)) (b .before .wide .ensures) in
-    enqueued-assigned (a .store) (a .t) (a .words .now) (a .d) (s .pre .0) (a .f) (a .other) _ e (v .value .ensures) (n .before .before .enum-told3 .given .1) (s .pre .1) _ _ (n .assign .ensures)
+    let e : b .push-back .last .0 ≡ pushedWords (a .words .now) (a .f .0) (a .d .cell) = b .push-back .ensures .0 ∙ ap (λ (l : ℕ). pushedWords (a .words .now) l (a .d .cell)) (b .before .wide .ensures) in
+    enqueued-assigned (a .store) (a .t) (a .words .now) (a .d) (s .pre .0) (a .f .0) (a .other .0) _ e (v .value .ensures) (n .before .before .enum-told3 .given .1) (s .pre .1) _ _ (n .assign .ensures)
 
 pub visit-enqueued-spec : {M : Type 1} → statement M
 visit-enqueued-spec =

@@ -20,8 +20,8 @@ returns c =
     let i = b .before .before .before in
     let s = i .before .before .before .before in
     let a = s .args in
-    let e : b .push-back .last .0 ≡ pushedWords (a .words .now) (a .f) (a .d .cell) = b .push-back .ensures .0 ∙ ap (λ (l : ℕ). pushedWords (a .words .now) l (a .d .cell)) (b .before .wide .ensures) in
-    other-true (a .store) (a .t) (a .words .now) (a .d) (s .pre .0 .0) (a .f) (a .c) (a .slot) (a .other) (sym (i .if1 .taken) ∙ i .before .is-true .ensures) _ e
+    let e : b .push-back .last .0 ≡ pushedWords (a .words .now) (a .f .0) (a .d .cell) = b .push-back .ensures .0 ∙ ap (λ (l : ℕ). pushedWords (a .words .now) l (a .d .cell)) (b .before .wide .ensures) in
+    other-true (a .store) (a .t) (a .words .now) (a .d) (s .pre .0 .0) (a .f .0) (a .c) (a .slot) (a .other .0) (sym (i .if1 .taken) ∙ i .before .is-true .ensures) _ e
 
 returns-2 : tie.Need-returns-2
 returns-2 c =
@@ -31,7 +31,7 @@ returns-2 c =
     let s = i .before .before .before .before in
     let a = s .args in (
       b .replace-watch .ensures .0,
-      λ v. other-replaced (a .store) (a .t) (a .words .now) (a .d) (s .pre .0 .0) (a .f) (a .c) (a .slot) (a .other) (sym (i .if1 .left) ∙ i .before .is-true .ensures) _ (sym (ap placeOf (b .before .before .before .i .given .1)) ∙ r .replacement .ensures) v _ (b .replace-watch .ensures .1 v),
+      λ v. other-replaced (a .store) (a .t) (a .words .now) (a .d) (s .pre .0 .0) (a .f .0) (a .c) (a .slot) (a .other .0) (sym (i .if1 .left) ∙ i .before .is-true .ensures) _ (sym (ap placeOf (b .before .before .before .i .given .1)) ∙ r .replacement .ensures) v _ (b .replace-watch .ensures .1 v),
     )
 
 returns-3 : tie.Need-returns-3
@@ -42,7 +42,7 @@ returns-3 c =
     let s = i .before .before .before .before in
     let a = s .args in (
       b .visit-enqueued .ensures .0,
-      λ v. other-enqueued (a .store) (a .t) (a .words .now) (a .d) (s .pre .0 .0) (a .f) (a .c) (a .slot) (a .other) (sym (i .if1 .left) ∙ i .before .is-true .ensures) (sym (ap placeOf (b .before .before .enum-told .given .1)) ∙ r .replacement .ensures) (s .pre .1) v _ (b .visit-enqueued .ensures .1 v),
+      λ v. other-enqueued (a .store) (a .t) (a .words .now) (a .d) (s .pre .0 .0) (a .f .0) (a .c) (a .slot) (a .other .0) (sym (i .if1 .left) ∙ i .before .is-true .ensures) (sym (ap placeOf (b .before .before .enum-told .given .1)) ∙ r .replacement .ensures) (s .pre .1) v _ (b .visit-enqueued .ensures .1 v),
     )
 
 pub visit-other-spec : {M : Type 1} → statement M

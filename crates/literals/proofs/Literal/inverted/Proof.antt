@@ -1,11 +1,11 @@
--- `aig::Literal::inverted` meets its contract. Assumes nothing.
+-- `literals::Literal::inverted` meets its contract. Assumes nothing.
 use mathlib.Core.Path.{ap}
 use Prim.Native.Nat.{ℕ}
 use lib.Dec.{eqb}
 use lib.Bits.{and-mask}
 use Rattle.model.specs.Literal.{inverted}
-use Rattle.aig.proofs.Literal.inverted.Statement.{statement}
-use Rattle.aig.proofs.Literal.inverted.Tie as tie
+use Rattle.literals.proofs.Literal.inverted.Statement.{statement}
+use Rattle.literals.proofs.Literal.inverted.Tie as tie
 
 returns : tie.Need-returns
 unfolding inverted

@@ -1,4 +1,4 @@
--- `aig::Literal::negate` meets its contract. Assumes nothing.
+-- `literals::Literal::negate` meets its contract. Assumes nothing.
 use mathlib.Core.Path.{_≡_, refl}
 use mathlib.Core.Bool.{Bool, true, false, cond}
 use Prim.Native.Nat.{ℕ, _+_, _-_, _*_, _%_}
@@ -7,8 +7,8 @@ use lib.Dec.{eqb}
 use lib.Bits.{and-mask, xor-add-and}
 use borrow.Author.Tests.{eqb-true, eqb-false}
 use Rattle.model.specs.Literal.{inverted, negate}
-use Rattle.aig.proofs.Literal.negate.Statement.{statement}
-use Rattle.aig.proofs.Literal.negate.Tie as tie
+use Rattle.literals.proofs.Literal.negate.Statement.{statement}
+use Rattle.literals.proofs.Literal.negate.Tie as tie
 
 flipped : (x : ℕ) → x + 1 - 2 * (x % 2) ≡ negate x
 unfolding negate inverted

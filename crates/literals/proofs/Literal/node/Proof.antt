@@ -1,8 +1,8 @@
--- `aig::Literal::node` meets its contract. Assumes nothing.
+-- `literals::Literal::node` meets its contract. Assumes nothing.
 use mathlib.Core.Path.{refl}
 use Rattle.model.specs.Literal.{node}
-use Rattle.aig.proofs.Literal.node.Statement.{statement}
-use Rattle.aig.proofs.Literal.node.Tie as tie
+use Rattle.literals.proofs.Literal.node.Statement.{statement}
+use Rattle.literals.proofs.Literal.node.Tie as tie
 
 returns : tie.Need-returns
 unfolding node
