@@ -32,15 +32,15 @@ module _ (xs : List Float) (u : Unsigned xs) where
         higher = λ h.
             by-lt w v
             (λ a. by-lt x w
-                (λ b. lt-lt (score xs x) (score xs w) (score xs v) r q p (g .higher b) (f .higher a))
-                (λ b. le-lt (score xs x) (score xs w) (score xs v) r q p (g .level b) (f .higher a)))
+            (λ b. lt-lt (score xs x) (score xs w) (score xs v) r q p (g .higher b) (f .higher a))
+            (λ b. le-lt (score xs x) (score xs w) (score xs v) r q p (g .level b) (f .higher a)))
             (λ a. lt-le (score xs x) (score xs w) (score xs v) r q p (g .higher (omega arith)) (f .level a));
         level = λ h.
             by-lt w v
             (λ a. lt-once (score xs x) (score xs v) r p (le-lt (score xs x) (score xs w) (score xs v) r q p (g .level (omega arith)) (f .higher a)))
             (λ a. by-lt x w
-                (λ b. lt-once (score xs x) (score xs v) r p (lt-le (score xs x) (score xs w) (score xs v) r q p (g .higher b) (f .level a)))
-                (λ b. le-le (score xs x) (score xs w) (score xs v) r q p (g .level b) (f .level a)));
+            (λ b. lt-once (score xs x) (score xs v) r p (lt-le (score xs x) (score xs w) (score xs v) r q p (g .higher b) (f .level a)))
+            (λ b. le-le (score xs x) (score xs w) (score xs v) r q p (g .level b) (f .level a)));
       }
 
 -- two variables that are ahead of each other are one
@@ -80,8 +80,8 @@ module _ (vs : List Sat.Value) (xs : List Float) where
       let r = g .own (a .0) in
       ahead-one xs v w (f .all w (r .0) (r .1) (r .2) .1) (a .1))
       (λ z. by-lt 0 w
-          (λ p. let o = g .own p in absurd (let q = f .all w (o .0) (o .1) (o .2) .0 in omega arith))
-          (λ y. omega arith))
+      (λ p. let o = g .own p in absurd (let q = f .all w (o .0) (o .1) (o .2) .0 in omega arith))
+      (λ y. omega arith))
 
   module _ (u : Unsigned xs) (lo mid hi v w : ℕ) (a : lo ≤ mid) (b : mid ≤ hi) (f : Leads vs xs lo mid v) (g : Leads vs xs mid hi w) where
     pub join-left : w ≡ 0 → Leads vs xs lo hi v
