@@ -2,6 +2,7 @@
 -- refusals, and the call's numbers and memory
 pub mod Refusals
 pub mod Call
+pub mod Reading
 -- the course of a check, and what its verdict means
 pub mod Course
 pub mod Ending

@@ -1,4 +1,4 @@
--- What is promised of the check and of replay, on one page and with nothing assumed. Every word here is of `model`, or of `Terms`, which adds a few definitions over `model` alone. `checked` is the definition of the check of two records under a caller's options (maximum depth and limit of learned literals), as a refusal or a status and a depth; `check` is the call, to a depth D under the specification's limit 262,144, with every number and every lent byte; `checkDesigns` is the check of two designs, each from its own start bits. Assumes nothing.
+-- What is promised of the check, of replay and of read, on one page and with nothing assumed. Every word here is of `model`, or of `Terms`, which adds a few definitions over `model` alone. `checked` is the definition of the check of two records under a caller's options (maximum depth and limit of learned literals), as a refusal or a status and a depth; `check` is the call, to a depth D under the specification's limit 262,144, with every number and every lent byte; `checkDesigns` is the check of two designs, each from its own start bits. Assumes nothing.
 use Prim.Native.Nat.{ℕ, _≤_, _<_}
 use mathlib.Core.Path.{_≡_}
 use mathlib.Core.Logic.{_≢_, _⊎_, _↔_}
@@ -11,19 +11,20 @@ use Rattle.model.specs.Answers.{Refusal, accepted, Status, Equivalent, NotEquiv
 use Rattle.model.specs.Options.{Options, toDepth}
 use Rattle.model.specs.Names.{Name, memberName, namesOf}
 use Rattle.model.specs.Netlist.{Design, inputs, outputs}
-use Rattle.model.specs.Validate.{validate}
+use Rattle.model.specs.Record.{parsed, parse}
+use Rattle.model.specs.Validate.{validate, read}
 use Rattle.model.specs.Run.{StoredBits, initialBits}
 use Rattle.model.specs.Pair.{Lent, both, readPair, inputsDiffer, outputsDiffer, proofNodes, checkRefusal, replayFault}
 use Rattle.model.specs.Replay.{replays, replay, stepsReplay}
-use Rattle.model.specs.Induction.{Query1, Says, Begun, initially, SameOutputs, Chain, answered, Refuses, Sound, Checked, SwapLaw, ChainLaw, SelfLaw}
+use Rattle.model.specs.Induction.{Query1, Says, Begun, initially, SameOutputs, Chain, answered, Refuses, Sound, Checked, Joined, SwapLaw, ChainLaw, SelfLaw}
 use Rattle.model.specs.Literal.{Literal}
 use Rattle.model.specs.Aig.{Aig, evaluate, aigNodeValues}
 use Rattle.model.specs.Sat.{Solver, scoreZero, model, noModel, gaveUp, outOfFuel, encode, solve}
 use Rattle.model.specs.Equivalence.{Problem, Query, ask}
 use Rattle.model.specs.Equivalence as Search
-use Rattle.model.specs.Check.{problemOf, checkDesigns, acceptedCheck, checkOutcome, lentOf, check, checked}
+use Rattle.model.specs.Check.{problemOf, checkDesigns, acceptedCheck, checkOutcome, checkResult, lentOf, check, checked}
 use Rattle.laws.specs.Search.Limits.{give-up-needed}
-use Rattle.laws.specs.Terms.{Real, Called, TraceLeft, Comparable, checkedDesigns, LargerLimit, Linked, JoinedDesigns, TraceGood, Yes, Settled, answerTotal, literalCount, Reached, GivesUp, QueryOf, Asks, StopsAt}
+use Rattle.laws.specs.Terms.{Within, OfRecord, OfReplay, replayRefusal, RefusedWith, UnusedZero, Called, TraceLeft, CalledEquivalent, Comparable, checkedDesigns, LargerLimit, Linked, JoinedDesigns, TraceGood, Yes, Settled, answerTotal, literalCount, Reached, GivesUp, QueryOf, Asks, StopsAt}
 use Rattle.laws.specs.Induction.Chain.{chain-outputs}
 use Rattle.laws.specs.Induction.Pairs.{comparable}
 use Rattle.laws.specs.Check.Call.{check-refuses, outcome-is, check-refused, check-cleared}
@@ -31,14 +32,15 @@ use Rattle.laws.specs.Check.Self.{designs-self, check-self-depth, check-
 use Rattle.laws.specs.Check.Designs.{designs-sound, designs-said, designs-find, designs-equivalent, designs-trace, designs-swap, designs-chain}
 use Rattle.laws.specs.Check.Records.{check-sound, check-said, check-finds, check-equivalent, check-replays, check-swap, check-chain}
 use Rattle.laws.specs.Check.Ending.{designs-answer, check-answers}
-use Rattle.laws.specs.Check.LargerLimit.{designs-larger, check-larger}
-use Rattle.laws.specs.Check.Refusals.{check-real}
+use Rattle.laws.specs.Check.LargerLimit.{designs-larger, check-larger, result-larger}
+use Rattle.laws.specs.Check.Refusals.{check-within, replay-within}
+use Rattle.laws.specs.Check.Reading.{read-zero, read-answers, gold-refused, gate-refused}
 use Rattle.laws.specs.Replay.{steps-replay}
-use Rattle.laws.specs.Check.Replaying.{replay-rule, inputs-compared, outputs-compared}
+use Rattle.laws.specs.Check.Replaying.{replay-rule, replay-refused-with, replay-zero, inputs-compared, outputs-compared}
 use Rattle.laws.specs.Check.Queries.{query-ends, query-refutes, query-evaluates, query-gives-up, query-total, no-model-no, model-yes, query-size, query-fits}
 use Rattle.laws.specs.Check.GiveUp.{designs-give-up, call-gives-up}
-use Rattle.laws.specs.Check.Numbers.{called, call-checked, trace-left, trace-kept}
-use Rattle.laws.specs.Check.Demand3.{number-zero, call-joins, call-never, call-swap, call-swap-refused, call-self}
+use Rattle.laws.specs.Check.Numbers.{called, call-checked, unused-zero, trace-left, trace-kept}
+use Rattle.laws.specs.Check.Demand3.{number-zero, call-joins, call-joins-back, call-never, calls-join, calls-never, call-swap, call-swap-refused, call-self}
 
 -- ==== P1, demand 1: a pair of records of any content and length comes back with a numbered refusal or a verdict
 
@@ -50,14 +52,30 @@ refused-exactly = check-refuses
 pub else-answered : (a b : List ℕ) (o : Options) (lent : Lent) → checkRefusal a b o lent ≡ none → (status : Status) × (d : ℕ) × (checked a b o lent ≡ answered status d)
 else-answered = check-answers
 
--- every refusal has a number from 1 to 25
-pub refusal-numbered : (a b : List ℕ) (o : Options) (lent : Lent) (r : Refusal) → checkRefusal a b o lent ≡ some r → Real r
-refusal-numbered = check-real
+-- every refusal of a check has a number from 1 to 24: 25 is a replay's alone
+pub refusal-numbered : (a b : List ℕ) (o : Options) (lent : Lent) (r : Refusal) → checkRefusal a b o lent ≡ some r → Within 1 24 r
+refusal-numbered = check-within
 
 -- so the call answers number 0 exactly where no refusal applies
 pub number-zero-exactly : (a b : List ℕ) (D : ℕ) (trace words : List ℕ) (scores : List Float)
     → (check a b D trace words scores .answer .number ≡ 0) ↔ (checkRefusal a b (toDepth D) (lentOf trace words scores) ≡ none)
 number-zero-exactly = number-zero
+
+-- the call read answers number 0 exactly where the bytes are parsed to a design that no check refuses
+pub read-accepts-exactly : (s : List ℕ) → (read s .number ≡ 0) ↔ ((d : Design) × (parse s ≡ parsed d) × (validate d ≡ none))
+read-accepts-exactly = read-zero
+
+-- it answers three zeros, or a number from 1 to 15 on side 0
+pub read-numbered : (s : List ℕ) → (read s ≡ accepted) ⊎ OfRecord (read s)
+read-numbered = read-answers
+
+-- where read refuses gold's record, every check and every replay of the pair is refused with what it answers
+pub gold-refused-first : (a b : List ℕ) → read a .number ≢ 0 → RefusedWith a b (read a)
+gold-refused-first = gold-refused
+
+-- where it accepts gold's record and refuses gate's, they are refused with the number and place that it answers of gate's, on side 1
+pub gate-refused-next : (a b : List ℕ) → read a .number ≡ 0 → read b .number ≢ 0 → RefusedWith a b (record { number = read b .number; side = 1; place = read b .place })
+gate-refused-next = gate-refused
 
 -- a refused call: the refusal's three numbers, the others 0, and every lent buffer as it was
 pub refusal-leaves-memory : (gold gate : List ℕ) (D : ℕ) (trace words : List ℕ) (scores : List Float) (r : Refusal)
@@ -71,6 +89,11 @@ pub refusal-leaves-memory : (gold gate : List ℕ) (D : ℕ) (trace words : List
     }
 refusal-leaves-memory = check-refused
 
+-- an accepted call: side and place are 0, the mismatch unless the status is 1, and the query unless it is 3
+pub unused-numbers-zero : (a b : List ℕ) (D : ℕ) (trace words : List ℕ) (scores : List Float) → checkRefusal a b (toDepth D) (lentOf trace words scores) ≡ none
+    → UnusedZero (check a b D trace words scores .answer)
+unused-numbers-zero = unused-zero
+
 -- an accepted call leaves words and scores zero over their whole length
 pub acceptance-clears-memory : (gold gate : List ℕ) (D : ℕ) (trace words : List ℕ) (scores : List Float)
     → checkRefusal gold gate (toDepth D) (lentOf trace words scores) ≡ none
@@ -78,7 +101,7 @@ pub acceptance-clears-memory : (gold gate : List ℕ) (D : ℕ) (trace words : L
     × (check gold gate D trace words scores .scores ≡ replicate (length scores) scoreZero)
 acceptance-clears-memory = check-cleared
 
--- after status 1 the trace buffer begins with bytes that replay answers with yes at the mismatch answered, and all its other bytes stay
+-- after status 1 the trace buffer begins with bytes that replay answers with yes at the mismatch answered, which is at most the depth answered, and all its other bytes stay
 pub call-leaves-trace : (a b : List ℕ) (D : ℕ) (trace words : List ℕ) (scores : List Float) → checkRefusal a b (toDepth D) (lentOf trace words scores) ≡ none
     → check a b D trace words scores .answer .status ≡ 1 → TraceLeft a b D trace words scores
 call-leaves-trace = trace-left
@@ -181,6 +204,11 @@ pub larger-limit : (o larger : Options) → LargerLimit o larger → (a b : List
     → checked a b larger lent ≡ answered status d
 larger-limit = check-larger
 
+-- nor anything else that the call leaves: mismatch, query, trace, words and scores
+pub larger-limit-result : (o larger : Options) → LargerLimit o larger → (a b : List ℕ) (lent : Lent) (status : Status) (d : ℕ) → checked a b o lent ≡ answered status d → status ≢ GaveUp
+    → (trace words : List ℕ) (scores : List Float) → checkResult (checkOutcome a b larger lent) trace words scores ≡ checkResult (checkOutcome a b o lent) trace words scores
+larger-limit-result = result-larger
+
 -- and a query gives up only where it has to: under any larger limit that settles it, it learns more literals than the limit
 pub gives-up-only-above : (limit larger : ℕ) → limit ≤ larger → (g : Aig) (assumptions : List Literal) (k : ℕ) → solve limit g assumptions ≡ gaveUp k
     → Settled (solve larger g assumptions) → limit < answerTotal (solve larger g assumptions)
@@ -197,10 +225,24 @@ pub equivalent-joins : (a b : List ℕ) (D : ℕ) (trace words : List ℕ) (scor
     → check a b D trace words scores .answer .status ≡ 0 → Checked checked a b
 equivalent-joins = call-joins
 
+-- and the same two named the other way round
+pub equivalent-joins-back : (a b : List ℕ) (D : ℕ) (trace words : List ℕ) (scores : List Float) → check b a D trace words scores .answer .number ≡ 0
+    → check b a D trace words scores .answer .status ≡ 0 → Checked checked a b
+equivalent-joins-back a b = call-joins-back b a
+
 -- a call on any two records of a chain, if it answers number 0, does not answer status 1
 pub chain-never-different : (a b : List ℕ) (D : ℕ) (trace words : List ℕ) (scores : List Float) → check a b D trace words scores .answer .number ≡ 0
     → (l : List (List ℕ)) → Chain (Checked checked) l → List·Memᴰ a l → List·Memᴰ b l → check a b D trace words scores .answer .status ≢ 1
 chain-never-different = call-never
+
+-- a chain of calls that answered number 0 and status 0, each on two neighbours given either way: any two of the list show the same outputs, and no check of them says NotEquivalent
+pub calls-chain-law : (l : List (List ℕ)) → Chain CalledEquivalent l → (a b : List ℕ) → List·Memᴰ a l → List·Memᴰ b l → Joined checked a b
+calls-chain-law = calls-join
+
+-- and no call on them that answers number 0 answers status 1
+pub calls-never-different : (a b : List ℕ) (D : ℕ) (trace words : List ℕ) (scores : List Float) → check a b D trace words scores .answer .number ≡ 0
+    → (l : List (List ℕ)) → Chain CalledEquivalent l → List·Memᴰ a l → List·Memᴰ b l → check a b D trace words scores .answer .status ≢ 1
+calls-never-different = calls-never
 
 -- ==== P6 and P7, demand 3: swapped pairs
 
@@ -236,6 +278,19 @@ pub self-is-equivalent : (a : List ℕ) (D : ℕ) (t w : List ℕ) (s : List Flo
 self-is-equivalent = call-self
 
 -- ==== P9: replay
+
+-- refused exactly where the pair's reading or one of 18 to 22 and 25 refuses, with the first that does and the answer no
+pub replay-refused-exactly : (a b : List ℕ) (cycle : ℕ) (claim : List ℕ) (r : Refusal)
+    → (replayRefusal a b cycle claim ≡ some r) ↔ ((replay a b cycle claim ≡ record { refusal = r; yes = false }) × (r .number ≢ 0))
+replay-refused-exactly = replay-refused-with
+
+-- so it answers number 0 exactly where none of these applies
+pub replay-zero-exactly : (a b : List ℕ) (cycle : ℕ) (claim : List ℕ) → (replay a b cycle claim .refusal .number ≡ 0) ↔ (replayRefusal a b cycle claim ≡ none)
+replay-zero-exactly = replay-zero
+
+-- every refusal of a replay has a number from 1 to 15 or 18 to 22, or 25
+pub replay-numbered : (a b : List ℕ) (cycle : ℕ) (claim : List ℕ) (r : Refusal) → replayRefusal a b cycle claim ≡ some r → OfReplay r
+replay-numbered = replay-within
 
 -- a replay that is not refused says yes exactly where the outputs agree in every earlier cycle and in the claimed one differ in exactly the marked outputs, at least one
 pub replay-says-yes-exactly : (a b : List ℕ) (cycle : ℕ) (claim : List ℕ) (gold gate : Design) → readPair a b ≡ both gold gate → replayFault gold gate cycle claim ≡ none

@@ -4,7 +4,7 @@ use mathlib.Core.Path.{_≡_}
 use mathlib.Core.Logic.{_≢_, _⊎_}
 use mathlib.Core.Bool.{Bool, true, false, xor}
 use mathlib.Core.List.{List, [], _∷_, _++_}
-use mathlib.Core.Option.{none}
+use mathlib.Core.Option.{Option, none, some}
 use lib.ListN.{length, drop}
 use lib.Ieee.{Float}
 use Rattle.model.specs.Answers.{Refusal, accepted, Status, statusNumber, CheckAnswer}
@@ -14,7 +14,7 @@ use Rattle.model.specs.Names.{namesOf}
 use Rattle.model.specs.Netlist.{Design, inputs, outputs, inputCount}
 use Rattle.model.specs.Validate.{validate}
 use Rattle.model.specs.Run.{StoredBits, bitAt, outputsAt, initialBits}
-use Rattle.model.specs.Pair.{traceLength, allBits, both, readPair}
+use Rattle.model.specs.Pair.{traceLength, allBits, replayFault, ReadPair, both, refusedPair, readPair}
 use Rattle.model.specs.Replay.{claimBit, claimInputs, differAt, replays, replay}
 use Rattle.model.specs.Induction.{Query1, Query2, Query3, Query4, Says, Begun, SameOutputs, Verdict, answered}
 use Rattle.model.specs.Literal.{Literal}
@@ -25,16 +25,49 @@ use Rattle.model.specs.Check.{problemOf, checkDesigns, check, verdictSays}
 
 -- ---- refusals, and the numbers of a call
 
--- a refusal with one of the specification's numbers
-pub record Real (r : Refusal) : Type 0 where
+-- a refusal whose number is one of `first` to `last`
+pub record Within (first last : ℕ) (r : Refusal) : Type 0 where
+  pub low : first ≤ r .number
+  pub high : r .number ≤ last
+
+-- a refusal of one record: 1 to 15, on side 0
+pub record OfRecord (r : Refusal) : Type 0 where
   pub low : 1 ≤ r .number
-  pub high : r .number ≤ 25
+  pub high : r .number ≤ 15
+  pub side : r .side ≡ 0
+
+-- a refusal of a replay: 1 to 15, 18 to 22, or 25
+pub data OfReplay (r : Refusal) : Type 0 where
+  of-record : Within 1 15 r → OfReplay r
+  of-pair : Within 18 22 r → OfReplay r
+  of-claim : r .number ≡ 25 → OfReplay r
+
+-- the first refusal of a replay, of two records read
+unfoldable pub replayRefusalOf : ReadPair → ℕ → List ℕ → Option Refusal
+replayRefusalOf (refusedPair r) cycle claim = some r
+replayRefusalOf (both gold gate) cycle claim = replayFault gold gate cycle claim
+
+-- the first refusal of a replay: of the pair's reading, else of 18 to 22 and 25
+unfoldable pub replayRefusal : List ℕ → List ℕ → ℕ → List ℕ → Option Refusal
+replayRefusal gold gate cycle claim = replayRefusalOf (readPair gold gate) cycle claim
+
+-- every check of two records and every replay is refused with these three numbers
+pub record RefusedWith (a b : List ℕ) (r : Refusal) : Type 0 where
+  pub checks : (D : ℕ) (trace words : List ℕ) (scores : List Float) → check a b D trace words scores .answer ≡ record { number = r .number; side = r .side; place = r .place; status = 0; depth = 0; mismatch = 0; query = 0 }
+  pub replays : (cycle : ℕ) (claim : List ℕ) → replay a b cycle claim ≡ record { refusal = r; yes = false }
 
 -- an accepted answer's number, status and depth
 pub record Numbered (c : CheckAnswer) (status : Status) (d : ℕ) : Type 0 where
   pub number : c .number ≡ 0
   pub status-number : c .status ≡ statusNumber status
   pub depth : c .depth ≡ d
+
+-- the numbers that an accepted answer does not use are 0: side and place, the mismatch unless the status is 1, and the query unless it is 3
+pub record UnusedZero (c : CheckAnswer) : Type 0 where
+  pub side : c .side ≡ 0
+  pub place : c .place ≡ 0
+  pub mismatch : c .status ≢ 1 → c .mismatch ≡ 0
+  pub query : c .status ≢ 3 → c .query ≡ 0
 
 -- an accepted call: the designs of both records, and the status and depth that its numbers are; the status is what k-induction says unless it is GaveUp
 pub record Called (a b : List ℕ) (D : ℕ) (trace words : List ℕ) (scores : List Float) : Type 0 where
@@ -46,12 +79,18 @@ pub record Called (a b : List ℕ) (D : ℕ) (trace words : List ℕ) (scores : 
   pub numbered : Numbered (check a b D trace words scores .answer) status depth
   pub says : status ≢ Answers.GaveUp → Says gold gate (initialBits gold) (initialBits gate) D status depth
 
--- bytes written at the front of the trace buffer, which replay answers with yes
+-- bytes written at the front of the trace buffer, which replay answers with yes at a mismatch that is at most the depth
 pub record TraceLeft (a b : List ℕ) (D : ℕ) (trace words : List ℕ) (scores : List Float) : Type 0 where
   pub bytes : List ℕ
   pub fits : length bytes ≤ length trace
   pub written : check a b D trace words scores .trace ≡ bytes ++ drop (length bytes) trace
   pub yes : replay a b (check a b D trace words scores .answer .mismatch) bytes ≡ record { refusal = accepted; yes = true }
+  pub early : check a b D trace words scores .answer .mismatch ≤ check a b D trace words scores .answer .depth
+
+-- a call on two records answered number 0 and status 0, either of them as gold, to a depth and with buffers of its own
+pub data CalledEquivalent (a b : List ℕ) : Type 0 where
+  as-given : (D : ℕ) (trace words : List ℕ) (scores : List Float) → check a b D trace words scores .answer .number ≡ 0 → check a b D trace words scores .answer .status ≡ 0 → CalledEquivalent a b
+  swapped : (D : ℕ) (trace words : List ℕ) (scores : List Float) → check b a D trace words scores .answer .number ≡ 0 → check b a D trace words scores .answer .status ≡ 0 → CalledEquivalent a b
 
 -- ---- two designs, each from its own start bits
 

@@ -6,7 +6,7 @@ use mathlib.Core.List.{List, [], _∷_, _++_, map}
 use mathlib.Core.Option.{Option, none, some}
 use lib.ListN.{length, drop, replicate}
 use lib.Ieee.{Float}
-use Rattle.model.specs.Answers.{Refusal, ReplayAnswer, CheckAnswer, acceptedAnswer}
+use Rattle.model.specs.Answers.{Refusal, ReplayAnswer, CheckAnswer}
 use Rattle.model.specs.Options.{toDepth}
 use Rattle.model.specs.Names.{Name}
 use Rattle.model.specs.Netlist.{Node, Input, Constant, RegisterOutput, Not, Output, And, Rising, High, Reset, Register, Design}
@@ -156,7 +156,8 @@ checking gold gate D n = toCheck gold gate D (replicate n 7) 8388608 65536
 
 -- status, depth, mismatch, and the first bytes of a trace that has n more, each 7
 unfoldable pub saying : ℕ → ℕ → ℕ → List ℕ → ℕ → Reply
-saying status depth mismatch bytes n = fromCheck (acceptedAnswer status depth mismatch 0) (bytes ++ replicate n 7)
+saying status depth mismatch bytes n =
+    fromCheck (record { number = 0; side = 0; place = 0; status = status; depth = depth; mismatch = mismatch; query = 0 }) (bytes ++ replicate n 7)
 
 -- a refusal by its number, at place 0, with the n bytes of trace as they were
 unfoldable pub refusing : ℕ → ℕ → Reply
@@ -210,3 +211,8 @@ wire-bytes = refl
 cases : map (λ (c : Case). run (c .call)) table ≡ map (λ (c : Case). c .reply) table
 unfolding all
 cases = refl
+
+-- the limit of learned literals, which is the specification's whatever the depth
+limit : toDepth 3 ≡ record { depth = 3; limit = 262144 }
+unfolding all
+limit = refl

@@ -19,5 +19,8 @@ pub mod Check
 pub mod Encode
 pub mod Cases
 pub mod ReadCases
+pub mod PairCases
+pub mod RunCases
+pub mod GraphCases
 pub mod SatCases
 pub mod SatStates

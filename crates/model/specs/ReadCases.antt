@@ -1,20 +1,15 @@
--- Closed theorems beside the cases of `Cases`: refusals 1 to 15 and 22 to 25, replays and runs, each by computation.
+-- Closed theorems on records beside the cases of `Cases`: refusals 1 to 15, each by computation.
 use Prim.Native.Nat.{ℕ, zero, suc, _/_}
 use mathlib.Core.Path.{_≡_, refl}
 use mathlib.Core.Bool.{Bool, true, false}
 use mathlib.Core.List.{List, [], _∷_, _++_, map}
 use mathlib.Core.Option.{Option, none, some}
-use lib.ListN.{length}
-use Rattle.model.specs.Answers.{ReplayAnswer}
-use Rattle.model.specs.Options.{toDepth}
-use Rattle.model.specs.Netlist.{Node, Input, Constant, RegisterOutput, Output, High, Reset, inputNumbers}
+use lib.ListN.{length, replicate}
+use Rattle.model.specs.Netlist.{Node, Input, Constant, RegisterOutput, Not, Output, And, Or, Xor, Mux, Rising, Falling, High, Low, Reset, Design, inputNumbers}
 use Rattle.model.specs.Encode.{sized, recordOf}
-use Rattle.model.specs.Record.{parsed, kinds, inputsPerKind, nodeOf}
+use Rattle.model.specs.Record.{got, bigEndian, number, nameByte, name, kinds, inputsPerKind, nodeOf, parsed, lengthFits}
 use Rattle.model.specs.Validate.{read, readRecord}
-use Rattle.model.specs.Run.{InputSequence, initialBits, outputsAt}
-use Rattle.model.specs.Pair.{Lent, checkRefusal}
-use Rattle.model.specs.Replay.{replay, stepsReplay}
-use Rattle.model.specs.Cases.{a, p, q, clk, rst, design, sync, reg, wire, wireReading, inverter, toggle, unreset, row, holding, refusal}
+use Rattle.model.specs.Cases.{a, e, p, q, y, clk, rst, design, sync, reg, wire, wireReading, refusal}
 use Rattle.model.specs.Cases as Cases
 
 -- an asynchronous reset, active high, from a signal to a value
@@ -26,9 +21,52 @@ unfoldable pub all : Unit {0}
 unfolding async Cases.all
 all = tt
 
+-- ---- records accepted
+
 wire-accepted : readRecord wire ≡ parsed (wireReading 0)
 unfolding all
 wire-accepted = refl
+
+-- every kind of node, and registers with every code
+unfoldable pub full : Design
+full =
+    design
+    (Input clk ∷ Input rst ∷ Input e ∷ RegisterOutput ∷ RegisterOutput ∷ Constant true ∷ Constant false ∷ Not 3 ∷ And 2 3 ∷ Or 4 5 ∷ Xor 6 7 ∷ Mux 8 9 10 ∷ Output y 11 ∷ [])
+    (record {
+      name = q;
+      output = 4;
+      «data» = 11;
+      clock = 0;
+      edge = Falling;
+      enable = some (record { signal = 2; active = Low });
+      reset = some (record { signal = 1; active = High; asynchronous = true; value = false });
+    } ∷ record {
+      name = p;
+      output = 3;
+      «data» = 10;
+      clock = 2;
+      edge = Rising;
+      enable = some (record { signal = 8; active = High });
+      reset = some (record { signal = 7; active = Low; asynchronous = false; value = true });
+    } ∷ [])
+
+-- its bytes
+unfoldable pub fullBytes : List ℕ
+fullBytes =
+    sized
+    ((1 ∷ 103 ∷ 0 ∷ 13 ∷ [])
+    ++ (0x00 ∷ 3 ∷ 99 ∷ 108 ∷ 107 ∷ 0x00 ∷ 3 ∷ 114 ∷ 115 ∷ 116 ∷ 0x00 ∷ 1 ∷ 101 ∷ 0x02 ∷ 0x02 ∷ 0x01 ∷ 1 ∷ 0x01 ∷ 0 ∷ [])
+    ++ (0x10 ∷ 0 ∷ 3 ∷ 0x20 ∷ 0 ∷ 2 ∷ 0 ∷ 3 ∷ 0x21 ∷ 0 ∷ 4 ∷ 0 ∷ 5 ∷ 0x22 ∷ 0 ∷ 6 ∷ 0 ∷ 7 ∷ 0x30 ∷ 0 ∷ 8 ∷ 0 ∷ 9 ∷ 0 ∷ 10 ∷ 0x11 ∷ 1 ∷ 121 ∷ 0 ∷ 11 ∷ [])
+    ++ (0 ∷ 2 ∷ 1 ∷ 113 ∷ 0 ∷ 4 ∷ 0 ∷ 11 ∷ 0 ∷ 0 ∷ 1 ∷ 2 ∷ 0 ∷ 2 ∷ 1 ∷ 0 ∷ 1 ∷ 1 ∷ 0 ∷ [])
+    ++ (1 ∷ 112 ∷ 0 ∷ 3 ∷ 0 ∷ 10 ∷ 0 ∷ 2 ∷ 0 ∷ 1 ∷ 0 ∷ 8 ∷ 2 ∷ 0 ∷ 7 ∷ 0 ∷ 1 ∷ []))
+
+full-bytes : recordOf full ≡ fullBytes
+unfolding all full fullBytes
+full-bytes = refl
+
+full-accepted : readRecord fullBytes ≡ parsed full
+unfolding all full fullBytes
+full-accepted = refl
 
 -- ---- the table of input counts
 
@@ -40,6 +78,36 @@ table-nodes = refl
 table-bits : map inputsPerKind kinds ≡ map (λ k. k / 16) kinds
 unfolding all
 table-bits = refl
+
+-- ---- fields
+
+-- big-endian, from an offset on
+two-byte-number : number (9 ∷ 1 ∷ 2 ∷ []) 1 ≡ got 258 3
+unfolding all
+two-byte-number = refl
+
+four-byte-number : bigEndian 0 (1 ∷ 2 ∷ 3 ∷ 4 ∷ []) ≡ 16909060
+unfolding all
+four-byte-number = refl
+
+-- 65,535 bytes are allowed, and one more is not
+longest : lengthFits (1 ∷ 0 ∷ 0 ∷ 255 ∷ 255 ∷ replicate 65530 0) ≡ true
+unfolding all
+longest = refl
+
+too-long : lengthFits (1 ∷ 0 ∷ 1 ∷ 0 ∷ 0 ∷ replicate 65531 0) ≡ false
+unfolding all
+too-long = refl
+
+-- the bytes of a name are 33 to 126
+name-bytes : map nameByte (32 ∷ 33 ∷ 126 ∷ 127 ∷ []) ≡ false ∷ true ∷ true ∷ false ∷ []
+unfolding all
+name-bytes = refl
+
+-- a name of 32 bytes, after its length
+longest-name : name (32 ∷ replicate 32 97) 0 ≡ got (replicate 32 97) 33
+unfolding all
+longest-name = refl
 
 -- ---- refusals 1 to 6
 
@@ -93,6 +161,16 @@ many-nodes : read (sized (1 ∷ 103 ∷ 4 ∷ 1 ∷ [])) ≡ refusal 6 7
 unfolding all
 many-nodes = refl
 
+-- 1,024 nodes are allowed: the first one's kind byte is missing
+most-nodes : read (sized (1 ∷ 103 ∷ 4 ∷ 0 ∷ [])) ≡ refusal 3 9
+unfolding all
+most-nodes = refl
+
+-- and 128 registers: the first one's name is missing
+most-registers : read (sized (1 ∷ 103 ∷ 0 ∷ 0 ∷ 0 ∷ 128 ∷ [])) ≡ refusal 3 11
+unfolding all
+most-registers = refl
+
 many-registers : read (sized (1 ∷ 103 ∷ 0 ∷ 0 ∷ 0 ∷ 129 ∷ [])) ≡ refusal 6 9
 unfolding all
 many-registers = refl
@@ -105,6 +183,25 @@ inputsNamedA (suc n) = 0 ∷ 1 ∷ 97 ∷ inputsNamedA n
 input-65 : read (sized (1 ∷ 103 ∷ 0 ∷ 65 ∷ (inputsNamedA 64 ++ (0 ∷ [])))) ≡ refusal 6 201
 unfolding all inputsNamedA
 input-65 = refl
+
+-- n Outputs named a, and the 65th
+unfoldable pub outputsNamedA : ℕ → List ℕ
+outputsNamedA zero = []
+outputsNamedA (suc n) = 0x11 ∷ 1 ∷ 97 ∷ 0 ∷ 0 ∷ outputsNamedA n
+
+output-65 : read (sized (1 ∷ 103 ∷ 0 ∷ 66 ∷ 0 ∷ 1 ∷ 97 ∷ (outputsNamedA 64 ++ (0x11 ∷ [])))) ≡ refusal 6 332
+unfolding all outputsNamedA
+output-65 = refl
+
+-- a record without nodes whose one register, named q, has these bytes after its three numbers
+unfoldable pub ended : List ℕ → List ℕ
+ended codes = sized (1 ∷ 103 ∷ 0 ∷ 0 ∷ 0 ∷ 1 ∷ 1 ∷ 113 ∷ 0 ∷ 0 ∷ 0 ∷ 0 ∷ 0 ∷ 0 ∷ codes)
+
+-- each code one above its highest: edge, enable, reset, reset kind, reset value
+codes : map (λ bytes. read (ended bytes)) ((2 ∷ []) ∷ (0 ∷ 3 ∷ []) ∷ (0 ∷ 2 ∷ 0 ∷ 0 ∷ 3 ∷ []) ∷ (1 ∷ 0 ∷ 2 ∷ 0 ∷ 0 ∷ 2 ∷ []) ∷ (1 ∷ 0 ∷ 2 ∷ 0 ∷ 0 ∷ 1 ∷ 2 ∷ []) ∷ [])
+    ≡ refusal 4 19 ∷ refusal 4 20 ∷ refusal 4 23 ∷ refusal 4 24 ∷ refusal 4 25 ∷ []
+unfolding all ended
+codes = refl
 
 -- ---- refusals 7 to 15
 
@@ -136,6 +233,26 @@ reset-net : read (recordOf (design base (reg p 2 2 (sync 4 true) ∷ reg q 3 3 n
 unfolding all base
 reset-net = refl
 
+-- the clock's number and the enable's too
+clock-number : read (recordOf (design base (record { name = p; output = 2; «data» = 2; clock = 4; edge = Rising; enable = none; reset = none } ∷ reg q 3 3 none ∷ []))) ≡ refusal 12 0
+unfolding all base
+clock-number = refl
+
+enable-net : read (recordOf (design base (reg p 2 2 none ∷ record { name = q; output = 3; «data» = 3; clock = 0; edge = Rising; enable = some (record { signal = 4; active = Low }); reset = none } ∷ [])))
+    ≡ refusal 12 1
+unfolding all base
+enable-net = refl
+
+-- of two faults of one register the lower number, of two registers the first
+first-fault : read (recordOf (design base (reg p 2 2 none ∷ reg p 1 9 none ∷ reg q 9 9 none ∷ []))) ≡ refusal 9 1
+unfolding all base
+first-fault = refl
+
+-- of two faults of one node the lower number, and nodes before registers
+node-first : read (recordOf (design (Input a ∷ Output a 1 ∷ []) (reg q 0 0 none ∷ []))) ≡ refusal 7 1
+unfolding all
+node-first = refl
+
 unconnected : read (recordOf (design base (reg p 3 3 none ∷ []))) ≡ refusal 13 2
 unfolding all base
 unconnected = refl
@@ -144,71 +261,21 @@ late-reset : read (recordOf (design base (reg p 2 2 (async 1 false) ∷ reg q 3 
 unfolding all base
 late-reset = refl
 
+-- an asynchronous reset from the node before is in time
+early-reset : readRecord (recordOf (design base (reg p 2 2 (async 1 false) ∷ reg q 3 3 (async 2 true) ∷ []))) ≡ parsed (design base (reg p 2 2 (async 1 false) ∷ reg q 3 3 (async 2 true) ∷ []))
+unfolding all base
+early-reset = refl
+
+-- 13 comes before 14, and 14 before 15
+unconnected-first : read (recordOf (design base (reg p 3 3 (async 3 false) ∷ []))) ≡ refusal 13 2
+unfolding all base
+unconnected-first = refl
+
+reset-before-clock : read (recordOf (design (Constant false ∷ Input rst ∷ RegisterOutput ∷ []) (reg q 2 2 (async 2 false) ∷ []))) ≡ refusal 14 2
+unfolding all
+reset-before-clock = refl
+
 -- the clock, node 0, is no Input here
 clock-net : read (recordOf (design (Constant false ∷ Input rst ∷ RegisterOutput ∷ []) (reg q 2 2 none ∷ []))) ≡ refusal 15 0
 unfolding all
 clock-net = refl
-
--- ---- pairs
-
--- memory that is enough for these
-unfoldable pub lent : Lent
-lent = record { trace = 4096; words = 8388608; scores = 65536 }
-
-no-reset-gate : checkRefusal (recordOf (toggle q)) (recordOf unreset) (toDepth 1) lent ≡ some (record { number = 22; side = 1; place = 0 })
-unfolding all lent
-no-reset-gate = refl
-
-toggles : checkRefusal (recordOf (toggle q)) (recordOf (toggle p)) (toDepth 64) lent ≡ none
-unfolding all lent
-toggles = refl
-
-short-words : checkRefusal wire wire (toDepth 1) (record { trace = 3; words = 8388607; scores = 65536 }) ≡ some (refusal 24 0)
-unfolding all
-short-words = refl
-
-short-trace : checkRefusal wire wire (toDepth 1) (record { trace = 2; words = 8388608; scores = 65536 }) ≡ some (refusal 24 0)
-unfolding all
-short-trace = refl
-
--- ---- replays
-
--- an accepted replay with its yes or no
-unfoldable pub answers : Bool → ReplayAnswer
-answers b = record { refusal = refusal 0 0; yes = b }
-
--- in cycle 1 the claim comes too late: cycle 0 differs already
-too-late : replay wire (recordOf inverter) 1 (0 ∷ 0 ∷ 1 ∷ []) ≡ answers false
-unfolding all answers
-too-late = refl
-
-claim-cut : replay wire (recordOf inverter) 1 (0 ∷ 1 ∷ []) ≡ record { refusal = refusal 25 0; yes = false }
-unfolding all answers
-claim-cut = refl
-
-claim-byte : replay wire (recordOf inverter) 0 (0 ∷ 2 ∷ []) ≡ record { refusal = refusal 25 0; yes = false }
-unfolding all answers
-claim-byte = refl
-
--- ---- runs
-
--- every input is 0 in every cycle
-unfoldable pub zeros : InputSequence
-zeros c n = false
-
--- the toggle's outputs in cycles 0 to 3, from its initial bits and from 1
-toggle-run : map (outputsAt (toggle q) (initialBits (toggle q)) zeros) (0 ∷ 1 ∷ 2 ∷ 3 ∷ []) ≡ (false ∷ []) ∷ (true ∷ []) ∷ (false ∷ []) ∷ (true ∷ []) ∷ []
-unfolding all zeros
-toggle-run = refl
-
-toggle-run-from-1 : map (outputsAt (toggle q) (true ∷ []) zeros) (0 ∷ 1 ∷ 2 ∷ 3 ∷ []) ≡ (true ∷ []) ∷ (false ∷ []) ∷ (true ∷ []) ∷ (false ∷ []) ∷ []
-unfolding all zeros
-toggle-run-from-1 = refl
-
-row-replay : replay (recordOf row) (recordOf holding) 2 (0 ∷ 1 ∷ 0 ∷ 0 ∷ 0 ∷ 0 ∷ 0 ∷ 0 ∷ 0 ∷ 1 ∷ []) ≡ answers true
-unfolding all answers
-row-replay = refl
-
-row-steps : stepsReplay row holding (initialBits row) (initialBits holding) 2 (0 ∷ 1 ∷ 0 ∷ 0 ∷ 0 ∷ 0 ∷ 0 ∷ 0 ∷ 0 ∷ 1 ∷ []) ≡ true
-unfolding all
-row-steps = refl

@@ -9,15 +9,15 @@ use lib.Ieee.{Float}
 use Rattle.model.specs.Answers.{Refusal, Status, Equivalent, NotEquivalent, GaveUp, statusNumber}
 use Rattle.model.specs.Options.{toDepth}
 use Rattle.model.specs.Pair.{Lent, checkRefusal}
-use Rattle.model.specs.Induction.{answered, Checked, goldFirst, Chain, Joined}
+use Rattle.model.specs.Induction.{answered, Checked, goldFirst, gateFirst, Chain, two, more, Joined}
 use Rattle.model.specs.Check.{lentOf, check, checked}
-use Rattle.laws.specs.Terms.{Numbered}
+use Rattle.laws.specs.Terms.{Numbered, CalledEquivalent, as-given, swapped}
 use Rattle.laws.specs.Induction.Pairs.{refusal-swap}
 use Rattle.laws.specs.Check.Call.{check-refused, check-numbered}
 use Rattle.laws.specs.Check.Self.{check-self}
 use Rattle.laws.specs.Check.Records.{check-swap, check-chain}
 use Rattle.laws.specs.Check.Ending.{check-answers}
-use Rattle.laws.specs.Check.Refusals.{check-real}
+use Rattle.laws.specs.Check.Refusals.{check-within}
 use Rattle.laws.specs.Check.Numbers.{called, call-checked}
 
 module _ (a b : List ℕ) (D : ℕ) (trace words : List ℕ) (scores : List Float) where
@@ -25,7 +25,7 @@ module _ (a b : List ℕ) (D : ℕ) (trace words : List ℕ) (scores : List Floa
   refusal-number none e h = refl
   refusal-number (some r) e h =
       let q : check a b D trace words scores .answer .number ≡ r .number = ap (λ x. x .answer .number) (check-refused a b D trace words scores r e) in
-      absurd (omega (arith, q, h, check-real a b (toDepth D) (lentOf trace words scores) r e .low))
+      absurd (omega (arith, q, h, check-within a b (toDepth D) (lentOf trace words scores) r e .low))
 
   -- number 0 is answered exactly where no refusal applies
   pub number-zero : (check a b D trace words scores .answer .number ≡ 0) ↔ (checkRefusal a b (toDepth D) (lentOf trace words scores) ≡ none)
@@ -40,12 +40,36 @@ module _ (a b : List ℕ) (D : ℕ) (trace words : List ℕ) (scores : List Floa
     unfolding statusNumber
     call-joins h = goldFirst (toDepth D) (lentOf trace words scores) _ (call-checked a b D trace words scores free Equivalent h)
 
+    -- and the same two named the other way round
+    pub call-joins-back : check a b D trace words scores .answer .status ≡ 0 → Checked checked b a
+    unfolding statusNumber
+    call-joins-back h = gateFirst (toDepth D) (lentOf trace words scores) _ (call-checked a b D trace words scores free Equivalent h)
+
     -- no call on two records of a chain answers 0, NotEquivalent
     pub call-never : (l : List (List ℕ)) → Chain (Checked checked) l → List·Memᴰ a l → List·Memᴰ b l → check a b D trace words scores .answer .status ≢ 1
     unfolding statusNumber
     call-never l c m n h =
         let j : Joined checked a b = check-chain l c a b m n in
         j .never (toDepth D) (lentOf trace words scores) _ (call-checked a b D trace words scores free NotEquivalent h)
+
+-- a call that answered Equivalent, given either way, is a link of a chain
+called-checked : (a b : List ℕ) → CalledEquivalent a b → Checked checked a b
+called-checked a b (as-given D trace words scores z h) = call-joins a b D trace words scores z h
+called-checked a b (swapped D trace words scores z h) = call-joins-back b a D trace words scores z h
+
+-- so a chain of calls is a chain of checks
+chain-checked : {l : List (List ℕ)} → Chain CalledEquivalent l → Chain (Checked checked) l
+chain-checked (two {a = a} {b = b} h) = two (called-checked a b h)
+chain-checked (more {a = a} {b = b} h c) = more (called-checked a b h) (chain-checked c)
+
+-- any two records of a chain of calls are joined
+pub calls-join : (l : List (List ℕ)) → Chain CalledEquivalent l → (a b : List ℕ) → List·Memᴰ a l → List·Memᴰ b l → Joined checked a b
+calls-join l c a b m n = check-chain l (chain-checked c) a b m n
+
+-- and no call on them answers 0, NotEquivalent
+pub calls-never : (a b : List ℕ) (D : ℕ) (trace words : List ℕ) (scores : List Float) → check a b D trace words scores .answer .number ≡ 0
+    → (l : List (List ℕ)) → Chain CalledEquivalent l → List·Memᴰ a l → List·Memᴰ b l → check a b D trace words scores .answer .status ≢ 1
+calls-never a b D trace words scores z l c m n = call-never a b D trace words scores z l (chain-checked c) m n
 
 not-given-up : (p : Status) (n : ℕ) → n ≡ statusNumber p → n ≢ 3 → p ≢ GaveUp
 unfolding statusNumber

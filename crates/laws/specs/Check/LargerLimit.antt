@@ -5,6 +5,7 @@ use mathlib.Core.Path.{_≡_, sym, ap, _∙_, subst}
 use mathlib.Core.Logic.{_≢_, inl, inr}
 use mathlib.Core.List.{List}
 use mathlib.Core.Option.{none}
+use lib.Ieee.{Float}
 use Rattle.model.specs.Answers.{Status}
 use Rattle.model.specs.Answers as Answers
 use Rattle.model.specs.Options.{Options}
@@ -14,12 +15,12 @@ use Rattle.model.specs.Pair.{Lent, checkFault, ReadPair, both, refusedPair, rea
 use Rattle.model.specs.Induction.{answered}
 use Rattle.model.specs.Sat.{Answer, model, noModel}
 use Rattle.model.specs.Equivalence.{Problem, Query, ask, Verdict, Equivalent, NotEquivalent, Inconclusive, GaveUp, OutOfFuel, proveSequentialEquivalence}
-use Rattle.model.specs.Check.{problemOf, checkDesigns, verdictSays, checked}
+use Rattle.model.specs.Check.{problemOf, checkDesigns, checkOutcome, checkAnswer, traceAfter, clearedAfter, checkResult, verdictSays, checked}
 use Rattle.laws.specs.Check.Course.{Decides, differs, closes-named, closes, stops, Course, decides, passes, verdict-course, course-verdict}
 use Rattle.laws.specs.Search.Limits.{solve-same}
 use Rattle.laws.specs.Terms.{checkedDesigns, LargerLimit, Settled, NoModel, Model, NamedOpen, Passed}
 use Rattle.laws.specs.Induction.Pairs.{Accepted, accepted-pair}
-use Rattle.laws.specs.Check.Call.{check-accepts, checked-is}
+use Rattle.laws.specs.Check.Call.{check-accepts, outcome-is, checked-is}
 
 -- a verdict that neither the limit nor the rounds cut short
 abbrev Final : Verdict → Type 0
@@ -98,3 +99,14 @@ module _ (o larger : Options) (le : LargerLimit o larger) where
       let s = sym (checked-is a b o lent (k .gold) (k .gate) free (k .pair)) ∙ h in
       checked-is a b larger lent (k .gold) (k .gate) (refusal-same a b lent free) (k .pair)
       ∙ ap verdictSays (designs-larger (k .gold) (k .gate) (initialBits (k .gold)) (initialBits (k .gate)) status d s n) ∙ s
+
+  -- and the whole result of the check: mismatch, query and place too, and every lent element
+  pub result-larger : (a b : List ℕ) (lent : Lent) (status : Status) (d : ℕ) → checked a b o lent ≡ answered status d → status ≢ Answers.GaveUp
+      → (trace words : List ℕ) (scores : List Float) → checkResult (checkOutcome a b larger lent) trace words scores ≡ checkResult (checkOutcome a b o lent) trace words scores
+  unfolding checkResult checkAnswer traceAfter clearedAfter
+  result-larger a b lent status d h n trace words scores =
+      let free = check-accepts a b o lent status d h in
+      let k : Accepted a b o lent = accepted-pair a b o lent free in
+      let s = sym (checked-is a b o lent (k .gold) (k .gate) free (k .pair)) ∙ h in
+      let v = designs-larger (k .gold) (k .gate) (initialBits (k .gold)) (initialBits (k .gate)) status d s n in
+      rw (outcome-is a b larger lent (k .gold) (k .gate) (refusal-same a b lent free) (k .pair), outcome-is a b o lent (k .gold) (k .gate) free (k .pair), v)

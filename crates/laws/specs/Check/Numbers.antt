@@ -21,7 +21,7 @@ use Rattle.model.specs.Replay.{replay}
 use Rattle.model.specs.Induction.{answered}
 use Rattle.model.specs.Equivalence.{Verdict, Equivalent, NotEquivalent, Inconclusive, GaveUp, OutOfFuel}
 use Rattle.model.specs.Check.{checkDesigns, verdictAnswer, checkAnswer, overwrite, verdictTrace, traceAfter, CheckResult, checkResult, lentOf, check, checked}
-use Rattle.laws.specs.Terms.{Numbered, Called, TraceLeft}
+use Rattle.laws.specs.Terms.{Numbered, UnusedZero, Called, TraceLeft}
 use Rattle.facts.specs.Bools.{or-left}
 use Rattle.laws.specs.Induction.Pairs.{Accepted, accepted-pair, Facts, facts-of, comparable}
 use Rattle.laws.specs.Check.Call.{call-is, check-numbered}
@@ -55,6 +55,15 @@ unfolding tooShort traceLength
 trace-fits gold D lent m n h l e =
     let k = ltb-false (lent .trace) (suc D * inputCount gold + outputCount gold) (or-left _ (ltb (lent .words) 8388608) (or-left _ (ltb (lent .scores) 65536) h)) in
     omega (arith, k, e, mul-le-mul-right {m = suc m} {n = suc D} (inputCount gold) (omega (arith, l)))
+
+-- what the answer of a verdict does not use is 0
+verdict-unused : (v : Verdict) → UnusedZero (verdictAnswer v)
+unfolding verdictAnswer acceptedAnswer statusNumber
+verdict-unused (Equivalent d) = record { side = refl; place = refl; mismatch = λ h. refl; query = λ h. refl }
+verdict-unused (NotEquivalent d m bytes) = record { side = refl; place = refl; mismatch = λ h. absurd (h refl); query = λ h. refl }
+verdict-unused (Inconclusive d) = record { side = refl; place = refl; mismatch = λ h. refl; query = λ h. refl }
+verdict-unused (GaveUp d q) = record { side = refl; place = refl; mismatch = λ h. refl; query = λ h. absurd (h refl) }
+verdict-unused OutOfFuel = record { side = refl; place = refl; mismatch = λ h. refl; query = λ h. refl }
 
 module _ (a b : List ℕ) (D : ℕ) (trace words : List ℕ) (scores : List Float) (free : checkRefusal a b (toDepth D) (lentOf trace words scores) ≡ none) where
   -- an accepted call's numbers
@@ -105,11 +114,13 @@ module _ (a b : List ℕ) (D : ℕ) (trace words : List ℕ) (scores : List Floa
         let x = designs-trace (toDepth D) (k .gold) (k .gate) (comparable a b (toDepth D) (lentOf trace words scores) (k .gold) (k .gate) free (k .pair)) (initialBits (k .gold)) (initialBits (k .gate)) d m bytes e in
         let f : Facts (k .gold) (k .gate) (toDepth D) (lentOf trace words scores) = facts-of (k .gold) (k .gate) (toDepth D) (lentOf trace words scores) (k .free) in
         let q : check a b D trace words scores .answer .mismatch ≡ m = ap (λ y. y .mismatch) (c .0) in
+        let p : check a b D trace words scores .answer .depth ≡ d = ap (λ y. y .depth) (c .0) in
         record {
           bytes = bytes;
           fits = trace-fits (k .gold) D (lentOf trace words scores) m (length bytes) (f .memory) (omega (arith, x .0, x .1 .early)) (x .1 .size);
           written = c .1;
           yes = ap (λ (i : ℕ). replay a b i bytes) q ∙ check-replays a b (toDepth D) (lentOf trace words scores) (k .gold) (k .gate) d m bytes free (k .pair) e;
+          early = omega (arith, q, p, x .1 .early);
         }
     left (Inconclusive d) e s = absurd (not-one 2 (Inconclusive d) refl (λ q. omega arith) (by-verdict (Inconclusive d) e .0) s)
     left (GaveUp d q) e s = absurd (not-one 3 (GaveUp d q) refl (λ q. omega arith) (by-verdict (GaveUp d q) e .0) s)
@@ -123,7 +134,13 @@ module _ (a b : List ℕ) (D : ℕ) (trace words : List ℕ) (scores : List Floa
     kept (GaveUp d q) e s = by-verdict (GaveUp d q) e .1
     kept OutOfFuel e s = by-verdict OutOfFuel e .1
 
-  -- after status 1 the trace buffer begins with bytes that replay answers with yes, and the others stay
+  -- what an accepted call's answer does not use is 0
+  pub unused-zero : UnusedZero (check a b D trace words scores .answer)
+  unused-zero =
+      let k : Accepted a b (toDepth D) (lentOf trace words scores) = accepted-pair a b (toDepth D) (lentOf trace words scores) free in
+      rw (by-verdict k (verdict k) refl .0) (verdict-unused (verdict k))
+
+  -- after status 1 the trace buffer begins with bytes that replay answers with yes at a mismatch within the depth, and the others stay
   pub trace-left : check a b D trace words scores .answer .status ≡ 1 → TraceLeft a b D trace words scores
   trace-left s = left (accepted-pair a b (toDepth D) (lentOf trace words scores) free) _ refl s
 

@@ -1,7 +1,7 @@
--- Every refusal of a check has a number from 1 to 25, so that number 0 is answered exactly where no refusal applies. Assumes nothing.
+-- The numbers of the refusals: of a record 1 to 15, of a check 1 to 24, of a replay 1 to 15, 18 to 22 and 25. Assumes nothing.
 use Prim.Native.Nat.{ℕ, zero, suc, _+_, _≤_}
 use native.Mathlib.Omega.{arith}
-use mathlib.Core.Path.{_≡_, subst}
+use mathlib.Core.Path.{_≡_, refl, subst}
 use mathlib.Core.Bool.{Bool, true, false, cond}
 use mathlib.Core.List.{List, [], _∷_, _++_}
 use mathlib.Core.Option.{Option, none, some}
@@ -13,33 +13,28 @@ use Rattle.model.specs.Names.{Name, Place}
 use Rattle.model.specs.Netlist.{Node, Register, Design}
 use Rattle.model.specs.Record.{Step, got, refused, Reader, refuse, pure, goOn, _>>=_, tested, guard, bytes, byte, number, code, codeBelow, nameBytes, name, nameIf, valueIf, numbers, node, nodesFrom, nodes, enableFor, resetFor, register, registersFrom, registers, end, version1, versionOf, Read, parsed, refusedRecord, lengthFits, finished, parseFields, parseSized, parse}
 use Rattle.model.specs.Validate.{_otherwise_, refuseIf, nodeFault, nodesFault, registerFault, registersFault, connectionFault, resetFault, clockFault, validate, judged, validated, readRecord}
-use Rattle.model.specs.Pair.{Lent, interfaceFault, resetsFault, initialFault, checkFault, ReadPair, both, refusedPair, onGate, withGate, withGold, readPair, checkRefusalOf, checkRefusal}
-use Rattle.laws.specs.Terms.{Real}
+use Rattle.model.specs.Pair.{Lent, interfaceFault, resetsFault, initialFault, checkFault, replayFault, ReadPair, both, refusedPair, onGate, withGate, withGold, readPair, checkRefusalOf, checkRefusal}
+use Rattle.laws.specs.Terms.{Within, OfRecord, OfReplay, of-record, of-pair, of-claim, replayRefusalOf, replayRefusal}
 
--- a step of a reader that refuses with a number of the specification, if it refuses
+-- a step of a reader that refuses with 1 to 15, if it refuses
 abbrev RealStep : {A : Type 0} → Step A → Type 0
 RealStep (got a i) = Unit {0}
-RealStep (refused r) = Real r
+RealStep (refused r) = OfRecord r
 
 -- the same of a reader, wherever it begins
 abbrev RealReader : {A : Type 0} → Reader A → Type 0
 RealReader p = (s : List ℕ) (i : ℕ) → RealStep (p s i)
 
--- the same of a refusal that may be none
-abbrev RealOption : Option Refusal → Type 0
-RealOption none = Unit {0}
-RealOption (some r) = Real r
-
 -- the same of a record that is read
 abbrev RealRead : Read → Type 0
 RealRead (parsed d) = Unit {0}
-RealRead (refusedRecord r) = Real r
+RealRead (refusedRecord r) = OfRecord r
 
 -- ---- readers
 
-refuse-real : (A : Type 0) (n place : ℕ) → 1 ≤ n → n ≤ 25 → RealStep (refuse {A = A} n place)
+refuse-real : (A : Type 0) (n place : ℕ) → 1 ≤ n → n ≤ 15 → RealStep (refuse {A = A} n place)
 unfolding refuse
-refuse-real A n place l h = record { low = l; high = h }
+refuse-real A n place l h = record { low = l; high = h; side = refl }
 
 cond-real : {A : Type 0} (b : Bool) (x y : Step A) → RealStep x → RealStep y → RealStep (cond b x y)
 cond-real true x y h k = h
@@ -58,12 +53,12 @@ bind-real : {A B : Type 0} (p : Reader A) (f : A → Reader B) → RealReader p 
 unfolding _>>=_
 bind-real p f h k s i = go-real f s (p s i) (h s i) k
 
-tested-real : {A : Type 0} (n : ℕ) (ok : A → Bool) (i : ℕ) (r : Step A) → 1 ≤ n → n ≤ 25 → RealStep r → RealStep (tested n ok i r)
+tested-real : {A : Type 0} (n : ℕ) (ok : A → Bool) (i : ℕ) (r : Step A) → 1 ≤ n → n ≤ 15 → RealStep r → RealStep (tested n ok i r)
 unfolding tested
 tested-real {A} n ok i (got a j) l h k = cond-real (ok a) (got a j) (refuse n i) tt (refuse-real A n i l h)
 tested-real {A} n ok i (refused r) l h k = k
 
-guard-real : {A : Type 0} (n : ℕ) (ok : A → Bool) (p : Reader A) → 1 ≤ n → n ≤ 25 → RealReader p → RealReader (guard n ok p)
+guard-real : {A : Type 0} (n : ℕ) (ok : A → Bool) (p : Reader A) → 1 ≤ n → n ≤ 15 → RealReader p → RealReader (guard n ok p)
 unfolding guard
 guard-real n ok p l h k s i = tested-real n ok i (p s i) l h (k s i)
 
@@ -175,52 +170,74 @@ parse-real : (s : List ℕ) → RealRead (parse s)
 unfolding parse
 parse-real s = sized-real s (lengthFits s)
 
--- ---- the checks of a design and of a pair
+-- ---- the checks of a design
 
-if-real : (n side place : ℕ) (b : Bool) → 1 ≤ n → n ≤ 25 → RealOption (refuseIf n side place b)
+-- a refusal, where there is one, has this property
+abbrev Every : (Refusal → Type 0) → Option Refusal → Type 0
+Every P none = Unit {0}
+Every P (some r) = P r
+
+if-every : (P : Refusal → Type 0) (n side place : ℕ) (b : Bool) → P (record { number = n; side = side; place = place }) → Every P (refuseIf n side place b)
 unfolding refuseIf
-if-real n side place true l h = record { low = l; high = h }
-if-real n side place false l h = tt
+if-every P n side place true h = h
+if-every P n side place false h = tt
 
-or-real : (x y : Option Refusal) → RealOption x → RealOption y → RealOption (x otherwise y)
+or-every : (P : Refusal → Type 0) (x y : Option Refusal) → Every P x → Every P y → Every P (x otherwise y)
 unfolding _otherwise_
-or-real none y h k = k
-or-real (some r) y h k = h
+or-every P none y h k = k
+or-every P (some r) y h k = h
 
-real-nodes : (i : ℕ) (names : List Name) (ns : List Node) → RealOption (nodesFault i names ns)
+every-so : (P Q : Refusal → Type 0) → ((r : Refusal) → P r → Q r) → (x : Option Refusal) → Every P x → Every Q x
+every-so P Q f none h = tt
+every-so P Q f (some r) h = f r h
+
+-- one test, of a number in a range
+if-real : (n place : ℕ) (b : Bool) → 1 ≤ n → n ≤ 15 → Every OfRecord (refuseIf n 0 place b)
+if-real n place b l h = if-every OfRecord n 0 place b (record { low = l; high = h; side = refl })
+
+or-real : (x y : Option Refusal) → Every OfRecord x → Every OfRecord y → Every OfRecord (x otherwise y)
+or-real x y h k = or-every OfRecord x y h k
+
+if-within : (first last n side place : ℕ) (b : Bool) → first ≤ n → n ≤ last → Every (Within first last) (refuseIf n side place b)
+if-within first last n side place b l h = if-every (Within first last) n side place b (record { low = l; high = h })
+
+or-within : (first last : ℕ) (x y : Option Refusal) → Every (Within first last) x → Every (Within first last) y → Every (Within first last) (x otherwise y)
+or-within first last x y h k = or-every (Within first last) x y h k
+
+real-nodes : (i : ℕ) (names : List Name) (ns : List Node) → Every OfRecord (nodesFault i names ns)
 unfolding nodesFault nodeFault
 real-nodes i names [] = tt
-real-nodes i names (n ∷ ns) = or-real _ _ (or-real _ _ (if-real 7 0 i _ (omega arith) (omega arith)) (if-real 8 0 i _ (omega arith) (omega arith))) (real-nodes _ _ ns)
+real-nodes i names (n ∷ ns) = or-real _ _ (or-real _ _ (if-real 7 i _ (omega arith) (omega arith)) (if-real 8 i _ (omega arith) (omega arith))) (real-nodes _ _ ns)
 
-real-registers : (nodes : List Node) (i : ℕ) (names : List Name) (taken : List ℕ) (rs : List Register) → RealOption (registersFault nodes i names taken rs)
+real-registers : (nodes : List Node) (i : ℕ) (names : List Name) (taken : List ℕ) (rs : List Register) → Every OfRecord (registersFault nodes i names taken rs)
 unfolding registersFault registerFault
 real-registers nodes i names taken [] = tt
 real-registers nodes i names taken (r ∷ rs) =
     or-real _ _
-    (or-real _ _ (if-real 9 0 i _ (omega arith) (omega arith)) (or-real _ _ (if-real 10 0 i _ (omega arith) (omega arith))
-    (or-real _ _ (if-real 11 0 i _ (omega arith) (omega arith)) (if-real 12 0 i _ (omega arith) (omega arith)))))
+    (or-real _ _ (if-real 9 i _ (omega arith) (omega arith)) (or-real _ _ (if-real 10 i _ (omega arith) (omega arith))
+    (or-real _ _ (if-real 11 i _ (omega arith) (omega arith)) (if-real 12 i _ (omega arith) (omega arith)))))
     (real-registers nodes _ _ _ rs)
 
-real-connection : (rs : List Register) (i : ℕ) (ns : List Node) → RealOption (connectionFault rs i ns)
+real-connection : (rs : List Register) (i : ℕ) (ns : List Node) → Every OfRecord (connectionFault rs i ns)
 unfolding connectionFault
 real-connection rs i [] = tt
-real-connection rs i (n ∷ ns) = or-real _ _ (if-real 13 0 i _ (omega arith) (omega arith)) (real-connection rs (suc i) ns)
+real-connection rs i (n ∷ ns) = or-real _ _ (if-real 13 i _ (omega arith) (omega arith)) (real-connection rs (suc i) ns)
 
-real-reset : (rs : List Register) (i : ℕ) (ns : List Node) → RealOption (resetFault rs i ns)
+real-reset : (rs : List Register) (i : ℕ) (ns : List Node) → Every OfRecord (resetFault rs i ns)
 unfolding resetFault
 real-reset rs i [] = tt
-real-reset rs i (n ∷ ns) = or-real _ _ (if-real 14 0 i _ (omega arith) (omega arith)) (real-reset rs (suc i) ns)
+real-reset rs i (n ∷ ns) = or-real _ _ (if-real 14 i _ (omega arith) (omega arith)) (real-reset rs (suc i) ns)
 
-real-clock : (nodes : List Node) (i : ℕ) (rs : List Register) → RealOption (clockFault nodes i rs)
+real-clock : (nodes : List Node) (i : ℕ) (rs : List Register) → Every OfRecord (clockFault nodes i rs)
 unfolding clockFault
 real-clock nodes i [] = tt
-real-clock nodes i (r ∷ rs) = or-real _ _ (if-real 15 0 i _ (omega arith) (omega arith)) (real-clock nodes (suc i) rs)
+real-clock nodes i (r ∷ rs) = or-real _ _ (if-real 15 i _ (omega arith) (omega arith)) (real-clock nodes (suc i) rs)
 
-real-validate : (d : Design) → RealOption (validate d)
+real-validate : (d : Design) → Every OfRecord (validate d)
 unfolding validate
 real-validate d = or-real _ _ (real-nodes 0 [] _) (or-real _ _ (real-registers _ 0 [] [] _) (or-real _ _ (real-connection _ 0 _) (or-real _ _ (real-reset _ 0 _) (real-clock _ 0 _))))
 
-judged-real : (d : Design) (o : Option Refusal) → RealOption o → RealRead (judged d o)
+judged-real : (d : Design) (o : Option Refusal) → Every OfRecord o → RealRead (judged d o)
 unfolding judged
 judged-real d none h = tt
 judged-real d (some r) h = h
@@ -230,29 +247,53 @@ unfolding validated
 validated-real (parsed d) h = judged-real d (validate d) (real-validate d)
 validated-real (refusedRecord r) h = h
 
--- every refusal of a record
 read-real : (s : List ℕ) → RealRead (readRecord s)
 unfolding readRecord
 read-real s = validated-real (parse s) (parse-real s)
 
-real-resets : (side : ℕ) (rs : List Register) (ps : List Place) → RealOption (resetsFault side rs ps)
+-- every refusal of a record has a number from 1 to 15, on side 0
+pub record-within : (s : List ℕ) (r : Refusal) → readRecord s ≡ refusedRecord r → OfRecord r
+record-within s r e = subst RealRead e (read-real s)
+
+-- ---- the checks of a pair
+
+real-resets : (side : ℕ) (rs : List Register) (ps : List Place) → Every (Within 18 22) (resetsFault side rs ps)
 unfolding resetsFault
 real-resets side rs [] = tt
-real-resets side rs (p ∷ ps) = or-real _ _ (if-real 22 side (p .number) _ (omega arith) (omega arith)) (real-resets side rs ps)
+real-resets side rs (p ∷ ps) = or-within 18 22 _ _ (if-within 18 22 22 side (p .number) _ (omega arith) (omega arith)) (real-resets side rs ps)
 
-real-fault : (gold gate : Design) (o : Options) (lent : Lent) → RealOption (checkFault gold gate o lent)
-unfolding checkFault interfaceFault initialFault
+real-initial : (gold gate : Design) → Every (Within 18 22) (initialFault gold gate)
+unfolding initialFault
+real-initial gold gate = or-within 18 22 _ _ (real-resets 0 _ _) (real-resets 1 _ _)
+
+real-interface : (gold gate : Design) → Every (Within 18 22) (interfaceFault gold gate)
+unfolding interfaceFault
+real-interface gold gate =
+    or-within 18 22 _ _ (if-within 18 22 18 0 0 _ (omega arith) (omega arith)) (or-within 18 22 _ _ (if-within 18 22 19 0 0 _ (omega arith) (omega arith))
+    (or-within 18 22 _ _ (if-within 18 22 20 0 0 _ (omega arith) (omega arith)) (or-within 18 22 _ _ (if-within 18 22 20 1 0 _ (omega arith) (omega arith))
+    (if-within 18 22 21 0 0 _ (omega arith) (omega arith)))))
+
+wider : (r : Refusal) → Within 18 22 r → Within 1 24 r
+wider r h = record { low = omega (arith, h .low); high = omega (arith, h .high) }
+
+real-fault : (gold gate : Design) (o : Options) (lent : Lent) → Every (Within 1 24) (checkFault gold gate o lent)
+unfolding checkFault
 real-fault gold gate o lent =
-    or-real _ _ (if-real 16 0 0 _ (omega arith) (omega arith)) (or-real _ _ (if-real 17 0 0 _ (omega arith) (omega arith))
-    (or-real _ _
-    (or-real _ _ (if-real 18 0 0 _ (omega arith) (omega arith)) (or-real _ _ (if-real 19 0 0 _ (omega arith) (omega arith)) (or-real _ _ (if-real 20 0 0 _ (omega arith) (omega arith))
-    (or-real _ _ (if-real 20 1 0 _ (omega arith) (omega arith)) (if-real 21 0 0 _ (omega arith) (omega arith))))))
-    (or-real _ _ (or-real _ _ (real-resets 0 _ _) (real-resets 1 _ _)) (or-real _ _ (if-real 23 0 0 _ (omega arith) (omega arith)) (if-real 24 0 0 _ (omega arith) (omega arith))))))
+    or-within 1 24 _ _ (if-within 1 24 16 0 0 _ (omega arith) (omega arith)) (or-within 1 24 _ _ (if-within 1 24 17 0 0 _ (omega arith) (omega arith))
+    (or-within 1 24 _ _ (every-so (Within 18 22) (Within 1 24) wider (interfaceFault gold gate) (real-interface gold gate))
+    (or-within 1 24 _ _ (every-so (Within 18 22) (Within 1 24) wider (initialFault gold gate) (real-initial gold gate))
+    (or-within 1 24 _ _ (if-within 1 24 23 0 0 _ (omega arith) (omega arith)) (if-within 1 24 24 0 0 _ (omega arith) (omega arith))))))
 
--- the same of two
+real-replay : (gold gate : Design) (cycle : ℕ) (claim : List ℕ) → Every OfReplay (replayFault gold gate cycle claim)
+unfolding replayFault
+real-replay gold gate cycle claim =
+    or-every OfReplay _ _ (every-so (Within 18 22) OfReplay (λ r h. of-pair h) (interfaceFault gold gate) (real-interface gold gate))
+    (or-every OfReplay _ _ (every-so (Within 18 22) OfReplay (λ r h. of-pair h) (initialFault gold gate) (real-initial gold gate)) (if-every OfReplay 25 0 0 _ (of-claim refl)))
+
+-- two records that are refused with 1 to 15, if they are
 abbrev RealPair : ReadPair → Type 0
 RealPair (both gold gate) = Unit {0}
-RealPair (refusedPair r) = Real r
+RealPair (refusedPair r) = Within 1 15 r
 
 gate-real : (gold : Design) (r : Read) → RealRead r → RealPair (withGate gold r)
 unfolding withGate onGate
@@ -262,14 +303,28 @@ gate-real gold (refusedRecord r) h = record { low = h .low; high = h .high }
 gold-real : (r : Read) (b : List ℕ) → RealRead r → RealPair (withGold r b)
 unfolding withGold
 gold-real (parsed gold) b h = gate-real gold (readRecord b) (read-real b)
-gold-real (refusedRecord r) b h = h
+gold-real (refusedRecord r) b h = record { low = h .low; high = h .high }
 
-of-real : (p : ReadPair) (o : Options) (lent : Lent) → RealPair p → RealOption (checkRefusalOf p o lent)
+pair-real : (a b : List ℕ) → RealPair (readPair a b)
+unfolding readPair
+pair-real a b = gold-real (readRecord a) b (read-real a)
+
+of-real : (p : ReadPair) (o : Options) (lent : Lent) → RealPair p → Every (Within 1 24) (checkRefusalOf p o lent)
 unfolding checkRefusalOf
-of-real (refusedPair r) o lent h = h
+of-real (refusedPair r) o lent h = record { low = h .low; high = omega (arith, h .high) }
 of-real (both gold gate) o lent h = real-fault gold gate o lent
 
--- every refusal of a check
-pub check-real : (a b : List ℕ) (o : Options) (lent : Lent) (r : Refusal) → checkRefusal a b o lent ≡ some r → Real r
-unfolding checkRefusal readPair
-check-real a b o lent r e = subst RealOption e (of-real (withGold (readRecord a) b) o lent (gold-real (readRecord a) b (read-real a)))
+-- every refusal of a check has a number from 1 to 24
+pub check-within : (a b : List ℕ) (o : Options) (lent : Lent) (r : Refusal) → checkRefusal a b o lent ≡ some r → Within 1 24 r
+unfolding checkRefusal
+check-within a b o lent r e = subst (Every (Within 1 24)) e (of-real (readPair a b) o lent (pair-real a b))
+
+of-replay : (p : ReadPair) (cycle : ℕ) (claim : List ℕ) → RealPair p → Every OfReplay (replayRefusalOf p cycle claim)
+unfolding replayRefusalOf
+of-replay (refusedPair r) cycle claim h = of-record h
+of-replay (both gold gate) cycle claim h = real-replay gold gate cycle claim
+
+-- every refusal of a replay is one of its numbers
+pub replay-within : (a b : List ℕ) (cycle : ℕ) (claim : List ℕ) (r : Refusal) → replayRefusal a b cycle claim ≡ some r → OfReplay r
+unfolding replayRefusal
+replay-within a b cycle claim r e = subst (Every OfReplay) e (of-replay (readPair a b) cycle claim (pair-real a b))

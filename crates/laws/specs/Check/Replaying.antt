@@ -1,25 +1,28 @@
--- Replay's rule, of two records: yes exactly where the outputs agree in every earlier cycle and differ as marked; and that refusals 18 and 19 compare sets of names. Assumes nothing.
+-- Replay of two records: yes exactly where the outputs agree in every earlier cycle and differ as marked; refused exactly where a refusal applies; and that refusals 18 and 19 compare sets of names. Assumes nothing.
 use Prim.Native.Nat.{ℕ}
-use mathlib.Core.Path.{_≡_, sym, ap, subst, _∙_}
-use mathlib.Core.Logic.{_↔_}
+use native.Mathlib.Omega.{arith}
+use mathlib.Core.Path.{_≡_, refl, sym, ap, subst, _∙_}
+use mathlib.Core.Logic.{_≢_, _↔_}
 use mathlib.Core.Bool.{true, false, not}
 use mathlib.Core.List.{List}
-use mathlib.Core.Option.{none}
+use mathlib.Core.Option.{Option, none, some}
 use lib.ListN.{length}
 use borrow.Author.Tests.{not-false}
+use Rattle.model.specs.Answers.{Refusal, accepted}
 use Rattle.model.specs.Names.{Name, Place, memberName, sameNames, sort, namesOf}
 use Rattle.model.specs.Netlist.{Design, inputName, outputName, portsFrom, inputs, outputs}
 use Rattle.model.specs.Validate.{validate}
 use Rattle.model.specs.Run.{initialBits}
-use Rattle.model.specs.Pair.{both, readPair, inputsDiffer, outputsDiffer, interfaceFault, replayFault}
-use Rattle.model.specs.Replay.{replays, replayPair, replayRead, replay, claimInputs}
-use Rattle.laws.specs.Terms.{Yes}
+use Rattle.model.specs.Pair.{ReadPair, both, refusedPair, readPair, inputsDiffer, outputsDiffer, interfaceFault, replayFault}
+use Rattle.model.specs.Replay.{replays, refusedReplay, replayPair, replayRead, replay, claimInputs}
+use Rattle.laws.specs.Terms.{OfReplay, of-record, of-pair, of-claim, replayRefusalOf, replayRefusal, Yes}
 use Rattle.laws.specs.Names.Order.{Distinct, sort-increasing}
 use Rattle.laws.specs.Names.Sets.{SameSet, increasing-unique, inputs-distinct, outputs-distinct}
 use Rattle.laws.specs.Record.Accepted.{otherwise-none, refuseIf-none, accepted-parsed}
 use Rattle.laws.specs.Replay.{replays-yes}
 use Rattle.laws.specs.Induction.Chain.{output-length}
 use Rattle.laws.specs.Induction.Pairs.{readPair-both, same-names, names-refl}
+use Rattle.laws.specs.Check.Refusals.{replay-within}
 
 -- the output names of two designs that a replay does not refuse
 names-alike : (gold gate : Design) (cycle : ℕ) (claim : List ℕ) → replayFault gold gate cycle claim ≡ none → namesOf (outputs gold) ≡ namesOf (outputs gate)
@@ -39,6 +42,51 @@ replay-rule a b cycle claim gold gate r f =
     let w = replays-yes gold gate (initialBits gold) (initialBits gate) cycle claim
     (output-length gold (initialBits gold) (claimInputs gold claim) cycle ∙ ap length n ∙ sym (output-length gate (initialBits gate) (claimInputs gold claim) cycle)) in
     (λ h. w .0 (sym e ∙ h), λ y. e ∙ w .1 y)
+
+-- ---- refusals
+
+module _ (a b : List ℕ) (cycle : ℕ) (claim : List ℕ) where
+  -- a refused replay: the refusal's numbers, and no
+  replay-refused : (r : Refusal) → replayRefusal a b cycle claim ≡ some r → replay a b cycle claim ≡ record { refusal = r; yes = false }
+  unfolding replay replayRefusal replayRefusalOf replayRead replayPair refusedReplay
+  replay-refused r e = go (readPair a b) e
+    where
+      go : (p : ReadPair) → replayRefusalOf p cycle claim ≡ some r → replayRead p cycle claim ≡ record { refusal = r; yes = false }
+      go (refusedPair q) e = let f : q ≡ r = cc in rw f
+      go (both gold gate) e = rw e
+
+  -- one that is not refused: the three zeros
+  replay-accepted : replayRefusal a b cycle claim ≡ none → replay a b cycle claim .refusal ≡ accepted
+  unfolding replay replayRefusal replayRefusalOf replayRead replayPair
+  replay-accepted e = go (readPair a b) e
+    where
+      go : (p : ReadPair) → replayRefusalOf p cycle claim ≡ none → replayRead p cycle claim .refusal ≡ accepted
+      go (refusedPair q) e = absurd (let z : _≡_ {A = ℕ} 0 1 = cc in omega arith)
+      go (both gold gate) e = rw e
+
+  -- no refusal of a replay has number 0
+  replay-number : (r : Refusal) → OfReplay r → r .number ≢ 0
+  replay-number r (of-record h) e = omega (arith, h .low, e)
+  replay-number r (of-pair h) e = omega (arith, h .low, e)
+  replay-number r (of-claim h) e = omega (arith, h, e)
+
+  -- the replay is refused with r exactly where r is its first refusal
+  pub replay-refused-with : (r : Refusal) → (replayRefusal a b cycle claim ≡ some r) ↔ ((replay a b cycle claim ≡ record { refusal = r; yes = false }) × (r .number ≢ 0))
+  unfolding accepted
+  replay-refused-with r = (λ e. (replay-refused r e, replay-number r (replay-within a b cycle claim r e)), λ h. back (replayRefusal a b cycle claim) refl h)
+    where
+      back : (o : Option Refusal) → replayRefusal a b cycle claim ≡ o → (replay a b cycle claim ≡ record { refusal = r; yes = false }) × (r .number ≢ 0) → replayRefusal a b cycle claim ≡ some r
+      back (some q) e h = let f : q ≡ r = ap (λ x. x .refusal) (sym (replay-refused q e) ∙ h .0) in e ∙ ap some f
+      back none e h = absurd (h .1 (ap (λ x. x .number) (ap (λ x. x .refusal) (sym (h .0)) ∙ replay-accepted e)))
+
+  -- it answers number 0 exactly where none applies
+  pub replay-zero : (replay a b cycle claim .refusal .number ≡ 0) ↔ (replayRefusal a b cycle claim ≡ none)
+  unfolding accepted
+  replay-zero = (λ h. go (replayRefusal a b cycle claim) refl h, λ e. ap (λ x. x .number) (replay-accepted e))
+    where
+      go : (o : Option Refusal) → replayRefusal a b cycle claim ≡ o → replay a b cycle claim .refusal .number ≡ 0 → o ≡ none
+      go none e h = refl
+      go (some r) e h = absurd (replay-number r (replay-within a b cycle claim r e) (ap (λ x. x .refusal .number) (sym (replay-refused r e)) ∙ h))
 
 -- ---- 18 and 19
 
