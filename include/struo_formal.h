@@ -54,6 +54,10 @@ enum struo_refusal {
 #define STRUO_GOLD 0
 #define STRUO_GATE 1
 
+/* The stored bits that a begin and a step need: this many bytes, gold's from byte 0 on, gate's from byte STRUO_GATE_BITS on. */
+#define STRUO_BITS_LENGTH 256
+#define STRUO_GATE_BITS 128
+
 /* The work memory that a check needs: this many words of 32 bits (32 MiB), and this many doubles (512 KiB). */
 #define STRUO_WORDS_LENGTH 8388608
 #define STRUO_SCORES_LENGTH 65536
@@ -69,10 +73,12 @@ enum struo_refusal {
 
 /* How much of the stack each call takes at most, in bytes. No memory is allocated. */
 #define STRUO_READ_STACK 71000
-#define STRUO_CHECK_STACK 138000
-#define STRUO_REPLAY_STACK 145000
+#define STRUO_CHECK_STACK 143000
+#define STRUO_REPLAY_STACK 170000
+#define STRUO_BEGIN_STACK 145000
+#define STRUO_STEP_STACK 198000
 
-/* number: STRUO_ACCEPTED for an accepted record, else the refusal's number, 1 to 15.
+/* number: STRUO_ACCEPTED for an accepted record, else the refusal's number, 1 to 15 (of a begin also 18 to 22 and 24).
    side: 0. place: a byte offset for 3 to 6, a node number for 7, 8, 13 and 14, a register number for 9 to 12 and 15, else 0. */
 struct struo_read_answer {
     uint32_t number;
@@ -83,7 +89,7 @@ struct struo_read_answer {
 /* Reads one design record: accepted, or the first refusal in checking order. Nothing is written. */
 struct struo_read_answer struo_read(const uint8_t *record, size_t length);
 
-/* number, side and place: 0, or a refusal of 1 to 15, 18 to 22 or 25; side: 0 gold, 1 gate, and 0 where neither record alone is at fault;
+/* number, side and place: 0, or a refusal of 1 to 15, 18 to 22 or 25 (of a step also 24); side: 0 gold, 1 gate, and 0 where neither record alone is at fault;
    place as above, and for 22 a register number. yes: false where the replay is refused. */
 struct struo_replay_answer {
     uint32_t number;
@@ -97,6 +103,29 @@ struct struo_replay_answer {
    exactly the marked outputs, at least one. Nothing is written. */
 struct struo_replay_answer struo_replay(const uint8_t *gold, size_t gold_length, const uint8_t *gate, size_t gate_length,
                                         uint64_t cycle, const uint8_t *claim, size_t claim_length);
+
+/* A replay position that the caller keeps between calls, with the stored bits lent beside it: the next cycle, and whether the outputs agreed in every cycle
+   before it. */
+struct struo_position {
+    uint64_t cycle;
+    bool agreed;
+};
+
+/* Sets a position before cycle 0: cycle 0, agreed, and the initial bits of both sides. bits has the stored bit of gold's register j at byte j and of gate's
+   register j at byte STRUO_GATE_BITS + j, by register number; every other byte stays. Refusals in checking order: as struo_replay's, with 24 in the place of
+   25: bits_length is under STRUO_BITS_LENGTH. A refused begin changes nothing that is lent. */
+struct struo_read_answer struo_begin(const uint8_t *gold, size_t gold_length, const uint8_t *gate, size_t gate_length,
+                                     struct struo_position *position, uint8_t *bits, size_t bits_length);
+
+/* Moves a position on by one cycle of a claimed trace, which is as struo_replay takes it. Past the claimed cycle nothing changes and the answer is no. Up to
+   it one cycle is run from the stored bits lent, on the claim's inputs of the position's cycle: cycle is one more, agreed stays where no output differs,
+   and the bytes of both sides' registers are the next stored bits. The answer is no before the claimed cycle; at it yes exactly when the position lent had
+   agreed and the outputs differ in exactly the marked ones, at least one. From struo_begin on, the step at the claimed cycle answers as struo_replay.
+   Refusals in checking order: as struo_replay's, then 24 for bits_length under STRUO_BITS_LENGTH, then 25 for a byte of a register's stored bit that is neither
+   0 nor 1. A refused step changes nothing that is lent. Position and bits overlap neither each other nor the records and the claim. */
+struct struo_replay_answer struo_step(const uint8_t *gold, size_t gold_length, const uint8_t *gate, size_t gate_length,
+                                      uint64_t cycle, const uint8_t *claim, size_t claim_length,
+                                      struct struo_position *position, uint8_t *bits, size_t bits_length);
 
 /* What a check answers. number, side and place: 0, or a refusal of 1 to 24; side: 0 gold, 1 gate, and 0 where neither record alone is at fault;
    place as above. The other numbers are 0 where the check is refused.

@@ -33,6 +33,46 @@ static void replays(uint8_t input, uint8_t mark, bool yes) {
     }
 }
 
+/* A register q that takes Not of its own output, with reset 0; y shows it. */
+static const uint8_t toggle[45] = {0x01, 0x00, 0x00, 0x00, 0x2d, 0x01, 0x74, 0x00, 0x05, 0x00, 0x03, 0x63, 0x6c, 0x6b, 0x00,
+                                   0x03, 0x72, 0x73, 0x74, 0x02, 0x10, 0x00, 0x02, 0x11, 0x01, 0x79, 0x00, 0x02, 0x00, 0x01,
+                                   0x01, 0x71, 0x00, 0x02, 0x00, 0x03, 0x00, 0x00, 0x00, 0x00, 0x01, 0x00, 0x01, 0x00, 0x00};
+
+/* The bits of a position, and what is lent where no register's bit lies. */
+static uint8_t bits[STRUO_BITS_LENGTH + 1];
+
+static void lend(uint8_t gold, uint8_t gate) {
+    for (size_t i = 0; i < sizeof bits; i++) bits[i] = 7;
+    bits[0] = gold;
+    bits[STRUO_GATE_BITS] = gate;
+}
+
+/* Whether a call answered this, and left this position and these bits. */
+static void left(const char *what, bool answered, struct struo_position position, uint64_t cycle, bool agreed, uint8_t gold, uint8_t gate) {
+    bool same = answered && position.cycle == cycle && position.agreed == agreed;
+    for (size_t i = 0; i < sizeof bits; i++) same = same && bits[i] == (i == 0 ? gold : i == STRUO_GATE_BITS ? gate : 7);
+    if (!same) {
+        printf("boundary: %s: the answer, the position or a byte lent is not as expected\n", what);
+        failed = 1;
+    }
+}
+
+/* A begin on the toggle against itself, with so many bytes lent. */
+static void begins(size_t length, uint32_t number, uint64_t cycle, bool agreed, uint8_t bit) {
+    struct struo_position position = {9, false};
+    lend(7, 7);
+    struct struo_read_answer answer = struo_begin(toggle, sizeof toggle, toggle, sizeof toggle, &position, bits, length);
+    left("begin", answer.number == number && answer.side == 0 && answer.place == 0, position, cycle, agreed, bit, bit);
+}
+
+/* A step on the toggle against itself, claimed to differ in cycle 1. */
+static void steps(const char *what, struct struo_position position, uint8_t gold, uint8_t gate, size_t length, uint32_t number, bool yes, uint64_t cycle, bool agreed, uint8_t gold_after, uint8_t gate_after) {
+    static const uint8_t claim[5] = {0, 0, 0, 0, 1};
+    lend(gold, gate);
+    struct struo_replay_answer answer = struo_step(toggle, sizeof toggle, toggle, sizeof toggle, 1, claim, sizeof claim, &position, bits, length);
+    left(what, answer.number == number && answer.side == 0 && answer.place == 0 && answer.yes == yes, position, cycle, agreed, gold_after, gate_after);
+}
+
 /* The memory of a check, and what it holds before each. */
 static uint32_t words[STRUO_WORDS_LENGTH];
 static double scores[STRUO_SCORES_LENGTH];
@@ -77,6 +117,16 @@ static void *replaying(void *none) {
     return none;
 }
 
+static void *beginning(void *none) {
+    begins(STRUO_BITS_LENGTH, STRUO_ACCEPTED, 0, true, 0);
+    return none;
+}
+
+static void *stepping(void *none) {
+    steps("a step on a small stack", (struct struo_position){0, true}, 0, 0, STRUO_BITS_LENGTH, STRUO_ACCEPTED, false, 1, true, 1, 1);
+    return none;
+}
+
 static void *checking(void *none) {
     checks("wire on a small stack", wire, sizeof wire, 64, STRUO_WORDS_LENGTH, (struct struo_check_answer){.status = STRUO_EQUIVALENT, .depth = 1}, 0);
     return none;
@@ -115,6 +165,14 @@ int main(void) {
         printf("boundary: a claim of cycle 65 is not refused with 25\n");
         failed = 1;
     }
+    begins(STRUO_BITS_LENGTH, STRUO_ACCEPTED, 0, true, 0);
+    begins(STRUO_BITS_LENGTH - 1, STRUO_REFUSAL_MEMORY, 9, false, 7);
+    steps("before the claimed cycle", (struct struo_position){0, true}, 0, 0, sizeof bits, STRUO_ACCEPTED, false, 1, true, 1, 1);
+    steps("at it, nothing differs", (struct struo_position){1, true}, 1, 1, sizeof bits, STRUO_ACCEPTED, false, 2, true, 0, 0);
+    steps("at it, y differs", (struct struo_position){1, true}, 0, 1, sizeof bits, STRUO_ACCEPTED, true, 2, false, 1, 0);
+    steps("past it", (struct struo_position){UINT64_MAX, true}, 0, 1, sizeof bits, STRUO_ACCEPTED, false, UINT64_MAX, true, 0, 1);
+    steps("bits short", (struct struo_position){1, true}, 0, 1, STRUO_BITS_LENGTH - 1, STRUO_REFUSAL_MEMORY, false, 1, true, 0, 1);
+    steps("a stored bit 2", (struct struo_position){1, true}, 0, 2, sizeof bits, STRUO_REFUSAL_CLAIM, false, 1, true, 0, 2);
     checks("wire against inverter", inverter, sizeof inverter, 1, STRUO_WORDS_LENGTH, (struct struo_check_answer){.status = STRUO_NOT_EQUIVALENT, .depth = 1}, STRUO_TRACE_LENGTH(0, 1, 1));
     checks("wire against itself", wire, sizeof wire, 64, STRUO_WORDS_LENGTH, (struct struo_check_answer){.status = STRUO_EQUIVALENT, .depth = 1}, 0);
     checks("depth 0", wire, sizeof wire, 0, STRUO_WORDS_LENGTH, (struct struo_check_answer){.number = STRUO_REFUSAL_ZERO_DEPTH}, 0);
@@ -122,6 +180,8 @@ int main(void) {
     checks("a word short", inverter, sizeof inverter, 1, STRUO_WORDS_LENGTH - 1, (struct struo_check_answer){.number = STRUO_REFUSAL_MEMORY}, 0);
     on_stack(reading, STRUO_READ_STACK);
     on_stack(replaying, STRUO_REPLAY_STACK);
+    on_stack(beginning, STRUO_BEGIN_STACK);
+    on_stack(stepping, STRUO_STEP_STACK);
     on_stack(checking, STRUO_CHECK_STACK);
     if (!failed) printf("boundary: the C calls answer as specified\n");
     return failed;

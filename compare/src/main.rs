@@ -1,4 +1,4 @@
-//! Compares the library with the oracle: `compare read COUNT SEED`, `replay COUNT SEED`, `check COUNT SEED`, `solve COUNT SEED`, `build COUNT SEED`;
+//! Compares the library with the oracle: `compare read COUNT SEED`, `replay COUNT SEED`, `step COUNT SEED`, `check COUNT SEED`, `solve COUNT SEED`, `build COUNT SEED`;
 //! measures both: `bench SEED`, `bench-check SEED`, `bench-solve SEED`, `bench-build SEED`.
 use std::process::ExitCode;
 
@@ -12,6 +12,7 @@ mod lent;
 mod reads;
 mod replays;
 mod solve;
+mod steps;
 
 fn number(word: Option<&String>) -> u64 {
     word.and_then(|word| word.parse().ok()).unwrap_or(1)
@@ -31,6 +32,7 @@ fn main() -> ExitCode {
             println!("{} replays, {} yes, {} refused, {} differ", tally.calls, tally.yes, tally.refused, tally.differ);
             ExitCode::from(u8::from(tally.differ > 0))
         }
+        Some("step") => steps::compare(number(words.get(2)), number(words.get(3))),
         Some("check") => checks::compare(number(words.get(2)), number(words.get(3))),
         Some("solve") => solve::compare(number(words.get(2)), number(words.get(3))),
         Some("build") => bench_build::compare(number(words.get(2)), number(words.get(3))),
@@ -42,7 +44,7 @@ fn main() -> ExitCode {
         }
         Some("bench-check") => bench_check::checks(number(words.get(2))),
         _ => {
-            println!("compare read COUNT SEED | replay COUNT SEED | check COUNT SEED | solve COUNT SEED | build COUNT SEED | bench SEED | bench-check SEED | bench-solve SEED | bench-build SEED");
+            println!("compare read COUNT SEED | replay COUNT SEED | step COUNT SEED | check COUNT SEED | solve COUNT SEED | build COUNT SEED | bench SEED | bench-check SEED | bench-solve SEED | bench-build SEED");
             ExitCode::from(2)
         }
     }

@@ -18,4 +18,5 @@ pub mod rng;
 pub mod run;
 pub mod shapes;
 pub mod solving;
+pub mod steps;
 pub mod vectors;

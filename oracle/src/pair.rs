@@ -1,6 +1,7 @@
 //! The refusals of a pair: 16 to 25.
 use crate::bridge;
 use crate::record::{read, Design, Name, Node, Refusal};
+use crate::steps::{BITS, GATE_BITS};
 
 /// The lengths of a check's lent buffers.
 #[derive(Clone, Copy, Debug, Eq, PartialEq)]
@@ -111,4 +112,22 @@ pub fn replay_refusal(gold: &Design, gate: &Design, cycle: u64, claim: &[u8]) ->
         return refused(25, 0, 0);
     }
     Ok(())
+}
+
+/// Refusals 18 to 22 and 24 of a begin.
+pub fn begin_refusal(gold: &Design, gate: &Design, bits: &[u8]) -> Result<(), Refusal> {
+    let own = interfaces(gold, gate);
+    bridge::agree_pair(gold, gate, 1, own.err());
+    own?;
+    if bits.len() < BITS { refused(24, 0, 0) } else { Ok(()) }
+}
+
+/// Refusals of a step: those of a replay, then 24 and 25 of the lent bits.
+pub fn step_refusal(gold: &Design, gate: &Design, cycle: u64, claim: &[u8], bits: &[u8]) -> Result<(), Refusal> {
+    replay_refusal(gold, gate, cycle, claim)?;
+    if bits.len() < BITS {
+        return refused(24, 0, 0);
+    }
+    let read = bits[..gold.registers.len()].iter().chain(&bits[GATE_BITS..GATE_BITS + gate.registers.len()]);
+    if read.into_iter().any(|byte| *byte > 1) { refused(25, 0, 0) } else { Ok(()) }
 }

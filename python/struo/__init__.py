@@ -1,7 +1,7 @@
 """The checker's calls for Python: typed functions over the proved library, which alone decides."""
 from __future__ import annotations
 
-from .answers import CheckAnswer, ReadAnswer, Refusal, ReplayAnswer, Side, Status
+from .answers import BeginAnswer, CheckAnswer, Position, ReadAnswer, Refusal, ReplayAnswer, Side, Status, StepAnswer
 from .explain import Question, explain
 from .library import Library, LibraryMissing, Memory, open_library
 from .record import Design, decode, encode
@@ -10,8 +10,8 @@ from .version import VERSION
 __version__ = VERSION
 
 __all__ = [
-    "CheckAnswer", "Design", "Library", "LibraryMissing", "Memory", "Question", "ReadAnswer", "Refusal", "ReplayAnswer", "Side", "Status",
-    "check", "decode", "encode", "explain", "open_library", "read", "replay",
+    "BeginAnswer", "CheckAnswer", "Design", "Library", "LibraryMissing", "Memory", "Position", "Question", "ReadAnswer", "Refusal", "ReplayAnswer", "Side",
+    "Status", "StepAnswer", "begin", "check", "decode", "encode", "explain", "open_library", "read", "replay", "step",
 ]
 
 
@@ -28,3 +28,13 @@ def check(gold: bytes, gate: bytes, depth: int = 8) -> CheckAnswer:
 def replay(gold: bytes, gate: bytes, cycle: int, claim: bytes) -> ReplayAnswer:
     """Replays a claimed trace: yes exactly when it shows a difference, in the claimed cycle and outputs."""
     return open_library().replay(gold, gate, cycle, claim)
+
+
+def begin(gold: bytes, gate: bytes, position: Position = Position()) -> BeginAnswer:
+    """Sets a replay position before cycle 0: the initial bits of both sides."""
+    return open_library().begin(gold, gate, position)
+
+
+def step(gold: bytes, gate: bytes, cycle: int, claim: bytes, position: Position) -> StepAnswer:
+    """Moves a replay position on by one cycle of a claimed trace; from begin on, the step at the claimed cycle answers as replay."""
+    return open_library().step(gold, gate, cycle, claim, position)

@@ -62,6 +62,32 @@ class ReplayAnswer:
 
 
 @dataclass(frozen=True)
+class Position:
+    """A replay position with the stored bits of both sides: gold's by register number from byte 0 on, gate's from byte 128 on."""
+
+    cycle: int = 0
+    agreed: bool = True
+    bits: bytes = bytes(256)
+
+
+@dataclass(frozen=True)
+class BeginAnswer:
+    """What a begin answers, and the position after it: the one lent where it is refused."""
+
+    refusal: Optional[Refusal]
+    position: Position
+
+
+@dataclass(frozen=True)
+class StepAnswer:
+    """What a step answers, and the position after it; `yes` is false where it is refused."""
+
+    refusal: Optional[Refusal]
+    yes: bool
+    position: Position
+
+
+@dataclass(frozen=True)
 class CheckAnswer:
     """What a check answers; `trace` holds the bytes that were written for NotEquivalent, a claim that a replay takes."""
 

@@ -7,7 +7,7 @@ from functools import lru_cache
 from pathlib import Path
 from typing import Optional
 
-from .answers import CheckAnswer, ReadAnswer, Refusal, ReplayAnswer, Side, Status
+from .answers import BeginAnswer, CheckAnswer, Position, ReadAnswer, Refusal, ReplayAnswer, Side, Status, StepAnswer
 from .build import LibraryMissing, built_library
 
 __all__ = ["Library", "LibraryMissing", "Memory", "open_library"]
@@ -42,6 +42,28 @@ class _Check(ctypes.Structure):
     _fields_ = [*_Read._fields_, *((name, ctypes.c_uint32) for name in ("status", "depth", "mismatch", "query"))]
 
 
+class _Position(ctypes.Structure):
+    """struct struo_position."""
+
+    _fields_ = [("cycle", ctypes.c_uint64), ("agreed", ctypes.c_bool)]
+
+
+class _Lent:
+    """A position lent to a call, and its bits."""
+
+    def __init__(self, position: Position):
+        self.position = _Position(_number(position.cycle), position.agreed)
+        self.bits = (ctypes.c_uint8 * len(position.bits)).from_buffer_copy(position.bits) if position.bits else (ctypes.c_uint8 * 0)()
+
+    def arguments(self) -> list:
+        """What the boundary takes."""
+        return [ctypes.byref(self.position), ctypes.addressof(self.bits), len(self.bits)]
+
+    def after(self) -> Position:
+        """The position after the call."""
+        return Position(self.position.cycle, self.position.agreed, bytes(self.bits))
+
+
 class Memory:
     """What is lent to a check: enough for every pair, unless other lengths are asked for."""
 
@@ -72,9 +94,12 @@ class Library:
         self._calls = ctypes.CDLL(os.fspath(path.resolve()))
         self._memory: Optional[Memory] = None
         data = [ctypes.c_char_p, ctypes.c_size_t]
+        lent = [ctypes.POINTER(_Position), ctypes.c_void_p, ctypes.c_size_t]
         for name, arguments, answer in (
             ("struo_read", data, _Read),
             ("struo_replay", [*data, *data, ctypes.c_uint64, *data], _Replay),
+            ("struo_begin", [*data, *data, *lent], _Read),
+            ("struo_step", [*data, *data, ctypes.c_uint64, *data, *lent], _Replay),
             ("struo_check", [*data, *data, ctypes.c_uint64, *[ctypes.c_void_p, ctypes.c_size_t] * 3], _Check),
         ):
             call = getattr(self._calls, name)
@@ -88,6 +113,18 @@ class Library:
         """Replays a claimed trace: a refusal of 1 to 15, 18 to 22 or 25, or yes or no."""
         answer = self._calls.struo_replay(gold, len(gold), gate, len(gate), _number(cycle), claim, len(claim))
         return ReplayAnswer(_refusal(answer), bool(answer.yes))
+
+    def begin(self, gold: bytes, gate: bytes, position: Position = Position()) -> BeginAnswer:
+        """Sets a position before cycle 0: a refusal of 1 to 15, 18 to 22 or 24, or the position with the initial bits."""
+        lent = _Lent(position)
+        answer = self._calls.struo_begin(gold, len(gold), gate, len(gate), *lent.arguments())
+        return BeginAnswer(_refusal(answer), lent.after())
+
+    def step(self, gold: bytes, gate: bytes, cycle: int, claim: bytes, position: Position) -> StepAnswer:
+        """Moves a position on by one cycle of a claimed trace: a refusal of 1 to 15, 18 to 22, 24 or 25, or yes or no and the next position."""
+        lent = _Lent(position)
+        answer = self._calls.struo_step(gold, len(gold), gate, len(gate), _number(cycle), claim, len(claim), *lent.arguments())
+        return StepAnswer(_refusal(answer), bool(answer.yes), lent.after())
 
     def check(self, gold: bytes, gate: bytes, depth: int, memory: Optional[Memory] = None) -> CheckAnswer:
         """Checks a pair to a maximum depth: a refusal of 1 to 24, or a verdict."""

@@ -18,7 +18,8 @@ class Row:
 
 
 # Which calls give a refusal.
-ALL, PAIR, CHECK, REPLAY = "read, check, replay", "check, replay", "check", "replay"
+ALL, PAIR, CHECK = "read, check, replay, begin, step", "check, replay, begin, step", "check"
+LENT, CLAIMED = "check, begin, step", "replay, step"
 
 # Whose side is named, and what the place is.
 RECORD, NEITHER, ITS = "the record's", "0", "the side at fault"
@@ -49,9 +50,9 @@ TABLE: Tuple[Row, ...] = (
     Row(21, "ClockDomain", PAIR, "clock name or edge differ between the sides, or only one side has registers", NEITHER, NONE),
     Row(22, "UnknownInitialState", PAIR, "a register has no reset; gold by name, then gate", ITS, REGISTER),
     Row(23, "TooLarge", CHECK, "(D+1)×F + R is over 65,535, where F = I + 3×N + 10×R + 4×O + 1", NEITHER, NONE),
-    Row(24, "Memory", CHECK,
-        "the trace buffer is under (D+1)×I + O bytes, or the work memory is under 8,388,608 words of 32 bits or under 65,536 f64", NEITHER, NONE),
-    Row(25, "Claim", REPLAY, "the cycle is over 64, the claim's length is not (cycle+1)×I + O, or a byte of it is neither 0 nor 1", NEITHER, NONE),
+    Row(24, "Memory", LENT,
+        "the trace buffer is under (D+1)×I + O bytes, or the work memory is under 8,388,608 words of 32 bits or under 65,536 f64; of a begin or a step, the bits are under 256 bytes", NEITHER, NONE),
+    Row(25, "Claim", CLAIMED, "the cycle is over 64, the claim's length is not (cycle+1)×I + O, or a byte of it is neither 0 nor 1; of a step, also a register's stored bit", NEITHER, NONE),
 )
 
 BY_NUMBER: Dict[int, Row] = {row.number: row for row in TABLE}

@@ -241,6 +241,8 @@ class Table(unittest.TestCase):
             self.assertEqual("read" in calls[number], number <= 15)
             self.assertEqual("check" in calls[number], number <= 24)
             self.assertEqual("replay" in calls[number], number <= 15 or 18 <= number <= 22 or number == 25)
+            self.assertEqual("begin" in calls[number], number <= 15 or 18 <= number <= 22 or number == 24)
+            self.assertEqual("step" in calls[number], number <= 15 or 18 <= number <= 22 or number >= 24)
 
     def test_the_specification_has_the_same_rows(self):
         path = ROOT / "docs" / "SPECIFICATION.md"
@@ -262,7 +264,7 @@ class Table(unittest.TestCase):
     def test_the_table_as_the_documents_have_it(self):
         lines = markdown().splitlines()
         self.assertEqual(len(lines), 27)
-        self.assertTrue(lines[2].startswith("| 1 | Length | read, check, replay | "))
+        self.assertTrue(lines[2].startswith("| 1 | Length | read, check, replay, begin, step | "))
 
 
 if __name__ == "__main__":

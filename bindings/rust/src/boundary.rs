@@ -50,6 +50,16 @@ impl ReplayAnswer {
     }
 }
 
+/// A replay position that is lent to a begin or a step; the stored bits of both sides are lent beside it.
+#[repr(C)]
+#[derive(Clone, Copy, Debug, Default, Eq, PartialEq)]
+pub struct Position {
+    /// The next cycle.
+    pub cycle: u64,
+    /// Whether the outputs agreed in every cycle before it.
+    pub agreed: bool,
+}
+
 /// What a check answers; unused numbers are 0.
 #[repr(C)]
 #[derive(Clone, Copy, Debug, Default, Eq, PartialEq)]
@@ -98,6 +108,27 @@ extern "C" {
         cycle: u64,
         claim: *const u8,
         claim_length: usize,
+    ) -> ReplayAnswer;
+    pub(crate) fn struo_begin(
+        gold: *const u8,
+        gold_length: usize,
+        gate: *const u8,
+        gate_length: usize,
+        position: *mut Position,
+        bits: *mut u8,
+        bits_length: usize,
+    ) -> ReadAnswer;
+    pub(crate) fn struo_step(
+        gold: *const u8,
+        gold_length: usize,
+        gate: *const u8,
+        gate_length: usize,
+        cycle: u64,
+        claim: *const u8,
+        claim_length: usize,
+        position: *mut Position,
+        bits: *mut u8,
+        bits_length: usize,
     ) -> ReplayAnswer;
     pub(crate) fn struo_check(
         gold: *const u8,

@@ -28,7 +28,7 @@ mod checker;
 mod refusal;
 mod status;
 
-pub use boundary::{CheckAnswer, ReadAnswer, ReplayAnswer};
+pub use boundary::{CheckAnswer, Position, ReadAnswer, ReplayAnswer};
 pub use checker::{Checker, Difference, Verdict};
 pub use refusal::{Refusal, Refused, Side};
 pub use status::Status;
@@ -42,14 +42,24 @@ pub const SCORES: usize = 65_536;
 /// A trace of this length is enough for every pair: 64 inputs in each of 65 cycles, and 64 outputs.
 pub const TRACE: usize = 65 * 64 + 64;
 
+/// How many bytes of stored bits a begin and a step need, and the byte where gate's begin.
+pub const BITS: usize = 256;
+pub const GATE_BITS: usize = 128;
+
 /// How many bytes of stack a read takes at most.
 pub const READ_STACK: usize = 71_000;
 
 /// How many bytes of stack a check takes at most.
-pub const CHECK_STACK: usize = 138_000;
+pub const CHECK_STACK: usize = 143_000;
 
 /// How many bytes of stack a replay takes at most.
-pub const REPLAY_STACK: usize = 145_000;
+pub const REPLAY_STACK: usize = 170_000;
+
+/// How many bytes of stack a begin takes at most.
+pub const BEGIN_STACK: usize = 145_000;
+
+/// How many bytes of stack a step takes at most.
+pub const STEP_STACK: usize = 198_000;
 
 /// Reads a design record: accepted, or the first refusal of 1 to 15 with its place.
 pub fn read(record: &[u8]) -> ReadAnswer {
@@ -83,6 +93,34 @@ pub fn check(gold: &[u8], gate: &[u8], depth: u64, trace: &mut [u8], words: &mut
 pub fn replay(gold: &[u8], gate: &[u8], cycle: u64, claim: &[u8]) -> ReplayAnswer {
     // The library reads as many bytes as the lengths say.
     unsafe { boundary::struo_replay(gold.as_ptr(), gold.len(), gate.as_ptr(), gate.len(), cycle, claim.as_ptr(), claim.len()) }
+}
+
+/// Sets a lent position before cycle 0: a refusal of 1 to 15, 18 to 22 or 24, which changes nothing, or accepted. Gold's initial bits are written from byte
+/// 0 on and gate's from byte 128 on, by register number; every other byte stays.
+pub fn begin(gold: &[u8], gate: &[u8], position: &mut Position, bits: &mut [u8]) -> ReadAnswer {
+    // The library reads the records and writes the position and the bits, as far as the lengths say; the borrows keep them apart.
+    unsafe { boundary::struo_begin(gold.as_ptr(), gold.len(), gate.as_ptr(), gate.len(), position, bits.as_mut_ptr(), bits.len()) }
+}
+
+/// Moves a lent position on by one cycle of a claimed trace: a refusal of 1 to 15, 18 to 22, 24 or 25, which changes nothing, or yes or no. Past the claimed
+/// cycle nothing changes and the answer is no; before it the answer is no; at it yes exactly when the position says that the outputs agreed so far and in this
+/// cycle they differ in exactly the marked ones, at least one.
+pub fn step(gold: &[u8], gate: &[u8], cycle: u64, claim: &[u8], position: &mut Position, bits: &mut [u8]) -> ReplayAnswer {
+    // As for a begin.
+    unsafe {
+        boundary::struo_step(
+            gold.as_ptr(),
+            gold.len(),
+            gate.as_ptr(),
+            gate.len(),
+            cycle,
+            claim.as_ptr(),
+            claim.len(),
+            position,
+            bits.as_mut_ptr(),
+            bits.len(),
+        )
+    }
 }
 
 #[cfg(test)]
@@ -157,6 +195,43 @@ mod tests {
         }
         let refused = checker.check(WIRE, &WIRE[..5], 1).unwrap_err();
         assert_eq!(refused, Refused { refusal: Refusal::Length, side: Side::Gate, place: 0 });
+    }
+
+    /// A register q that takes Not of its own output, reset 0; y shows it.
+    const TOGGLE: &[u8] = b"\x01\0\0\0\x2d\x01t\0\x05\0\x03clk\0\x03rst\x02\x10\0\x02\x11\x01y\0\x02\0\x01\x01q\0\x02\0\x03\0\0\0\0\x01\0\x01\0\0";
+
+    #[test]
+    fn a_position_is_stepped_to_the_claimed_cycle() {
+        let claim = [0, 0, 0, 0, 1];
+        let mut position = Position { cycle: 9, agreed: false };
+        let mut bits = vec![7; BITS + 1];
+        assert_eq!(begin(TOGGLE, TOGGLE, &mut position, &mut bits), ReadAnswer::default());
+        assert_eq!(position, Position { cycle: 0, agreed: true });
+        assert!((bits[0], bits[1], bits[GATE_BITS], bits[BITS]) == (0, 7, 0, 7));
+        for (cycle, bit) in [(1, 1), (2, 0), (2, 0)] {
+            assert_eq!(step(TOGGLE, TOGGLE, 1, &claim, &mut position, &mut bits), ReplayAnswer::default());
+            assert_eq!(position, Position { cycle, agreed: true });
+            assert!((bits[0], bits[1], bits[GATE_BITS], bits[BITS]) == (bit, 7, bit, 7));
+        }
+        // A position of one's own: q at 0, the other at 1.
+        (position, bits[GATE_BITS]) = (Position { cycle: 1, agreed: true }, 1);
+        assert!(step(TOGGLE, TOGGLE, 1, &claim, &mut position, &mut bits).yes);
+        assert_eq!((position, bits[0], bits[GATE_BITS]), (Position { cycle: 2, agreed: false }, 1, 0));
+    }
+
+    #[test]
+    fn a_refused_step_changes_nothing() {
+        let lent = Position { cycle: 1, agreed: true };
+        for (claim, length, first, number) in [([0, 0, 0, 0, 1], 255, 0, 24), ([0, 0, 0, 0, 2], 255, 0, 25), ([0, 0, 0, 0, 1], 256, 2, 25)] {
+            let (mut position, mut bits) = (lent, vec![0; length]);
+            bits[0] = first;
+            let before = bits.clone();
+            assert_eq!(step(TOGGLE, TOGGLE, 1, &claim, &mut position, &mut bits), ReplayAnswer { number, ..ReplayAnswer::default() });
+            assert!(position == lent && bits == before);
+        }
+        let (mut position, mut bits) = (lent, vec![7; 255]);
+        assert_eq!(begin(TOGGLE, TOGGLE, &mut position, &mut bits), ReadAnswer { number: 24, ..ReadAnswer::default() });
+        assert!(position == lent && bits == [7; 255]);
     }
 
     #[test]

@@ -52,9 +52,9 @@ pub enum Refusal {
     UnknownInitialState = 22,
     /// (D+1)×F + R is over 65,535, where F = I + 3×N + 10×R + 4×O + 1.
     TooLarge = 23,
-    /// The trace buffer is under (D+1)×I + O bytes, or the work memory is under 8,388,608 words of 32 bits or under 65,536 f64.
+    /// The trace buffer is under (D+1)×I + O bytes, or the work memory is under 8,388,608 words of 32 bits or under 65,536 f64; of a begin or a step, the bits are under 256 bytes.
     Memory = 24,
-    /// The cycle is over 64, the claim's length is not (cycle+1)×I + O, or a byte of it is neither 0 nor 1.
+    /// The cycle is over 64, the claim's length is not (cycle+1)×I + O, or a byte of it is neither 0 nor 1; of a step, also a register's stored bit.
     Claim = 25,
 }
 
@@ -121,8 +121,8 @@ impl Refusal {
             Self::ClockDomain => "clock name or edge differ between the sides, or only one side has registers",
             Self::UnknownInitialState => "a register has no reset; gold by name, then gate",
             Self::TooLarge => "(D+1)×F + R is over 65,535, where F = I + 3×N + 10×R + 4×O + 1",
-            Self::Memory => "the trace buffer is under (D+1)×I + O bytes, or the work memory is under 8,388,608 words of 32 bits or under 65,536 f64",
-            Self::Claim => "the cycle is over 64, the claim's length is not (cycle+1)×I + O, or a byte of it is neither 0 nor 1",
+            Self::Memory => "the trace buffer is under (D+1)×I + O bytes, or the work memory is under 8,388,608 words of 32 bits or under 65,536 f64; of a begin or a step, the bits are under 256 bytes",
+            Self::Claim => "the cycle is over 64, the claim's length is not (cycle+1)×I + O, or a byte of it is neither 0 nor 1; of a step, also a register's stored bit",
         }
     }
 }

@@ -1,5 +1,5 @@
--- What is promised of the check, of replay and of read, on one page and with nothing assumed. Every word here is of `model`, or of `Terms`, which adds a few definitions over `model` alone. `checked` is the definition of the check of two records under a caller's options (maximum depth and limit of learned literals), as a refusal or a status and a depth; `check` is the call, to a depth D under the specification's limit 262,144, with every number and every lent byte; `checkDesigns` is the check of two designs, each from its own start bits. Assumes nothing.
-use Prim.Native.Nat.{ℕ, _≤_, _<_}
+-- What is promised of the check, of replay, of the stepping call and of read, on one page and with nothing assumed. Every word here is of `model`, or of `Terms` and `StepTerms`, which add a few definitions over `model` alone. `checked` is the definition of the check of two records under a caller's options (maximum depth and limit of learned literals), as a refusal or a status and a depth; `check` is the call, to a depth D under the specification's limit 262,144, with every number and every lent byte; `checkDesigns` is the check of two designs, each from its own start bits. Assumes nothing.
+use Prim.Native.Nat.{ℕ, suc, _≤_, _<_}
 use mathlib.Core.Path.{_≡_}
 use mathlib.Core.Logic.{_≢_, _⊎_, _↔_}
 use mathlib.Core.Bool.{Bool, true, false}
@@ -13,9 +13,10 @@ use Rattle.model.specs.Names.{Name, memberName, namesOf}
 use Rattle.model.specs.Netlist.{Design, inputs, outputs}
 use Rattle.model.specs.Record.{parsed, parse}
 use Rattle.model.specs.Validate.{validate, read}
-use Rattle.model.specs.Run.{StoredBits, initialBits}
+use Rattle.model.specs.Run.{StoredBits, InputSequence, initialBits}
 use Rattle.model.specs.Pair.{Lent, both, readPair, inputsDiffer, outputsDiffer, proofNodes, checkRefusal, replayFault}
-use Rattle.model.specs.Replay.{replays, replay, stepsReplay}
+use Rattle.model.specs.Replay.{claimInputs, differAt, agreeBefore, replays, replay, stepsReplay}
+use Rattle.model.specs.Stepping.{LentPosition, stepFault, begin, step}
 use Rattle.model.specs.Induction.{Query1, Says, Begun, initially, SameOutputs, Chain, answered, Refuses, Sound, Checked, Joined, SwapLaw, ChainLaw, SelfLaw}
 use Rattle.model.specs.Literal.{Literal}
 use Rattle.model.specs.Aig.{Aig, evaluate, aigNodeValues}
@@ -25,6 +26,7 @@ use Rattle.model.specs.Equivalence as Search
 use Rattle.model.specs.Check.{problemOf, checkDesigns, acceptedCheck, checkOutcome, checkResult, lentOf, check, checked}
 use Rattle.laws.specs.Search.Limits.{give-up-needed}
 use Rattle.laws.specs.Terms.{Within, OfRecord, OfReplay, replayRefusal, RefusedWith, UnusedZero, Called, TraceLeft, CalledEquivalent, Comparable, checkedDesigns, LargerLimit, Linked, JoinedDesigns, TraceGood, Yes, Settled, answerTotal, literalCount, Reached, GivesUp, QueryOf, Asks, StopsAt}
+use Rattle.laws.specs.StepTerms.{beginRefusal, stepRefusal, afterBegin, stepAnswer, afterSteps, runPosition, heldAt, movedFrom, BytesKept, SameBits}
 use Rattle.laws.specs.Induction.Chain.{chain-outputs}
 use Rattle.laws.specs.Induction.Pairs.{comparable}
 use Rattle.laws.specs.Check.Call.{check-refuses, outcome-is, check-refused, check-cleared}
@@ -35,7 +37,8 @@ use Rattle.laws.specs.Check.Ending.{designs-answer, check-answers}
 use Rattle.laws.specs.Check.LargerLimit.{designs-larger, check-larger, result-larger}
 use Rattle.laws.specs.Check.Refusals.{check-within, replay-within}
 use Rattle.laws.specs.Check.Reading.{read-zero, read-answers, gold-refused, gate-refused}
-use Rattle.laws.specs.Replay.{steps-replay}
+use Rattle.laws.specs.Replay.{steps-replay, agree-every, every-agree}
+use Rattle.laws.specs.Stepping.{begin-zero, step-zero, begin-refuses, step-refuses, steps-run, steps-no, steps-answer, step-past, step-runs, begin-kept, step-kept, step-alike}
 use Rattle.laws.specs.Check.Replaying.{replay-rule, replay-refused-with, replay-zero, inputs-compared, outputs-compared}
 use Rattle.laws.specs.Check.Queries.{query-ends, query-refutes, query-evaluates, query-gives-up, query-total, no-model-no, model-yes, query-size, query-fits}
 use Rattle.laws.specs.Check.GiveUp.{designs-give-up, call-gives-up}
@@ -312,6 +315,75 @@ steps-are-replay = steps-replay
 pub graphs-fit : (a b : List ℕ) (o : Options) (lent : Lent) (gold gate : Design) → checkRefusal a b o lent ≡ none → readPair a b ≡ both gold gate
     → (s t : StoredBits) (d k : ℕ) (q : Query) → QueryOf (problemOf gold gate s t) d k q → d ≤ o .depth → length (q .aig) ≤ 65535
 graphs-fit = query-fits
+
+-- ==== the stepping call: a replay position that the caller lends, with the stored bits of both sides
+
+-- a begin answers number 0 exactly where none of its refusals applies
+pub begin-number-zero-exactly : (a b : List ℕ) (p : LentPosition) (bits : List ℕ) → (begin a b p bits .answer .number ≡ 0) ↔ (beginRefusal a b bits ≡ none)
+begin-number-zero-exactly = begin-zero
+
+-- and a step exactly where none of its own applies
+pub step-number-zero-exactly : (a b : List ℕ) (cycle : ℕ) (claim : List ℕ) (p : LentPosition) (bits : List ℕ)
+    → (step a b cycle claim p bits .answer .refusal .number ≡ 0) ↔ (stepRefusal a b cycle claim bits ≡ none)
+step-number-zero-exactly = step-zero
+
+-- a refused begin: the first refusal of its list, and position and bits as they were
+pub refused-begin-leaves-all : (a b : List ℕ) (p : LentPosition) (bits : List ℕ) (r : Refusal) → beginRefusal a b bits ≡ some r
+    → begin a b p bits ≡ record { answer = r; position = p; bits = bits }
+refused-begin-leaves-all = begin-refuses
+
+-- a refused step: the same, and the answer no
+pub refused-step-leaves-all : (a b : List ℕ) (cycle : ℕ) (claim : List ℕ) (p : LentPosition) (bits : List ℕ) (r : Refusal) → stepRefusal a b cycle claim bits ≡ some r
+    → step a b cycle claim p bits ≡ record { answer = record { refusal = r; yes = false }; position = p; bits = bits }
+refused-step-leaves-all = step-refuses
+
+-- from what begin leaves, n steps on a claim that replay does not refuse leave the position of the two runs at the start of cycle n, up to the claimed cycle and past it by one: the cycle, whether the outputs agreed before it, the stored bits of both sides, and all other bytes as they were lent to begin
+pub steps-follow-the-runs : (a b : List ℕ) (cycle : ℕ) (claim : List ℕ) (gold gate : Design) → readPair a b ≡ both gold gate → replayFault gold gate cycle claim ≡ none
+    → (p : LentPosition) (bits : List ℕ) → 256 ≤ length bits → (n : ℕ) → n ≤ suc cycle
+    → afterSteps a b cycle claim n (afterBegin a b p bits) ≡ heldAt (runPosition gold gate (initialBits gold) (initialBits gate) (claimInputs gold claim) n) bits
+steps-follow-the-runs = steps-run
+
+-- they agreed before cycle n exactly where no output differs in an earlier cycle
+pub agreed-exactly : (gold gate : Design) (s t : StoredBits) (ins : InputSequence) (n : ℕ) → (agreeBefore gold gate s t ins n ≡ true) ↔ ((c : ℕ) → c < n → differAt gold gate s t ins c ≡ false)
+agreed-exactly gold gate s t ins n = (agree-every gold gate s t ins n, every-agree gold gate s t ins n)
+
+-- the step before the claimed cycle answers no
+pub steps-answer-no-before : (a b : List ℕ) (cycle : ℕ) (claim : List ℕ) (gold gate : Design) → readPair a b ≡ both gold gate → replayFault gold gate cycle claim ≡ none
+    → (p : LentPosition) (bits : List ℕ) → 256 ≤ length bits → (n : ℕ) → n < cycle
+    → stepAnswer a b cycle claim (afterSteps a b cycle claim n (afterBegin a b p bits)) ≡ record { refusal = accepted; yes = false }
+steps-answer-no-before = steps-no
+
+-- the step at the claimed cycle answers what replay answers
+pub steps-answer-as-replay : (a b : List ℕ) (cycle : ℕ) (claim : List ℕ) (gold gate : Design) → readPair a b ≡ both gold gate → replayFault gold gate cycle claim ≡ none
+    → (p : LentPosition) (bits : List ℕ) → 256 ≤ length bits
+    → stepAnswer a b cycle claim (afterSteps a b cycle claim cycle (afterBegin a b p bits)) ≡ replay a b cycle claim
+steps-answer-as-replay = steps-answer
+
+-- from any lent position and bits that are not refused: past the claimed cycle nothing changes and the answer is no
+pub step-past-claim-changes-nothing : (a b : List ℕ) (cycle : ℕ) (claim : List ℕ) (gold gate : Design) → readPair a b ≡ both gold gate
+    → (p : LentPosition) (bits : List ℕ) → stepFault gold gate cycle claim bits ≡ none → cycle < p .cycle
+    → step a b cycle claim p bits ≡ record { answer = record { refusal = accepted; yes = false }; position = p; bits = bits }
+step-past-claim-changes-nothing = step-past
+
+-- up to the claimed cycle both runs go on by one cycle from the stored bits lent, on the claim's inputs of the position's cycle
+pub step-runs-one-cycle : (a b : List ℕ) (cycle : ℕ) (claim : List ℕ) (gold gate : Design) → readPair a b ≡ both gold gate
+    → (p : LentPosition) (bits : List ℕ) → stepFault gold gate cycle claim bits ≡ none → p .cycle ≤ cycle
+    → step a b cycle claim p bits ≡ movedFrom gold gate cycle claim p bits
+step-runs-one-cycle = step-runs
+
+-- a begin leaves every byte that no register has
+pub begin-keeps-bytes : (a b : List ℕ) (gold gate : Design) → readPair a b ≡ both gold gate → (p : LentPosition) (bits : List ℕ) → BytesKept gold gate bits (begin a b p bits .bits)
+begin-keeps-bytes = begin-kept
+
+-- and so does a step
+pub step-keeps-bytes : (a b : List ℕ) (gold gate : Design) → readPair a b ≡ both gold gate → (p : LentPosition) (bits : List ℕ) (cycle : ℕ) (claim : List ℕ)
+    → BytesKept gold gate bits (step a b cycle claim p bits .bits)
+step-keeps-bytes = step-kept
+
+-- whose answer and position do not depend on such bytes
+pub step-looks-at-registers : (a b : List ℕ) (gold gate : Design) → readPair a b ≡ both gold gate → (p : LentPosition) (bits : List ℕ) (cycle : ℕ) (claim others : List ℕ) → SameBits gold gate bits others
+    → (step a b cycle claim p bits .answer ≡ step a b cycle claim p others .answer) × (step a b cycle claim p bits .position ≡ step a b cycle claim p others .position)
+step-looks-at-registers = step-alike
 
 -- ==== the check of two designs, each from its own start bits: the laws of two records are these at the initial bits
 

@@ -12,38 +12,32 @@ use Rattle.model.specs.Netlist.{Design, inputCount}
 use Rattle.model.specs.Run.{StoredBits, InputSequence, bitAt, storedAt, outputsAt}
 use Rattle.model.specs.Replay.{Position, Stepped, claimBit, claimInputs, bitsDiffer, differAsMarked, differAt, agreeBefore, differAsClaimed, replays, initialPosition, advance, stepIf, step, positionAfter, stepsReplay}
 use Rattle.laws.specs.Terms.{Yes}
+use Rattle.laws.specs.StepTerms.{runPosition}
 use Rattle.facts.specs.Bools.{and-both, both-and, not-xor, xor-not}
 
 module _ (gold gate : Design) (s t : StoredBits) (cycle : ℕ) (claim : List ℕ) where
   -- the position that the run gives at the start of cycle n
-  at : ℕ → Position
-  at n =
-      let ins = claimInputs gold claim in
-      record {
-        cycle = n;
-        agreed = agreeBefore gold gate s t ins n;
-        gold = storedAt gold s ins n;
-        gate = storedAt gate t ins n;
-      }
+  abbrev at : ℕ → Position
+  at n = runPosition gold gate s t (claimInputs gold claim) n
 
   -- a step not past the claimed cycle goes from one position of the run to the next
-  step-at : (n : ℕ) → n ≤ cycle → step gold gate cycle claim (at n) ≡ advance gold gate cycle claim (at n)
-  unfolding step at stepIf
+  pub step-at : (n : ℕ) → n ≤ cycle → step gold gate cycle claim (at n) ≡ advance gold gate cycle claim (at n)
+  unfolding step stepIf runPosition
   step-at n h = ap (stepIf gold gate cycle claim (at n)) (le-ltb cycle n h)
 
-  next-at : (n : ℕ) → n ≤ cycle → step gold gate cycle claim (at n) .position ≡ at (suc n)
-  unfolding at advance agreeBefore storedAt differAt outputsAt
+  pub next-at : (n : ℕ) → n ≤ cycle → step gold gate cycle claim (at n) .position ≡ at (suc n)
+  unfolding runPosition advance agreeBefore storedAt differAt outputsAt
   next-at n h = ap (λ (r : Stepped). r .position) (step-at n h)
 
-  -- up to the claimed cycle the position after n steps is that of the run
-  position-at : (n : ℕ) → n ≤ cycle → positionAfter gold gate cycle claim n (initialPosition s t) ≡ at n
-  unfolding at positionAfter initialPosition agreeBefore storedAt
+  -- up to the claimed cycle and past it by one the position after n steps is that of the run
+  pub position-at : (n : ℕ) → n ≤ suc cycle → positionAfter gold gate cycle claim n (initialPosition s t) ≡ at n
+  unfolding runPosition positionAfter initialPosition agreeBefore storedAt
   position-at zero h = refl
   position-at (suc n) h = ap (λ (p : Position). step gold gate cycle claim p .position) (position-at n (omega arith)) ∙ next-at n (omega arith)
 
   -- the answer of the step at the claimed cycle, from the initial position, is the replay's
   pub steps-replay : stepsReplay gold gate s t cycle claim ≡ replays gold gate s t cycle claim
-  unfolding stepsReplay replays at advance outputsAt
+  unfolding stepsReplay replays runPosition advance outputsAt
   steps-replay =
       ap (λ (p : Position). step gold gate cycle claim p .yes) (position-at cycle (omega arith))
       ∙ ap (λ (r : Stepped). r .yes) (step-at cycle (omega arith))
@@ -53,7 +47,7 @@ module _ (gold gate : Design) (s t : StoredBits) (cycle : ℕ) (claim : List ℕ
 
 -- the outputs agree in every earlier cycle
 module _ (gold gate : Design) (s t : StoredBits) (ins : InputSequence) where
-  agree-every : (n : ℕ) → agreeBefore gold gate s t ins n ≡ true → (c : ℕ) → c < n → differAt gold gate s t ins c ≡ false
+  pub agree-every : (n : ℕ) → agreeBefore gold gate s t ins n ≡ true → (c : ℕ) → c < n → differAt gold gate s t ins c ≡ false
   unfolding agreeBefore
   agree-every zero h c l = absurd (not-suc-le-zero l)
   agree-every (suc n) h c l = last (agree-every n (and-both _ _ h .0) c) (eq-or-lt-of-le (le-of-suc-le-suc l))
@@ -62,7 +56,7 @@ module _ (gold gate : Design) (s t : StoredBits) (ins : InputSequence) where
       last f (inl e) = rw e (not-true (differAt gold gate s t ins n) (and-both (agreeBefore gold gate s t ins n) _ h .1))
       last f (inr k) = f k
 
-  every-agree : (n : ℕ) → ((c : ℕ) → c < n → differAt gold gate s t ins c ≡ false) → agreeBefore gold gate s t ins n ≡ true
+  pub every-agree : (n : ℕ) → ((c : ℕ) → c < n → differAt gold gate s t ins c ≡ false) → agreeBefore gold gate s t ins n ≡ true
   unfolding agreeBefore
   every-agree zero f = refl
   every-agree (suc n) f = both-and _ _ (every-agree n (λ c l. f c (omega arith))) (ap not (f n (omega arith)))

@@ -17,10 +17,12 @@ pub mod Transition
 pub mod Equivalence
 pub mod Check
 pub mod Encode
+pub mod Stepping
 pub mod Cases
 pub mod ReadCases
 pub mod PairCases
 pub mod RunCases
+pub mod StepCases
 pub mod GraphCases
 pub mod SatCases
 pub mod SatStates

@@ -90,7 +90,7 @@ SideOf s t ins d side = (side .netlist ≡ d .netlist) × (side .outputs ≡ d .
 module _ (s t : List ℕ) (gold gate : Travelling.Design) (left right : Side) (o : Ordered s gold) (q : Ordered t gate)
     (l : SideOf s s (gold .inputs) gold left) (r : SideOf s t (gold .inputs) gate right) where
   -- the two sides belong together
-  paired : Paired s t (gold .inputs .count) left right
+  pub paired : Paired s t (gold .inputs .count) left right
   paired =
       let e : places s (gold .inputs) ≡ inputs (decoded s (left .netlist)) = o .inputs-are ∙ ap (λ (n : Netlist). inputs (decoded s n)) (sym (l .0)) in
       record {
@@ -111,7 +111,7 @@ module _ (s t : List ℕ) (gold gate : Travelling.Design) (left right : Side) (o
 -- ---- from the initial bits
 
 -- a row of initial bits
-initial-taken : (s : List ℕ) (n : Netlist) (row : List Bool) → Padded n → row ≡ padded 128 (initialBits (decoded s n)) → take (n .«register_count») row ≡ initialBits (decoded s n)
+pub initial-taken : (s : List ℕ) (n : Netlist) (row : List Bool) → Padded n → row ≡ padded 128 (initialBits (decoded s n)) → take (n .«register_count») row ≡ initialBits (decoded s n)
 unfolding initialBits registerCount
 initial-taken s n row p e =
     padded-taken 128 (n .«register_count») row (initialBits (decoded s n)) e (sym (length-map (decoded s n .registers) (λ (r : Register). initialBit (r .reset)) ∙ count-registers s n p))

@@ -7,7 +7,7 @@ ghost use Rattle.replay.specs.ClaimChecks.{claimBad, claimFault};
 use calls::fault::Fault;
 
 // Every byte is 0 or 1.
-fn all_bits(claim: &[u8]) -> bool
+pub fn all_bits(claim: &[u8]) -> bool
     ensures { λ r. ⌜ r ≡ allBits (now (claim .entry)) ⌝ }
 {
     let mut k: usize = 0;

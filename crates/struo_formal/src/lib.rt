@@ -3,12 +3,15 @@ use calls::answers::CheckAnswer;
 use calls::answers::ReadAnswer;
 use calls::answers::ReplayAnswer;
 use calls::fault::Fault;
+use calls::position::ReplayPosition;
 use netlist_checks::record::read_record;
 ghost use mathlib.Core.Path.{_≡_};
 ghost use Rattle.model.specs.Validate as Validate;
 ghost use Rattle.model.specs.Replay as Replay;
+ghost use Rattle.model.specs.Stepping as Stepping;
 ghost use Rattle.model.specs.Check as Check;
 ghost use Rattle.calls.specs.Answers.{refusalOf, replayOf, checkedOf};
+ghost use Rattle.calls.specs.Positions.{positionOf, begunOf, steppedOf};
 
 // Read a record of any content and length: accepted, or the first refusal of 1 to 15 with its place.
 pub fn read(record: &[u8]) -> ReadAnswer
@@ -52,6 +55,64 @@ pub extern "C" fn struo_replay(gold: &[u8], gate: &[u8], cycle: u64, claim: &[u8
     ensures { λ r. ⌜ replayOf r ≡ Replay.replay (now (gold .entry)) (now (gate .entry)) cycle (now (claim .entry)) ⌝ }
 {
     replay(gold, gate, cycle, claim)
+}
+
+// Begin a replay by steps on two records of any content and length: a refusal of 1 to 15, 18 to 22 or 24, which changes nothing lent, or the position
+// before cycle 0, with gold's initial bits from byte 0 on and gate's from byte 128 on, by register number. Every other byte stays.
+pub fn begin(gold: &[u8], gate: &[u8], position: &mut ReplayPosition, bits: &mut [u8]) -> ReadAnswer
+    ensures { λ r. ⌜ begunOf r (now (position .exit)) (now (bits .exit)) ≡ Stepping.begin (now (gold .entry)) (now (gate .entry)) (positionOf (now (position .entry))) (now (bits .entry)) ⌝ }
+{
+    let before = *position;
+    let begun = replay::stepping::begin(gold, gate, before, bits);
+    *position = begun.position;
+    begun.answer
+}
+
+// The same for C.
+#[no_mangle]
+pub extern "C" fn struo_begin(
+    gold: &[u8],
+    gate: &[u8],
+    position: &mut ReplayPosition,
+    bits: &mut [u8],
+) -> ReadAnswer
+    ensures { λ r. ⌜ begunOf r (now (position .exit)) (now (bits .exit)) ≡ Stepping.begin (now (gold .entry)) (now (gate .entry)) (positionOf (now (position .entry))) (now (bits .entry)) ⌝ }
+{
+    begin(gold, gate, position, bits)
+}
+
+// Move a lent replay position on by one cycle of a claimed trace of any content and length: a refusal of 1 to 15, 18 to 22, 24 or 25, which changes
+// nothing lent, or yes or no. Past the claimed cycle nothing changes and the answer is no; before it the answer is no; at it yes exactly when the
+// position says that the outputs agreed so far and in this cycle they differ in exactly the marked ones, at least one.
+pub fn step(
+    gold: &[u8],
+    gate: &[u8],
+    cycle: u64,
+    claim: &[u8],
+    position: &mut ReplayPosition,
+    bits: &mut [u8],
+) -> ReplayAnswer
+    ensures { λ r. ⌜ steppedOf r (now (position .exit)) (now (bits .exit)) ≡ Stepping.step (now (gold .entry)) (now (gate .entry)) cycle (now (claim .entry)) (positionOf (now (position .entry))) (now (bits .entry)) ⌝ }
+{
+    let before = *position;
+    let moved = replay::stepping::step(gold, gate, cycle, claim, before, bits);
+    *position = moved.position;
+    moved.answer
+}
+
+// The same for C.
+#[no_mangle]
+pub extern "C" fn struo_step(
+    gold: &[u8],
+    gate: &[u8],
+    cycle: u64,
+    claim: &[u8],
+    position: &mut ReplayPosition,
+    bits: &mut [u8],
+) -> ReplayAnswer
+    ensures { λ r. ⌜ steppedOf r (now (position .exit)) (now (bits .exit)) ≡ Stepping.step (now (gold .entry)) (now (gate .entry)) cycle (now (claim .entry)) (positionOf (now (position .entry))) (now (bits .entry)) ⌝ }
+{
+    step(gold, gate, cycle, claim, position, bits)
 }
 
 // Check two records of any content and length to a maximum depth, in lent memory of any content and length: a refusal of 1 to 24, which leaves

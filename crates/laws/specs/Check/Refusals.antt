@@ -1,4 +1,4 @@
--- The numbers of the refusals: of a record 1 to 15, of a check 1 to 24, of a replay 1 to 15, 18 to 22 and 25. Assumes nothing.
+-- The numbers of the refusals: of a record 1 to 15, of a check 1 to 24, of a replay 1 to 15, 18 to 22 and 25, of a begin 1 to 24, of a step 1 to 25. Assumes nothing.
 use Prim.Native.Nat.{ℕ, zero, suc, _+_, _≤_}
 use native.Mathlib.Omega.{arith}
 use mathlib.Core.Path.{_≡_, refl, subst}
@@ -14,7 +14,9 @@ use Rattle.model.specs.Netlist.{Node, Register, Design}
 use Rattle.model.specs.Record.{Step, got, refused, Reader, refuse, pure, goOn, _>>=_, tested, guard, bytes, byte, number, code, codeBelow, nameBytes, name, nameIf, valueIf, numbers, node, nodesFrom, nodes, enableFor, resetFor, register, registersFrom, registers, end, version1, versionOf, Read, parsed, refusedRecord, lengthFits, finished, parseFields, parseSized, parse}
 use Rattle.model.specs.Validate.{_otherwise_, refuseIf, nodeFault, nodesFault, registerFault, registersFault, connectionFault, resetFault, clockFault, validate, judged, validated, readRecord}
 use Rattle.model.specs.Pair.{Lent, interfaceFault, resetsFault, initialFault, checkFault, replayFault, ReadPair, both, refusedPair, onGate, withGate, withGold, readPair, checkRefusalOf, checkRefusal}
+use Rattle.model.specs.Stepping.{bitsFault, beginFault, stepFault}
 use Rattle.laws.specs.Terms.{Within, OfRecord, OfReplay, of-record, of-pair, of-claim, replayRefusalOf, replayRefusal}
+use Rattle.laws.specs.StepTerms.{beginRefusalOf, beginRefusal, stepRefusalOf, stepRefusal}
 
 -- a step of a reader that refuses with 1 to 15, if it refuses
 abbrev RealStep : {A : Type 0} → Step A → Type 0
@@ -328,3 +330,42 @@ of-replay (both gold gate) cycle claim h = real-replay gold gate cycle claim
 pub replay-within : (a b : List ℕ) (cycle : ℕ) (claim : List ℕ) (r : Refusal) → replayRefusal a b cycle claim ≡ some r → OfReplay r
 unfolding replayRefusal
 replay-within a b cycle claim r e = subst (Every OfReplay) e (of-replay (readPair a b) cycle claim (pair-real a b))
+
+-- ---- the stepping call
+
+begin-fault : (gold gate : Design) (bits : List ℕ) → Every (Within 1 24) (beginFault gold gate bits)
+unfolding beginFault
+begin-fault gold gate bits =
+    or-within 1 24 _ _ (every-so (Within 18 22) (Within 1 24) wider (interfaceFault gold gate) (real-interface gold gate))
+    (or-within 1 24 _ _ (every-so (Within 18 22) (Within 1 24) wider (initialFault gold gate) (real-initial gold gate)) (if-within 1 24 24 0 0 _ (omega arith) (omega arith)))
+
+of-begin : (p : ReadPair) (bits : List ℕ) → RealPair p → Every (Within 1 24) (beginRefusalOf p bits)
+unfolding beginRefusalOf
+of-begin (refusedPair r) bits h = record { low = h .low; high = omega (arith, h .high) }
+of-begin (both gold gate) bits h = begin-fault gold gate bits
+
+-- every refusal of a begin has a number from 1 to 24
+pub begin-within : (a b bits : List ℕ) (r : Refusal) → beginRefusal a b bits ≡ some r → Within 1 24 r
+unfolding beginRefusal
+begin-within a b bits r e = subst (Every (Within 1 24)) e (of-begin (readPair a b) bits (pair-real a b))
+
+claim-within : (r : Refusal) → OfReplay r → Within 1 25 r
+claim-within r (of-record h) = record { low = h .low; high = omega (arith, h .high) }
+claim-within r (of-pair h) = record { low = omega (arith, h .low); high = omega (arith, h .high) }
+claim-within r (of-claim e) = record { low = omega (arith, e); high = omega (arith, e) }
+
+step-fault : (gold gate : Design) (cycle : ℕ) (claim bits : List ℕ) → Every (Within 1 25) (stepFault gold gate cycle claim bits)
+unfolding stepFault bitsFault
+step-fault gold gate cycle claim bits =
+    or-within 1 25 _ _ (every-so OfReplay (Within 1 25) claim-within (replayFault gold gate cycle claim) (real-replay gold gate cycle claim))
+    (or-within 1 25 _ _ (if-within 1 25 24 0 0 _ (omega arith) (omega arith)) (if-within 1 25 25 0 0 _ (omega arith) (omega arith)))
+
+of-step : (p : ReadPair) (cycle : ℕ) (claim bits : List ℕ) → RealPair p → Every (Within 1 25) (stepRefusalOf p cycle claim bits)
+unfolding stepRefusalOf
+of-step (refusedPair r) cycle claim bits h = record { low = h .low; high = omega (arith, h .high) }
+of-step (both gold gate) cycle claim bits h = step-fault gold gate cycle claim bits
+
+-- every refusal of a step has a number from 1 to 25
+pub step-within : (a b : List ℕ) (cycle : ℕ) (claim bits : List ℕ) (r : Refusal) → stepRefusal a b cycle claim bits ≡ some r → Within 1 25 r
+unfolding stepRefusal
+step-within a b cycle claim bits r e = subst (Every (Within 1 25)) e (of-step (readPair a b) cycle claim bits (pair-real a b))
