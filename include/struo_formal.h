@@ -87,7 +87,7 @@ struct struo_read_answer {
 };
 
 /* Reads one design record: accepted, or the first refusal in checking order. Nothing is written. */
-struct struo_read_answer struo_read(const uint8_t *record, size_t length);
+struct struo_read_answer struo_read(const uint8_t *record, size_t record_length);
 
 /* number, side and place: 0, or a refusal of 1 to 15, 18 to 22 or 25 (of a step also 24); side: 0 gold, 1 gate, and 0 where neither record alone is at fault;
    place as above, and for 22 a register number. yes: false where the replay is refused. */
@@ -155,7 +155,8 @@ struct struo_check_answer {
      23 (depth + 1) * F + R is over 65,535, where F = I + 3 * N + 10 * R + 4 * O + 1, I and O count one side's inputs and outputs, N and R the nodes
      and registers of both sides; 24 trace_length is under STRUO_TRACE_LENGTH(depth, I, O), words_length under STRUO_WORDS_LENGTH, or scores_length under
      STRUO_SCORES_LENGTH.
-   A refused check changes nothing that is lent.
+   A refused check changes nothing that is lent. The proof has one NaN: of a lent score that is a NaN it says that it stays one, and not with which bits; the
+   code writes nothing, and that the bits stay is tested.
 
    An accepted check leaves all of words and scores zero, over their whole length; what they held before never matters. For NotEquivalent the
    trace begins with a byte, 0 or 1, for each input in byte order of names, for each cycle from 0 to the mismatch, then a byte for each output in byte

@@ -93,15 +93,39 @@ static bool holds(uint32_t number, size_t written) {
     return true;
 }
 
-/* One check of the wire against a record, with so many words lent. */
-static void checks(const char *what, const uint8_t *gate, size_t gate_length, uint64_t depth, size_t words_length, struct struo_check_answer expected, size_t written) {
+/* One check of a pair, with so many words lent. */
+static void checks_pair(const char *what, const uint8_t *gold, size_t gold_length, const uint8_t *gate, size_t gate_length, uint64_t depth, size_t words_length,
+                        struct struo_check_answer expected, size_t written) {
     hold();
-    struct struo_check_answer answer = struo_check(wire, sizeof wire, gate, gate_length, depth, trace, sizeof trace, words, words_length, scores, STRUO_SCORES_LENGTH);
+    struct struo_check_answer answer = struo_check(gold, gold_length, gate, gate_length, depth, trace, sizeof trace, words, words_length, scores, STRUO_SCORES_LENGTH);
     bool same = answer.number == expected.number && answer.side == expected.side && answer.place == expected.place && answer.status == expected.status
         && answer.depth == expected.depth && answer.mismatch == expected.mismatch && answer.query == expected.query;
     if (!same || !holds(answer.number == 0 ? 0 : 7, written)) {
         printf("boundary: %s: %u %u %u %u %u %u %u, or a byte lent, is not as expected\n", what, answer.number, answer.side, answer.place, answer.status,
                answer.depth, answer.mismatch, answer.query);
+        failed = 1;
+    }
+}
+
+/* One check of the wire against a record, with so many words lent. */
+static void checks(const char *what, const uint8_t *gate, size_t gate_length, uint64_t depth, size_t words_length, struct struo_check_answer expected, size_t written) {
+    checks_pair(what, wire, sizeof wire, gate, gate_length, depth, words_length, expected, written);
+}
+
+/* Two registers in a row after input e, and y = 0 beside a holding register: they differ first in cycle 2. */
+static const uint8_t row[61] = {0x01, 0x00, 0x00, 0x00, 0x3d, 0x01, 0x67, 0x00, 0x06, 0x00, 0x03, 0x63, 0x6c, 0x6b, 0x00, 0x03, 0x72, 0x73, 0x74, 0x00, 0x01,
+                                0x65, 0x02, 0x02, 0x11, 0x01, 0x79, 0x00, 0x04, 0x00, 0x02, 0x01, 0x70, 0x00, 0x03, 0x00, 0x02, 0x00, 0x00, 0x00, 0x00, 0x01,
+                                0x00, 0x01, 0x00, 0x00, 0x01, 0x71, 0x00, 0x04, 0x00, 0x03, 0x00, 0x00, 0x00, 0x00, 0x01, 0x00, 0x01, 0x00, 0x00};
+static const uint8_t holding[47] = {0x01, 0x00, 0x00, 0x00, 0x2f, 0x01, 0x67, 0x00, 0x06, 0x00, 0x03, 0x63, 0x6c, 0x6b, 0x00, 0x03,
+                                    0x72, 0x73, 0x74, 0x00, 0x01, 0x65, 0x02, 0x01, 0x00, 0x11, 0x01, 0x79, 0x00, 0x04, 0x00, 0x01,
+                                    0x01, 0x68, 0x00, 0x03, 0x00, 0x03, 0x00, 0x00, 0x00, 0x00, 0x01, 0x00, 0x01, 0x00, 0x00};
+
+/* A claim as long as one of cycle 1, of another cycle: taken for cycle 1 it would be answered with no. */
+static void refuses_claim(const char *what, uint64_t cycle) {
+    static const uint8_t claim[STRUO_TRACE_LENGTH(1, 1, 1)] = {0, 0, 1};
+    struct struo_replay_answer answer = struo_replay(wire, sizeof wire, inverter, sizeof inverter, cycle, claim, sizeof claim);
+    if (answer.number != STRUO_REFUSAL_CLAIM || answer.side || answer.place || answer.yes) {
+        printf("boundary: a claim of cycle %s is not refused with 25\n", what);
         failed = 1;
     }
 }
@@ -160,11 +184,8 @@ int main(void) {
     reads("unlisted kind", other, sizeof other, 4, 12);
     replays(0, 1, true);
     replays(0, 0, false);
-    struct struo_replay_answer late = struo_replay(wire, sizeof wire, inverter, sizeof inverter, 65, wire, 0);
-    if (late.number != STRUO_REFUSAL_CLAIM || late.yes) {
-        printf("boundary: a claim of cycle 65 is not refused with 25\n");
-        failed = 1;
-    }
+    refuses_claim("65", 65);
+    refuses_claim("2^32 + 1", 4294967297);
     begins(STRUO_BITS_LENGTH, STRUO_ACCEPTED, 0, true, 0);
     begins(STRUO_BITS_LENGTH - 1, STRUO_REFUSAL_MEMORY, 9, false, 7);
     steps("before the claimed cycle", (struct struo_position){0, true}, 0, 0, sizeof bits, STRUO_ACCEPTED, false, 1, true, 1, 1);
@@ -176,6 +197,9 @@ int main(void) {
     checks("wire against inverter", inverter, sizeof inverter, 1, STRUO_WORDS_LENGTH, (struct struo_check_answer){.status = STRUO_NOT_EQUIVALENT, .depth = 1}, STRUO_TRACE_LENGTH(0, 1, 1));
     checks("wire against itself", wire, sizeof wire, 64, STRUO_WORDS_LENGTH, (struct struo_check_answer){.status = STRUO_EQUIVALENT, .depth = 1}, 0);
     checks("depth 0", wire, sizeof wire, 0, STRUO_WORDS_LENGTH, (struct struo_check_answer){.number = STRUO_REFUSAL_ZERO_DEPTH}, 0);
+    checks("depth 65", wire, sizeof wire, 65, STRUO_WORDS_LENGTH, (struct struo_check_answer){.number = STRUO_REFUSAL_DEPTH_LIMIT}, 0);
+    checks("depth 2^32 + 1", wire, sizeof wire, 4294967297, STRUO_WORDS_LENGTH, (struct struo_check_answer){.number = STRUO_REFUSAL_DEPTH_LIMIT}, 0);
+    checks_pair("a row to depth 1", row, sizeof row, holding, sizeof holding, 1, STRUO_WORDS_LENGTH, (struct struo_check_answer){.status = STRUO_INCONCLUSIVE, .depth = 1}, 0);
     checks("a cut gate", inverter, 5, 1, STRUO_WORDS_LENGTH, (struct struo_check_answer){.number = STRUO_REFUSAL_LENGTH, .side = STRUO_GATE}, 0);
     checks("a word short", inverter, sizeof inverter, 1, STRUO_WORDS_LENGTH - 1, (struct struo_check_answer){.number = STRUO_REFUSAL_MEMORY}, 0);
     on_stack(reading, STRUO_READ_STACK);

@@ -12,7 +12,7 @@ use crate::clock::best;
 use crate::solve::Lent;
 
 extern "C" {
-    fn struo_build(record: *const u8, length: usize, again: u32, words: *mut u32, words_length: usize) -> u32;
+    fn struo_build(record: *const u8, record_length: usize, again: u32, words: *mut u32, words_length: usize) -> u32;
 }
 
 /// Where the two literals of each node of the graph begin in the lent words.

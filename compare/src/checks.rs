@@ -10,6 +10,7 @@ use oracle::vectors::{check_line, check_words, split, unhex};
 
 use struo_formal::CheckAnswer as Check;
 use crate::lent::{Memory, Trace};
+use crate::met::{unmet, Kind, Met};
 use crate::reads::damaged;
 
 /// A check as the library has it: gold, gate, depth, trace, words, scores.
@@ -22,8 +23,8 @@ pub struct Tally {
     pub pairs: u64,
     pub checks: u64,
     pub differ: u64,
-    /// Checks by refusal number, 0 for accepted ones.
-    pub refusals: [u64; 26],
+    /// Checks by refusal.
+    pub met: Met,
     /// Accepted checks by status.
     pub statuses: [u64; 4],
     /// Give-ups by query, 1 to 4.
@@ -38,7 +39,8 @@ impl Tally {
     /// One more check with its answer.
     fn count(&mut self, answer: &CheckAnswer) {
         self.checks += 1;
-        self.refusals[answer.refusal.map_or(0, |refusal| usize::from(refusal.number))] += 1;
+        let (number, side) = answer.refusal.map_or((0, 0), |refusal| (refusal.number, refusal.side));
+        self.met.count(u32::from(number), u32::from(side));
         if answer.refusal.is_none() {
             self.statuses[usize::from(answer.status)] += 1;
             self.gave_up[answer.query] += u64::from(answer.query > 0);
@@ -54,13 +56,21 @@ impl Tally {
         self.checks += other.checks;
         self.differ += other.differ;
         let add = |ours: &mut [u64], theirs: &[u64]| ours.iter_mut().zip(theirs).for_each(|(our, their)| *our += their);
-        add(&mut self.refusals, &other.refusals);
+        self.met.add(&other.met);
         add(&mut self.statuses, &other.statuses);
         add(&mut self.gave_up, &other.gave_up);
         self.deepest = self.deepest.max(other.deepest);
         self.latest = self.latest.max(other.latest);
         self.learned = self.learned.max(other.learned);
         self
+    }
+
+    /// The refusals, statuses and queries that gave up that were not met.
+    fn missing(&self) -> Vec<String> {
+        let mut missing = self.met.missing(Kind::Check);
+        missing.extend((0..4).filter(|status| self.statuses[*status] == 0).map(|status| format!("status {status}")));
+        missing.extend((1..5).filter(|query| self.gave_up[*query] == 0).map(|query| format!("a give-up in query {query}")));
+        missing
     }
 }
 
@@ -150,7 +160,7 @@ impl<C: Call> Worker<'_, C> {
         match self.rng.below(if quick { 12 } else { 3 }) {
             0 => (depth, Lent { words: WORDS - 1, ..lent }),
             1 => (depth, Lent { scores: SCORES - 1, ..lent }),
-            2 => (*self.rng.pick(&[0, 65, 66, 1 << 32, u64::MAX]), lent),
+            2 => (*self.rng.pick(&[0, 65, 66, 1 << 32, (1 << 32) + 1, u64::MAX]), lent),
             3 | 4 => (depth, Lent { trace: lent.trace.saturating_sub(1), ..lent }),
             5 => (depth, Lent { trace: 0, words: 0, scores: 0 }),
             6 => (depth, Lent { trace: lent.trace + 1_000, words: WORDS + 4_096, scores: SCORES + 17 }),
@@ -217,15 +227,16 @@ fn family(number: usize) -> &'static str {
     }
 }
 
-/// The blocks of a run: the fixed families, from 10,000 pairs on those that search long too, then `count` random pairs.
+/// The blocks of a run: the fixed families with a give-up in each query, from 10,000 pairs on all that search long too, then `count` random pairs.
 fn blocks(count: usize, seed: u64) -> Vec<Block> {
     let fixed = |family: &'static str| Block { family, count: 200, skip: 0, seed };
     let mut blocks = Vec::new();
     if count >= 10_000 {
-        blocks.extend((0..6).map(|skip| Block { family: "giveup", count: 1, skip, seed }));
+        blocks.extend((0..2).map(|skip| Block { family: "giveup", count: 1, skip, seed }));
         blocks.extend(["rescale", "cases"].map(fixed));
         blocks.push(Block { family: "deep", count: 3, skip: 0, seed });
     }
+    blocks.extend((2..6).map(|skip| Block { family: "giveup", count: 1, skip, seed }));
     blocks.extend(["sides", "refusals"].map(fixed));
     blocks.push(Block { family: "limits", count: 1, skip: 2, seed });
     let mut left = count;
@@ -242,17 +253,18 @@ fn blocks(count: usize, seed: u64) -> Vec<Block> {
     blocks
 }
 
-/// Checks the fixed families and `count` random pairs through the library, and says what came of it; from 10,000 pairs on with the give-ups, the
-/// rescaling and the deepest searches.
+/// Checks the fixed families and `count` random pairs through the library, and says what came of it: each status, a give-up in each query and each
+/// refusal on each side that it can have have to be met. From 10,000 pairs on with the rescaling and the deepest searches.
 pub fn compare(count: u64, seed: u64) -> ExitCode {
     let threads = std::thread::available_parallelism().map_or(1, usize::from);
     let tally = run(usize::try_from(count).expect("a count fits"), seed, threads, &struo_formal::check);
-    println!("checks by refusal number, 0 accepted: {:?}", tally.refusals);
+    println!("checks by refusal, gold+gate: {}", tally.met.told(Kind::Check));
     let [equivalent, different, inconclusive, gave_up] = tally.statuses;
     println!("accepted: {equivalent} Equivalent, {different} NotEquivalent, {inconclusive} Inconclusive, {gave_up} GaveUp (by query {:?})", &tally.gave_up[1..]);
     println!("deepest {}, latest mismatch {}, most learned {}", tally.deepest, tally.latest, tally.learned);
+    let missing = unmet(&tally.missing());
     println!("{} pairs, {} checks, {} differ", tally.pairs, tally.checks, tally.differ);
-    ExitCode::from(u8::from(tally.differ > 0))
+    ExitCode::from(u8::from(tally.differ > 0 || missing))
 }
 
 /// Checks the fixed families and `count` random pairs on so many threads.
@@ -313,7 +325,7 @@ mod tests {
     fn the_honest_library_differs_nowhere() {
         let tally = run_blocks(&few(), 2, &honest);
         assert_eq!(tally.differ, 0);
-        assert!(tally.statuses[0] > 0 && tally.statuses[1] > 0 && tally.refusals[24] > 0);
+        assert!(tally.statuses[0] > 0 && tally.statuses[1] > 0 && tally.met.times(24) > 0);
     }
 
     #[test]
@@ -343,5 +355,19 @@ mod tests {
     fn a_score_is_found() {
         assert!(differing(|answer, _, _, scores| if answer.number == 0 { scores[65_535] = -0.0 }) > 0);
         assert!(differing(|answer, _, _, scores| if answer.number > 0 && !scores.is_empty() { scores[0] = 0.0 }) > 0);
+    }
+
+    #[test]
+    fn a_nan_with_another_payload_is_found() {
+        let quieted = |score: &f64| f64::from_bits(score.to_bits() | 1 << 51);
+        assert!(differing(|answer, _, _, scores| if answer.number > 0 { scores.iter_mut().filter(|score| score.is_nan()).for_each(|score| *score = quieted(score)) }) > 0);
+        assert!(differing(|answer, _, _, scores| if answer.number > 0 { scores.iter_mut().filter(|score| score.is_nan()).for_each(|score| *score = f64::NAN) }) > 0);
+        assert!(differing(|answer, _, _, scores| if answer.number == 0 { scores[7] = f64::NAN }) > 0);
+    }
+
+    #[test]
+    fn what_was_not_met_is_said() {
+        let missing = run_blocks(&few(), 2, &honest).missing();
+        assert!(missing.contains(&"status 3".into()) && missing.contains(&"a give-up in query 4".into()));
     }
 }

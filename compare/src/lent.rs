@@ -4,7 +4,37 @@ use oracle::rng::Rng;
 
 /// What memory holds that a call must not change.
 const HELD: u32 = 0xa5a5_a5a5;
-const HELD_SCORE: u64 = 0xa5a5_a5a5_a5a5_a5a5;
+
+/// What scores hold, one place after another: NaNs quiet and signalling, of both signs and several payloads, infinities, zeros, numbers. A contract takes
+/// all NaNs for one, so that only these bits show that a refused check leaves each as it was.
+const HELD_SCORES: [u64; 16] = [
+    0x7ff8_0000_0000_0000,
+    0xfff8_0000_0000_0000,
+    0x7ff8_0000_0000_0001,
+    0xffff_ffff_ffff_ffff,
+    0x7fff_a5a5_a5a5_a5a5,
+    0x7ff0_0000_0000_0001,
+    0xfff0_0000_0000_0001,
+    0x7ff4_0000_0000_0000,
+    0xfff7_ffff_ffff_ffff,
+    0x7ff0_0000_0000_0000,
+    0xfff0_0000_0000_0000,
+    0x8000_0000_0000_0000,
+    0x0000_0000_0000_0000,
+    0x0000_0000_0000_0001,
+    0x3ff0_0000_0000_0000,
+    0xa5a5_a5a5_a5a5_a5a5,
+];
+
+/// The bits of the score at a place.
+fn held_score(place: usize) -> u64 {
+    HELD_SCORES[place % HELD_SCORES.len()]
+}
+
+/// Scores from a place on hold their pattern.
+fn hold_scores(scores: &mut [f64], from: usize) {
+    scores.iter_mut().enumerate().skip(from).for_each(|(place, score)| *score = f64::from_bits(held_score(place)));
+}
 
 /// Elements before and behind what is lent.
 const FRONT: usize = 16;
@@ -19,10 +49,9 @@ pub struct Memory {
 impl Memory {
     /// Memory that holds the pattern everywhere.
     pub fn held() -> Self {
-        Self {
-            words: vec![HELD; FRONT + WORDS as usize + SPARE],
-            scores: vec![f64::from_bits(HELD_SCORE); FRONT + SCORES as usize + SPARE],
-        }
+        let mut scores = vec![0.0; FRONT + SCORES as usize + SPARE];
+        hold_scores(&mut scores, 0);
+        Self { words: vec![HELD; FRONT + WORDS as usize + SPARE], scores }
     }
 
     /// The lent parts.
@@ -33,7 +62,7 @@ impl Memory {
     /// The guards about a lent part hold the pattern again.
     pub fn guard(&mut self, lent: Lent) {
         self.words[FRONT + lent.words as usize..].fill(HELD);
-        self.scores[FRONT + lent.scores as usize..].fill(f64::from_bits(HELD_SCORE));
+        hold_scores(&mut self.scores, FRONT + lent.scores as usize);
     }
 
     /// Other contents: the start of each 65,536 words and some other places, or now and then everything.
@@ -51,19 +80,20 @@ impl Memory {
         }
         for _ in 0..256 {
             words[rng.below(lent.words as usize)] = rng.next() as u32;
-            scores[rng.below(lent.scores as usize)] = f64::from_bits(rng.next());
+            let bits = if rng.one_in(2) { *rng.pick(&HELD_SCORES) } else { rng.next() };
+            scores[rng.below(lent.scores as usize)] = f64::from_bits(bits);
         }
     }
 
     /// The first place of the words, then of the scores, that is not as it has to be: zero in the lent part where the check was accepted, the pattern elsewhere.
     pub fn fault(&self, lent: Lent, accepted: bool) -> Option<String> {
         let word = if accepted { 0 } else { HELD };
-        let score = if accepted { 0 } else { HELD_SCORE };
+        let score = |place| if accepted { 0 } else { held_score(place) };
         let told = |what: &str, place: usize| format!("{what} {}", place as i64 - FRONT as i64);
-        first_other(&self.words, lent.words as usize, |held| *held != word, |held| *held != HELD)
+        first_other(&self.words, lent.words as usize, |_, held| *held != word, |_, held| *held != HELD)
             .map(|place| told("word", place))
             .or_else(|| {
-                first_other(&self.scores, lent.scores as usize, |held| held.to_bits() != score, |held| held.to_bits() != HELD_SCORE)
+                first_other(&self.scores, lent.scores as usize, |place, held| held.to_bits() != score(place), |place, held| held.to_bits() != held_score(place))
                     .map(|place| told("score", place))
             })
     }
@@ -71,24 +101,24 @@ impl Memory {
     /// The pattern everywhere.
     pub fn refill(&mut self) {
         self.words.fill(HELD);
-        self.scores.fill(f64::from_bits(HELD_SCORE));
+        hold_scores(&mut self.scores, 0);
     }
 }
 
 /// The first place whose element is bad: by one test in the lent part, by another in the guards before and behind it.
-fn first_other<T>(all: &[T], lent: usize, inner: impl Fn(&T) -> bool, outer: impl Fn(&T) -> bool) -> Option<usize> {
+fn first_other<T>(all: &[T], lent: usize, inner: impl Fn(usize, &T) -> bool, outer: impl Fn(usize, &T) -> bool) -> Option<usize> {
     let end = FRONT + lent;
     let last = all.len().min(end + SPARE);
     bad_in(all, 0, FRONT, &outer).or_else(|| bad_in(all, FRONT, end, inner)).or_else(|| bad_in(all, end, last, outer))
 }
 
 /// The first bad place of a part; many elements are tested at once.
-fn bad_in<T>(all: &[T], from: usize, end: usize, bad: impl Fn(&T) -> bool) -> Option<usize> {
+fn bad_in<T>(all: &[T], from: usize, end: usize, bad: impl Fn(usize, &T) -> bool) -> Option<usize> {
     const MANY: usize = 4_096;
-    let part = &all[from..end];
-    let chunk = part.chunks(MANY).position(|chunk| chunk.iter().fold(false, |any, element| any | bad(element)))?;
-    let place = part[chunk * MANY..].iter().position(bad)?;
-    Some(from + chunk * MANY + place)
+    let begins = (from..end).step_by(MANY);
+    let places = |begin: usize| begin..end.min(begin + MANY);
+    let begin = begins.into_iter().find(|begin| all[places(*begin)].iter().zip(*begin..).fold(false, |any, (element, place)| any | bad(place, element)))?;
+    places(begin).find(|place| bad(*place, &all[*place]))
 }
 
 /// A trace buffer of random bytes, none of them 0 or 1, the lent part between guards.

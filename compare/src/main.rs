@@ -9,6 +9,7 @@ mod bench_solve;
 mod checks;
 mod clock;
 mod lent;
+mod met;
 mod reads;
 mod replays;
 mod solve;
@@ -21,17 +22,8 @@ fn number(word: Option<&String>) -> u64 {
 fn main() -> ExitCode {
     let words: Vec<String> = std::env::args().collect();
     match words.get(1).map(String::as_str) {
-        Some("read") => {
-            let tally = reads::run(number(words.get(2)), number(words.get(3)));
-            println!("reads by refusal number, 0 accepted: {:?}", tally.numbers);
-            println!("{} reads, {} differ", tally.calls, tally.differ);
-            ExitCode::from(u8::from(tally.differ > 0))
-        }
-        Some("replay") => {
-            let tally = replays::run(number(words.get(2)), number(words.get(3)));
-            println!("{} replays, {} yes, {} refused, {} differ", tally.calls, tally.yes, tally.refused, tally.differ);
-            ExitCode::from(u8::from(tally.differ > 0))
-        }
+        Some("read") => reads::compare(number(words.get(2)), number(words.get(3))),
+        Some("replay") => replays::compare(number(words.get(2)), number(words.get(3))),
         Some("step") => steps::compare(number(words.get(2)), number(words.get(3))),
         Some("check") => checks::compare(number(words.get(2)), number(words.get(3))),
         Some("solve") => solve::compare(number(words.get(2)), number(words.get(3))),

@@ -1,18 +1,22 @@
-//! Reads: random, damaged and cut records, each answered by the library and by the oracle.
+//! Reads: the oracle's listed records with every refusal, random, damaged and cut ones, each answered by the library and by the oracle.
+use std::process::ExitCode;
+
+use oracle::families::generate;
 use oracle::random::Size;
 use oracle::reads::random_design;
 use oracle::record::{self, encode, sized};
 use oracle::rng::Rng;
+use oracle::vectors::unhex;
 
+use crate::met::{unmet, Kind, Met};
 use struo_formal::ReadAnswer as Read;
 
-/// How many calls were made, and how many answers differ.
+/// How many calls were made, what they met, and how many answers differ.
 #[derive(Default)]
-pub struct Tally {
-    pub calls: u64,
-    pub differ: u64,
-    /// Calls by refusal number, 0 for accepted ones.
-    pub numbers: [u64; 16],
+struct Tally {
+    calls: u64,
+    differ: u64,
+    met: Met,
 }
 
 impl Tally {
@@ -24,7 +28,7 @@ impl Tally {
         };
         let answered = struo_formal::read(bytes);
         self.calls += 1;
-        self.numbers[expected.number as usize] += 1;
+        self.met.count(expected.number, expected.side);
         if answered != expected {
             self.differ += 1;
             if self.differ <= 10 {
@@ -70,10 +74,24 @@ fn size(rng: &mut Rng) -> Size {
     }
 }
 
-/// At least `count` records: random ones, their damage, every cut of a hundred, every change of one byte of some.
-pub fn run(count: u64, seed: u64) -> Tally {
+/// Reads at least `count` records, and says what came of it; each refusal of 1 to 15 has to be met.
+pub fn compare(count: u64, seed: u64) -> ExitCode {
+    let tally = run(count, seed);
+    println!("reads by refusal: {}", tally.met.told(Kind::Read));
+    let missing = unmet(&tally.met.missing(Kind::Read));
+    println!("{} reads, {} refused, {} differ", tally.calls, tally.met.refused(), tally.differ);
+    ExitCode::from(u8::from(tally.differ > 0 || missing))
+}
+
+/// The listed records, then at least `count` in all: random ones, their damage, every cut of a hundred, every change of one byte of some.
+fn run(count: u64, seed: u64) -> Tally {
     let mut rng = Rng::new(seed);
     let mut tally = Tally::default();
+    for line in ["listed", "names", "long"].iter().flat_map(|family| generate(family, 400, seed)) {
+        if let Some(record) = line.strip_prefix("read ") {
+            tally.record(&unhex(record));
+        }
+    }
     for turn in 0..100 {
         let whole = encode(&random_design(&mut rng, Size { inputs: 3, outputs: 3, registers: 3, gates: 6 }));
         for length in 0..=whole.len() {

@@ -5,7 +5,7 @@ import ctypes
 import os
 from functools import lru_cache
 from pathlib import Path
-from typing import Optional
+from typing import List, Optional, Tuple
 
 from .answers import BeginAnswer, CheckAnswer, Position, ReadAnswer, Refusal, ReplayAnswer, Side, Status, StepAnswer
 from .build import LibraryMissing, built_library
@@ -55,13 +55,40 @@ class _Lent:
         self.position = _Position(_number(position.cycle), position.agreed)
         self.bits = (ctypes.c_uint8 * len(position.bits)).from_buffer_copy(position.bits) if position.bits else (ctypes.c_uint8 * 0)()
 
-    def arguments(self) -> list:
-        """What the boundary takes."""
-        return [ctypes.byref(self.position), ctypes.addressof(self.bits), len(self.bits)]
-
     def after(self) -> Position:
         """The position after the call."""
         return Position(self.position.cycle, self.position.agreed, bytes(self.bits))
+
+
+# A number of 64 bits; what has its length beside it: bytes that a call reads, and memory that it writes.
+_NUMBER = ctypes.c_uint64
+_BYTES = ctypes.c_char_p
+_LENT_BYTES, _LENT_WORDS, _LENT_SCORES = (ctypes.POINTER(element) for element in (ctypes.c_uint8, ctypes.c_uint32, ctypes.c_double))
+_LENT_POSITION = ctypes.POINTER(_Position)
+_WITH_LENGTH = (_BYTES, _LENT_BYTES, _LENT_WORDS, _LENT_SCORES)
+
+# What each call answers, and what it takes, in order.
+CALLS = {
+    "struo_read": (_Read, {"record": _BYTES}),
+    "struo_replay": (_Replay, {"gold": _BYTES, "gate": _BYTES, "cycle": _NUMBER, "claim": _BYTES}),
+    "struo_begin": (_Read, {"gold": _BYTES, "gate": _BYTES, "position": _LENT_POSITION, "bits": _LENT_BYTES}),
+    "struo_step": (
+        _Replay,
+        {"gold": _BYTES, "gate": _BYTES, "cycle": _NUMBER, "claim": _BYTES, "position": _LENT_POSITION, "bits": _LENT_BYTES},
+    ),
+    "struo_check": (
+        _Check,
+        {"gold": _BYTES, "gate": _BYTES, "depth": _NUMBER, "trace": _LENT_BYTES, "words": _LENT_WORDS, "scores": _LENT_SCORES},
+    ),
+}
+
+
+def parameters(call: str) -> List[Tuple[str, type]]:
+    """The parameters of a call as C has them."""
+    flat = []
+    for name, kind in CALLS[call][1].items():
+        flat += [(name, kind), (f"{name}_length", ctypes.c_size_t)] if kind in _WITH_LENGTH else [(name, kind)]
+    return flat
 
 
 class Memory:
@@ -93,37 +120,36 @@ class Library:
         self.path = path
         self._calls = ctypes.CDLL(os.fspath(path.resolve()))
         self._memory: Optional[Memory] = None
-        data = [ctypes.c_char_p, ctypes.c_size_t]
-        lent = [ctypes.POINTER(_Position), ctypes.c_void_p, ctypes.c_size_t]
-        for name, arguments, answer in (
-            ("struo_read", data, _Read),
-            ("struo_replay", [*data, *data, ctypes.c_uint64, *data], _Replay),
-            ("struo_begin", [*data, *data, *lent], _Read),
-            ("struo_step", [*data, *data, ctypes.c_uint64, *data, *lent], _Replay),
-            ("struo_check", [*data, *data, ctypes.c_uint64, *[ctypes.c_void_p, ctypes.c_size_t] * 3], _Check),
-        ):
+        for name, (answer, _) in CALLS.items():
             call = getattr(self._calls, name)
-            call.argtypes, call.restype = arguments, answer
+            call.argtypes, call.restype = [kind for _, kind in parameters(name)], answer
+
+    def _ask(self, call: str, **given) -> ctypes.Structure:
+        """A call with its arguments by name."""
+        flat = []
+        for name, kind in CALLS[call][1].items():
+            flat += [given[name], len(given[name])] if kind in _WITH_LENGTH else [given[name]]
+        return getattr(self._calls, call)(*flat)
 
     def read(self, record: bytes) -> ReadAnswer:
         """Reads a design record: accepted, or the first refusal of 1 to 15."""
-        return ReadAnswer(_refusal(self._calls.struo_read(record, len(record))))
+        return ReadAnswer(_refusal(self._ask("struo_read", record=record)))
 
     def replay(self, gold: bytes, gate: bytes, cycle: int, claim: bytes) -> ReplayAnswer:
         """Replays a claimed trace: a refusal of 1 to 15, 18 to 22 or 25, or yes or no."""
-        answer = self._calls.struo_replay(gold, len(gold), gate, len(gate), _number(cycle), claim, len(claim))
+        answer = self._ask("struo_replay", gold=gold, gate=gate, cycle=_number(cycle), claim=claim)
         return ReplayAnswer(_refusal(answer), bool(answer.yes))
 
     def begin(self, gold: bytes, gate: bytes, position: Position = Position()) -> BeginAnswer:
         """Sets a position before cycle 0: a refusal of 1 to 15, 18 to 22 or 24, or the position with the initial bits."""
         lent = _Lent(position)
-        answer = self._calls.struo_begin(gold, len(gold), gate, len(gate), *lent.arguments())
+        answer = self._ask("struo_begin", gold=gold, gate=gate, position=lent.position, bits=lent.bits)
         return BeginAnswer(_refusal(answer), lent.after())
 
     def step(self, gold: bytes, gate: bytes, cycle: int, claim: bytes, position: Position) -> StepAnswer:
         """Moves a position on by one cycle of a claimed trace: a refusal of 1 to 15, 18 to 22, 24 or 25, or yes or no and the next position."""
         lent = _Lent(position)
-        answer = self._calls.struo_step(gold, len(gold), gate, len(gate), _number(cycle), claim, len(claim), *lent.arguments())
+        answer = self._ask("struo_step", gold=gold, gate=gate, cycle=_number(cycle), claim=claim, position=lent.position, bits=lent.bits)
         return StepAnswer(_refusal(answer), bool(answer.yes), lent.after())
 
     def check(self, gold: bytes, gate: bytes, depth: int, memory: Optional[Memory] = None) -> CheckAnswer:
@@ -131,8 +157,7 @@ class Library:
         if memory is None:
             memory = self._memory = self._memory or Memory()
         memory.unwrite()
-        lent = [part for array in (memory.trace, memory.words, memory.scores) for part in (ctypes.addressof(array), len(array))]
-        answer = self._calls.struo_check(gold, len(gold), gate, len(gate), _number(depth), *lent)
+        answer = self._ask("struo_check", gold=gold, gate=gate, depth=_number(depth), trace=memory.trace, words=memory.words, scores=memory.scores)
         status = None if answer.number else Status(answer.status)
         trace = memory.written() if status is Status.NOT_EQUIVALENT else b""
         return CheckAnswer(_refusal(answer), status, answer.depth, answer.mismatch, answer.query, trace)

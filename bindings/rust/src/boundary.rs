@@ -99,7 +99,7 @@ impl CheckAnswer {
 }
 
 extern "C" {
-    pub(crate) fn struo_read(record: *const u8, length: usize) -> ReadAnswer;
+    pub(crate) fn struo_read(record: *const u8, record_length: usize) -> ReadAnswer;
     pub(crate) fn struo_replay(
         gold: *const u8,
         gold_length: usize,

@@ -30,7 +30,7 @@ fn build(words: &mut [u32], netlist: Netlist, again: u32) -> u32
 }
 
 // The nodes of a record's transition graph, node 0 among them, built once and `again` times more; 0 where the record is refused or the
-// words are too few. Nothing is asked of any argument.
+// words are too few. Nothing is asked of any argument. Left open: `words`, of a refused call too, and that the graph is built so often.
 #[no_mangle]
 pub extern "C" fn struo_build(record: &[u8], again: u32, words: &mut [u32]) -> u32
     ensures { λ r. ⌜ r ≡ sizeRead (length (now (words .entry))) (readRecord (now («record» .entry))) ⌝ }

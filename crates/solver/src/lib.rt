@@ -164,7 +164,8 @@ fn search_graph(
 }
 
 // The graph of a list of nodes, two literals each, both 0 for a variable, and the search of it under assumptions and a limit of learned
-// literals. The values of a model stand in VALUES. Nothing is asked of any argument.
+// literals. The values of a model stand in VALUES. Nothing is asked of any argument. Left open: `words` beside the values of a model, `scores`, the
+// nodes of an answer without a model, and of a refused call its nodes, its total and which status of 3 or more it has.
 #[no_mangle]
 pub extern "C" fn struo_solve(
     nodes: &[u32],
@@ -191,7 +192,8 @@ pub extern "C" fn struo_solve(
     }
 }
 
-// The nodes of the graph of a list, node 0 among them; 0 where the list is refused. For measuring what the graph costs of a search.
+// The nodes of the graph of a list, node 0 among them; 0 where the list is refused. For measuring what the graph costs of a search. Nothing is
+// asked of any argument. Left open: `words`, of a refused call too.
 #[no_mangle]
 pub extern "C" fn struo_rebuild(nodes: &[u32], words: &mut [u32]) -> u32
     ensures { λ r. ⌜ r ≡ size (now (nodes .entry)) (length (now (words .entry))) ⌝ }

@@ -1,0 +1,91 @@
+//! What a call can be refused with, on which side, and how often a run met it.
+
+/// The calls of the library.
+#[derive(Clone, Copy)]
+pub enum Kind {
+    Read,
+    Check,
+    Replay,
+}
+
+impl Kind {
+    /// Whether it can answer this number with this side; number 0 is an accepted call.
+    fn can(self, number: usize, side: usize) -> bool {
+        let (gate, of_one_side) = (side == 1, matches!(number, 1..=15 | 20 | 22));
+        let own = match self {
+            Self::Read => number <= 15 && !gate,
+            Self::Check => number <= 24,
+            Self::Replay => matches!(number, 0..=15 | 18..=22 | 25),
+        };
+        own && (!gate || of_one_side)
+    }
+}
+
+/// Calls by the number and the side of their answers.
+#[derive(Default)]
+pub struct Met([[u64; 2]; 26]);
+
+impl Met {
+    /// One more call.
+    pub fn count(&mut self, number: u32, side: u32) {
+        self.0[number as usize][side as usize] += 1;
+    }
+
+    /// How often a number was met.
+    pub fn times(&self, number: usize) -> u64 {
+        self.0[number].iter().sum()
+    }
+
+    /// All that were refused.
+    pub fn refused(&self) -> u64 {
+        (1..26).map(|number| self.times(number)).sum()
+    }
+
+    /// Both.
+    pub fn add(&mut self, other: &Self) {
+        self.0.iter_mut().flatten().zip(other.0.iter().flatten()).for_each(|(our, their)| *our += their);
+    }
+
+    /// Each number that the call can answer, with how often it was met, gold + gate where it can have both sides.
+    pub fn told(&self, call: Kind) -> String {
+        let one = |number: usize| {
+            let [gold, gate] = self.0[number];
+            if call.can(number, 1) { format!("{number}:{gold}+{gate}") } else { format!("{number}:{gold}") }
+        };
+        (0..26).filter(|number| call.can(*number, 0)).map(one).collect::<Vec<_>>().join(" ")
+    }
+
+    /// What the call can answer and was not met.
+    pub fn missing(&self, call: Kind) -> Vec<String> {
+        let all = (0..26).flat_map(|number| [(number, 0), (number, 1)]);
+        all.filter(|(number, side)| call.can(*number, *side) && self.0[*number][*side] == 0).map(|(number, side)| format!("refusal {number} of side {side}")).collect()
+    }
+}
+
+/// Says what was not met; whether something was not.
+pub fn unmet(missing: &[String]) -> bool {
+    if !missing.is_empty() {
+        println!("not met: {}", missing.join(", "));
+    }
+    !missing.is_empty()
+}
+
+#[cfg(test)]
+mod tests {
+    use super::*;
+
+    #[test]
+    fn one_that_was_not_met_is_missing() {
+        for (call, all) in [(Kind::Read, 16), (Kind::Check, 25 + 17), (Kind::Replay, 22 + 17)] {
+            let mut met = Met::default();
+            assert_eq!(met.missing(call).len(), all);
+            for number in 0..26 {
+                met.count(number, 0);
+                met.count(number, 1);
+            }
+            assert!(met.missing(call).is_empty());
+            met.0[7][0] = 0;
+            assert_eq!(met.missing(call), ["refusal 7 of side 0"]);
+        }
+    }
+}

@@ -1,0 +1,211 @@
+/* Runs every line of the recorded list through the C boundary: answers and every lent byte, and that each status, each query's give-up and each refusal
+   was met, on each side that it can have. `recorded FILE`; the form of a line is that of oracle/README.md. */
+#include <stdio.h>
+#include <stdlib.h>
+#include <string.h>
+
+#include "struo_formal.h"
+
+/* What a buffer holds before a call, and how many elements more than lent are watched. */
+#define HELD 0xa5
+#define SPARE 8192
+
+/* How often each refusal was met by call and side, each status, each query that gave up, and each answer of a replay. */
+enum { READ, CHECK, REPLAY };
+static const char *const calls[3] = {"read", "check", "replay"};
+static unsigned met[3][26][2], statuses[4], gave_up[5], answers[2];
+
+/* The line in hand, how many calls were made, and how many of them differ. */
+static unsigned lines, made, differ;
+
+/* Scores before a call: quiet and signalling NaNs of several payloads, infinities, zeros of both signs, and a number. */
+static const uint64_t patterns[] = {0x7ff8000000000000, 0x7ff8000000000001, 0xfff8000000000000, 0xffffffffffffffff, 0x7ff0000000000001, 0xfff4a5a5a5a5a5a5,
+                                    0x7ff0000000000000, 0xfff0000000000000, 0x8000000000000000, 0x0000000000000000, 0xa5a5a5a5a5a5a5a5};
+
+static uint32_t words[STRUO_WORDS_LENGTH + SPARE];
+static double scores[STRUO_SCORES_LENGTH + SPARE];
+static uint8_t trace[65536 + SPARE];
+
+/* Bytes and how many they are. */
+struct bytes {
+    uint8_t *data;
+    size_t length;
+};
+
+/* A line that is not in a known form. */
+static void malformed(void) {
+    printf("recorded: line %u is in no known form\n", lines);
+    exit(1);
+}
+
+/* The next word of the line. */
+static char *word(void) {
+    char *found = strtok(NULL, " \n");
+    if (!found) malformed();
+    return found;
+}
+
+/* The next word as a number. */
+static uint64_t number(void) {
+    char *end, *found = word();
+    uint64_t value = strtoull(found, &end, 10);
+    if (*end) malformed();
+    return value;
+}
+
+/* The next word as bytes, `-` for none. */
+static struct bytes hex(void) {
+    char *found = word();
+    size_t length = strcmp(found, "-") ? strlen(found) / 2 : 0;
+    struct bytes bytes = {malloc(length + 1), length};
+    for (size_t i = 0; i < length; i++) {
+        unsigned byte;
+        if (sscanf(found + 2 * i, "%2x", &byte) != 1) malformed();
+        bytes.data[i] = (uint8_t)byte;
+    }
+    return bytes;
+}
+
+/* The sign between what is asked and what is answered. */
+static void equals(void) {
+    if (strcmp(word(), "=")) malformed();
+}
+
+/* Counts a call by its refusal, and compares it. */
+static void count(int call, uint32_t refusal, uint32_t side, bool same) {
+    made++;
+    if (refusal < 26 && side < 2) met[call][refusal][side]++;
+    if (same) return;
+    differ++;
+    printf("recorded: line %u: the answer of %s, or a byte lent, differs\n", lines, calls[call]);
+}
+
+/* Whether an answer's three numbers are the next three of the line. */
+static bool refused_so(uint32_t refusal, uint32_t side, uint32_t place) {
+    uint64_t wanted[3];
+    for (int i = 0; i < 3; i++) wanted[i] = number();
+    return refusal == wanted[0] && side == wanted[1] && place == wanted[2];
+}
+
+/* A line that reads a record. */
+static void read_line(void) {
+    struct bytes record = hex();
+    equals();
+    struct struo_read_answer answer = struo_read(record.data, record.length);
+    count(READ, answer.number, answer.side, refused_so(answer.number, answer.side, answer.place));
+    free(record.data);
+}
+
+/* A line that replays a claim. */
+static void replay_line(void) {
+    struct bytes gold = hex(), gate = hex();
+    uint64_t cycle = number();
+    struct bytes claim = hex();
+    equals();
+    struct struo_replay_answer answer = struo_replay(gold.data, gold.length, gate.data, gate.length, cycle, claim.data, claim.length);
+    bool same = refused_so(answer.number, answer.side, answer.place);
+    same &= answer.yes == !strcmp(word(), "yes");
+    if (answer.number == 0) answers[answer.yes]++;
+    count(REPLAY, answer.number, answer.side, same);
+    free(gold.data), free(gate.data), free(claim.data);
+}
+
+/* The pattern of a score. */
+static uint64_t pattern(size_t place) {
+    return patterns[place % (sizeof patterns / sizeof *patterns)];
+}
+
+/* Fills the memory of a check; what a refused one left needs no filling. */
+static void hold(void) {
+    memset(words, HELD, sizeof words);
+    for (size_t i = 0; i < STRUO_SCORES_LENGTH + SPARE; i++) {
+        uint64_t bits = pattern(i);
+        memcpy(&scores[i], &bits, sizeof bits);
+    }
+}
+
+/* Whether the work memory is as it has to be: zero where it was lent to an accepted check, else as it was. */
+static bool work_holds(bool accepted, size_t words_length, size_t scores_length) {
+    uint64_t bits;
+    bool same = true;
+    for (size_t i = 0; i < STRUO_WORDS_LENGTH + SPARE; i++) same &= words[i] == (accepted && i < words_length ? 0 : 0x01010101u * HELD);
+    for (size_t i = 0; i < STRUO_SCORES_LENGTH + SPARE; i++) {
+        memcpy(&bits, &scores[i], sizeof bits);
+        same &= bits == (accepted && i < scores_length ? 0 : pattern(i));
+    }
+    return same;
+}
+
+/* Whether the trace begins with the written bytes and holds all others. */
+static bool trace_holds(struct bytes written) {
+    for (size_t i = 0; i < sizeof trace; i++)
+        if (trace[i] != (i < written.length ? written.data[i] : HELD)) return false;
+    return true;
+}
+
+/* A line that checks a pair. */
+static void check_line(void) {
+    struct bytes gold = hex(), gate = hex();
+    uint64_t depth = number();
+    size_t trace_length = number(), words_length = number(), scores_length = number();
+    equals();
+    if (trace_length > sizeof trace || words_length > STRUO_WORDS_LENGTH + SPARE || scores_length > STRUO_SCORES_LENGTH + SPARE) malformed();
+    memset(trace, HELD, sizeof trace);
+    struct struo_check_answer answer = struo_check(gold.data, gold.length, gate.data, gate.length, depth, trace, trace_length, words, words_length, scores, scores_length);
+    bool accepted = answer.number == 0, same = refused_so(answer.number, answer.side, answer.place);
+    const uint32_t told[4] = {answer.status, answer.depth, answer.mismatch, answer.query};
+    for (int i = 0; i < 4; i++) same &= told[i] == number();
+    struct bytes written = hex();
+    same &= trace_holds(written) && work_holds(accepted, words_length, scores_length);
+    if (accepted && answer.status < 4) statuses[answer.status]++;
+    if (accepted && answer.query < 5) gave_up[answer.query]++;
+    if (accepted || !same) hold();
+    count(CHECK, answer.number, answer.side, same);
+    free(gold.data), free(gate.data), free(written.data);
+}
+
+/* Whether a call can answer a refusal on a side. */
+static bool can(int call, unsigned refusal, unsigned side) {
+    if (refusal <= 15) return side == 0 || (call != READ && refusal > 0);
+    if (call == READ || (call == CHECK && refusal == 25)) return false;
+    if (call == REPLAY && (refusal <= 17 || refusal == 23 || refusal == 24)) return false;
+    return side == 0 || refusal == 20 || refusal == 22;
+}
+
+/* Says how often what a call can answer was met; how many of these were not. */
+static unsigned unmet(void) {
+    unsigned missing = 0;
+    for (int call = READ; call <= REPLAY; call++) {
+        printf("recorded: %s by refusal, gold+gate:", calls[call]);
+        for (unsigned refusal = 0; refusal < 26; refusal++) {
+            if (!can(call, refusal, 0)) continue;
+            printf(can(call, refusal, 1) ? " %u:%u+%u" : " %u:%u", refusal, met[call][refusal][0], met[call][refusal][1]);
+            for (unsigned side = 0; side < 2; side++) missing += can(call, refusal, side) && !met[call][refusal][side];
+        }
+        printf("\n");
+    }
+    printf("recorded: Equivalent %u, NotEquivalent %u, Inconclusive %u, GaveUp %u (query 1 %u, 2 %u, 3 %u, 4 %u); replay no %u, yes %u\n", statuses[0],
+           statuses[1], statuses[2], statuses[3], gave_up[1], gave_up[2], gave_up[3], gave_up[4], answers[0], answers[1]);
+    for (int i = 0; i < 4; i++) missing += !statuses[i] + !gave_up[i + 1];
+    return missing + !answers[0] + !answers[1];
+}
+
+int main(int argc, char **argv) {
+    static char line[1 << 19];
+    FILE *file = argc == 2 ? fopen(argv[1], "r") : NULL;
+    if (!file) return printf("recorded FILE\n"), 2;
+    hold();
+    while (fgets(line, sizeof line, file)) {
+        lines++;
+        char *call = strtok(line, " \n");
+        if (!call || *call == '#') continue;
+        if (!strcmp(call, "read")) read_line();
+        else if (!strcmp(call, "replay")) replay_line();
+        else if (!strcmp(call, "check")) check_line();
+        else malformed();
+    }
+    fclose(file);
+    unsigned missing = unmet();
+    printf("recorded: %u lines through the C boundary, %u differ, %u answers not met\n", made, differ, missing);
+    return differ || missing;
+}
