@@ -72,8 +72,8 @@ enum struo_refusal {
 #define STRUO_TRACE_LENGTH_MAX 4224
 
 /* How much of the stack each call takes at most, in bytes. No memory is allocated. */
-#define STRUO_READ_STACK 71000
-#define STRUO_CHECK_STACK 143000
+#define STRUO_READ_STACK 66000
+#define STRUO_CHECK_STACK 145000
 #define STRUO_REPLAY_STACK 170000
 #define STRUO_BEGIN_STACK 145000
 #define STRUO_STEP_STACK 198000

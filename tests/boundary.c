@@ -1,6 +1,7 @@
-/* Links the static library and calls it as a C program would, each call also on a stack of the size that the header states. */
+/* Links the static library and calls it as a C program would, and measures that each call takes no more stack than the header states. */
 #include <pthread.h>
 #include <stdio.h>
+#include <string.h>
 
 #include "struo_formal.h"
 
@@ -132,7 +133,7 @@ static void refuses_claim(const char *what, uint64_t cycle) {
 
 /* The calls for a thread of its own. */
 static void *reading(void *none) {
-    reads("wire on a small stack", wire, sizeof wire, STRUO_ACCEPTED, 0);
+    reads("wire on a painted stack", wire, sizeof wire, STRUO_ACCEPTED, 0);
     return none;
 }
 
@@ -147,26 +148,43 @@ static void *beginning(void *none) {
 }
 
 static void *stepping(void *none) {
-    steps("a step on a small stack", (struct struo_position){0, true}, 0, 0, STRUO_BITS_LENGTH, STRUO_ACCEPTED, false, 1, true, 1, 1);
+    steps("a step on a painted stack", (struct struo_position){0, true}, 0, 0, STRUO_BITS_LENGTH, STRUO_ACCEPTED, false, 1, true, 1, 1);
     return none;
 }
 
 static void *checking(void *none) {
-    checks("wire on a small stack", wire, sizeof wire, 64, STRUO_WORDS_LENGTH, (struct struo_check_answer){.status = STRUO_EQUIVALENT, .depth = 1}, 0);
+    checks("wire on a painted stack", wire, sizeof wire, 64, STRUO_WORDS_LENGTH, (struct struo_check_answer){.status = STRUO_EQUIVALENT, .depth = 1}, 0);
     return none;
 }
 
-/* A call on a stack of its stated size, beside what the thread itself takes. */
-static void on_stack(void *(*call)(void *), size_t size) {
+/* A stack that is painted before a call, so that it shows how far down the call wrote. */
+enum { PAINT = 0xA5, STACK_LENGTH = 1 << 19 };
+static _Alignas(4096) uint8_t stack[STACK_LENGTH];
+
+/* How many bytes of the painted stack a thread takes. */
+static size_t taken(void *(*call)(void *)) {
     pthread_attr_t attributes;
     pthread_t thread;
-    size_t pages = (size + 8 * 1024 + 4095) / 4096;
-    if (pthread_attr_init(&attributes) || pthread_attr_setstacksize(&attributes, pages * 4096) || pthread_create(&thread, &attributes, call, NULL)) {
-        printf("boundary: no thread with a stack of %zu bytes\n", size);
-        failed = 1;
-        return;
-    }
+    memset(stack, PAINT, sizeof stack);
+    if (pthread_attr_init(&attributes) || pthread_attr_setstack(&attributes, stack, sizeof stack) || pthread_create(&thread, &attributes, call, NULL)) return 0;
     pthread_join(thread, NULL);
+    size_t untouched = 0;
+    while (untouched < sizeof stack && stack[untouched] == PAINT) untouched++;
+    return sizeof stack - untouched;
+}
+
+static void *nothing(void *unused) {
+    return unused;
+}
+
+/* A call takes at most its stated size beside what a thread itself takes; and at least half of it, or nothing was measured. */
+static void on_stack(const char *what, void *(*call)(void *), size_t stated) {
+    size_t empty = taken(nothing);
+    size_t whole = taken(call);
+    if (empty == 0 || whole < empty + stated / 2 || whole > empty + stated) {
+        printf("boundary: %s takes %zu bytes of stack beside a thread's %zu, stated are %zu\n", what, whole - empty, empty, stated);
+        failed = 1;
+    }
 }
 
 int main(void) {
@@ -202,11 +220,11 @@ int main(void) {
     checks_pair("a row to depth 1", row, sizeof row, holding, sizeof holding, 1, STRUO_WORDS_LENGTH, (struct struo_check_answer){.status = STRUO_INCONCLUSIVE, .depth = 1}, 0);
     checks("a cut gate", inverter, 5, 1, STRUO_WORDS_LENGTH, (struct struo_check_answer){.number = STRUO_REFUSAL_LENGTH, .side = STRUO_GATE}, 0);
     checks("a word short", inverter, sizeof inverter, 1, STRUO_WORDS_LENGTH - 1, (struct struo_check_answer){.number = STRUO_REFUSAL_MEMORY}, 0);
-    on_stack(reading, STRUO_READ_STACK);
-    on_stack(replaying, STRUO_REPLAY_STACK);
-    on_stack(beginning, STRUO_BEGIN_STACK);
-    on_stack(stepping, STRUO_STEP_STACK);
-    on_stack(checking, STRUO_CHECK_STACK);
+    on_stack("a read", reading, STRUO_READ_STACK);
+    on_stack("a replay", replaying, STRUO_REPLAY_STACK);
+    on_stack("a begin", beginning, STRUO_BEGIN_STACK);
+    on_stack("a step", stepping, STRUO_STEP_STACK);
+    on_stack("a check", checking, STRUO_CHECK_STACK);
     if (!failed) printf("boundary: the C calls answer as specified\n");
     return failed;
 }

@@ -47,10 +47,10 @@ pub const BITS: usize = 256;
 pub const GATE_BITS: usize = 128;
 
 /// How many bytes of stack a read takes at most.
-pub const READ_STACK: usize = 71_000;
+pub const READ_STACK: usize = 66_000;
 
 /// How many bytes of stack a check takes at most.
-pub const CHECK_STACK: usize = 143_000;
+pub const CHECK_STACK: usize = 145_000;
 
 /// How many bytes of stack a replay takes at most.
 pub const REPLAY_STACK: usize = 170_000;
