@@ -151,6 +151,22 @@ pub fn stash(words: &mut [u32], base: usize, size: usize, i: usize, value: u32)
     }
 }
 
+// A word of the region at `base`, whose place is within it.
+pub fn load(words: &[u32], base: usize, i: usize) -> u32
+    requires { ⌜ (LENT ≤ length (now words)) × (base + sizeOf base ≤ LENT) × (i < sizeOf base) ⌝ }
+    ensures { λ r. ⌜ r ≡ getD (region base (now (words .entry))) i 0 ⌝ }
+{
+    words[base + i]
+}
+
+// A store into the region at `base`, whose place is within it. The words stay long enough for the next call.
+pub fn put(words: &mut [u32], base: usize, i: usize, value: u32)
+    requires { ⌜ (LENT ≤ length (now words)) × (base + sizeOf base ≤ LENT) × (i < sizeOf base) ⌝ }
+    ensures { λ _. ⌜ (now (words .exit) ≡ stored base (now (words .entry)) i value) × (LENT ≤ length (now (words .exit))) ⌝ }
+{
+    words[base + i] = value;
+}
+
 // The lower of two numbers.
 pub fn lower(a: usize, b: usize) -> usize
     ensures { λ r. ⌜ r ≡ min a b ⌝ }
