@@ -7,7 +7,6 @@ import tempfile
 
 from mutation import source as src
 
-CASES = ["Cases", "ReadCases", "PairCases", "RunCases", "GraphCases", "SatCases", "SatStates"]
 SECONDS = 240
 
 
@@ -23,8 +22,8 @@ class Room:
                 shutil.copytree(os.path.join(src.ROOT, "crates", crate), os.path.join(room, "crates", crate), ignore=shutil.ignore_patterns("must-fail", "model-edits"))
         specs = os.path.join(self.laws, "crates", "model", "specs")
         lines = src.read(os.path.join(specs, "Lib.antt")).splitlines(keepends=True)
-        write(os.path.join(specs, "Lib.antt"), "".join(line for line in lines if line.split()[-1] not in CASES))
-        for name in CASES:
+        write(os.path.join(specs, "Lib.antt"), "".join(line for line in lines if line.split()[-1] not in src.CASES))
+        for name in src.CASES:
             os.remove(os.path.join(specs, name + ".antt"))
 
     def warm(self):
@@ -52,7 +51,7 @@ class Room:
         status, said = self.check(self.cases, "model", change)
         where = first_error(said)
         if status:
-            return f"case {where[1]}" if where[1] in CASES else "no definition"
+            return f"case {where[1]}" if where[1] in src.CASES else "no definition"
         if status == 0:
             status, said = self.check(self.laws, "laws", change)
             where = first_error(said)

@@ -4,8 +4,11 @@ import re
 
 ROOT = os.path.dirname(os.path.dirname(os.path.dirname(os.path.abspath(__file__))))
 SPECS = os.path.join(ROOT, "crates", "model", "specs")
-FILES = ["Options", "Answers", "Check", "Pair", "Replay", "Validate", "Run", "Transition", "Equivalence", "Record", "Kinds", "Names", "Netlist", "Lists",
-         "Literal", "Aig", "Sat", "Induction"]
+# The files of `model`: closed cases, and definitions.
+with open(os.path.join(SPECS, "Lib.antt"), encoding="utf-8") as lib:
+    MODULES = [line.split()[-1] for line in lib if line.strip()]
+CASES = [name for name in MODULES if name.endswith(("Cases", "States"))]
+FILES = [name for name in MODULES if name not in CASES]
 # The types of the arguments of what the libraries have; those whose order is of no account are left out.
 LIBRARY = {"ltb": "ℕ ℕ", "leb": "ℕ ℕ", "lt": "Float Float", "compare": "ℕ ℕ", "cond": "Bool A A", "getD": "L ℕ A", "set": "L ℕ A", "take": "ℕ L", "drop": "ℕ L", "replicate": "ℕ A",
            "Ieee.div": "F Float Float"}
