@@ -55,7 +55,8 @@ fn rust(pair: &Pair) {
     black_box(meter::unless_gave_up(|| prove_sequential_equivalence(&system(gold), &system(gate), pair.depth as usize).is_ok()));
 }
 
-/// The groups of pairs, from such as search nothing to such as search for seconds.
+/// The groups of pairs, from such as search nothing to such as search for seconds. `dense GATES/REGISTERS`, to 1024/40 near the bound of refusal 23: one random design written twice, with a few
+/// gates in other forms. `lfsr 8`: a feedback shift register of 8 bits in its Fibonacci and its Galois form. `add3 10`: three numbers of 10 bits added in two orders.
 fn groups(seed: u64) -> Vec<(&'static str, Vec<String>)> {
     let lone = encode(&shapes::lone());
     let counter = |count| encode(&shapes::counter("c", 9, count, false));
@@ -72,6 +73,12 @@ fn groups(seed: u64) -> Vec<(&'static str, Vec<String>)> {
         ("the bound 65,535, depth 64", one("limits", 0)),
         ("nine-bit counters, depth 64", vec![check_line(&counter(260), &counter(255), 64, LENT)]),
         ("a product of 6 bits, a rescaling", one("rescale", 0)),
+        ("dense 400/8 at D = 16", one("dense", 0)),
+        ("dense 1024/40 at D = 8", one("dense", 1)),
+        ("shift rows of 32 registers under other names", one("rows", 0)),
+        ("lfsr 8 at D = 48", one("feedback", 0)),
+        ("add3 10, its highest bit", one("sums", 0)),
+        ("add3 10", one("sums", 1)),
         ("give-up in query 1", one("giveup", 2)),
         ("give-up in query 2", one("giveup", 3)),
         ("give-up in query 3", one("giveup", 4)),

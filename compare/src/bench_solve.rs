@@ -92,6 +92,10 @@ pub fn searches(seed: u64) -> ExitCode {
     row(&mut rng, "product bits, 3 to 5 bits", larger("hard", 30, 100));
     row(&mut rng, "product bit, 6 bits", larger("rescale", 1, 0));
     row(&mut rng, "give-ups at the limit", larger("giveup", 6, 0));
+    row(&mut rng, "dense 400/8 at D = 16, dense 1024/40 at D = 8", larger("dense", 2, 0));
+    row(&mut rng, "shift rows of 32 registers under other names", larger("rows", 1, 0));
+    row(&mut rng, "lfsr 8 at D = 48", larger("feedback", 1, 0));
+    row(&mut rng, "add3 10", larger("sums", 2, 0));
     for nodes in [5_000, 20_000] {
         let problem = large_graph(&mut rng, nodes);
         row(&mut rng, "one large random graph", vec![problem]);

@@ -206,7 +206,7 @@ impl Block {
 
     /// Whether its searches are short.
     fn quick(&self) -> bool {
-        !matches!(self.family, "deep" | "hard" | "rescale" | "giveup" | "limits" | "cases")
+        !matches!(self.family, "deep" | "hard" | "rescale" | "giveup" | "limits" | "cases" | "dense" | "rows" | "feedback" | "sums")
     }
 }
 
@@ -233,7 +233,8 @@ fn blocks(count: usize, seed: u64) -> Vec<Block> {
     let mut blocks = Vec::new();
     if count >= 10_000 {
         blocks.extend((0..2).map(|skip| Block { family: "giveup", count: 1, skip, seed }));
-        blocks.extend(["rescale", "cases"].map(fixed));
+        blocks.extend(["rescale", "cases", "rows", "feedback", "sums"].map(fixed));
+        blocks.push(Block { family: "dense", count: 2, skip: 0, seed });
         blocks.push(Block { family: "deep", count: 3, skip: 0, seed });
     }
     blocks.extend((2..6).map(|skip| Block { family: "giveup", count: 1, skip, seed }));
@@ -254,7 +255,7 @@ fn blocks(count: usize, seed: u64) -> Vec<Block> {
 }
 
 /// Checks the fixed families and `count` random pairs through the library, and says what came of it: each status, a give-up in each query and each
-/// refusal on each side that it can have have to be met. From 10,000 pairs on with the rescaling and the deepest searches.
+/// refusal on each side that it can have have to be met. From 10,000 pairs on with the rescaling, the deepest searches and the pairs that are measured alone.
 pub fn compare(count: u64, seed: u64) -> ExitCode {
     let threads = std::thread::available_parallelism().map_or(1, usize::from);
     let tally = run(usize::try_from(count).expect("a count fits"), seed, threads, &struo_formal::check);

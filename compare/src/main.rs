@@ -1,5 +1,6 @@
 //! Compares the library with the oracle: `compare read COUNT SEED`, `replay COUNT SEED`, `step COUNT SEED`, `check COUNT SEED`, `solve COUNT SEED`, `build COUNT SEED`;
-//! measures both: `bench SEED`, `bench-check SEED`, `bench-solve SEED`, `bench-build SEED`.
+//! measures both: `bench SEED`, `bench-check SEED`, `bench-solve SEED`, `bench-build SEED`; writes the records of a pair: `records FAMILY PLACE SEED DIR`.
+use std::path::Path;
 use std::process::ExitCode;
 
 mod bench;
@@ -11,6 +12,7 @@ mod clock;
 mod lent;
 mod met;
 mod reads;
+mod records;
 mod replays;
 mod solve;
 mod steps;
@@ -35,8 +37,9 @@ fn main() -> ExitCode {
             ExitCode::SUCCESS
         }
         Some("bench-check") => bench_check::checks(number(words.get(2))),
+        Some("records") if words.len() == 6 => records::write(&words[2], number(words.get(3)) as usize, number(words.get(4)), Path::new(&words[5])),
         _ => {
-            println!("compare read COUNT SEED | replay COUNT SEED | step COUNT SEED | check COUNT SEED | solve COUNT SEED | build COUNT SEED | bench SEED | bench-check SEED | bench-solve SEED | bench-build SEED");
+            println!("compare read COUNT SEED | replay COUNT SEED | step COUNT SEED | check COUNT SEED | solve COUNT SEED | build COUNT SEED | bench SEED | bench-check SEED | bench-solve SEED | bench-build SEED | records FAMILY PLACE SEED DIR");
             ExitCode::from(2)
         }
     }

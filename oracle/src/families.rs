@@ -1,5 +1,6 @@
 //! The families of vector lines: pairs, reads, replays; each deterministic by its seed.
 use crate::check::{prove, NOT_EQUIVALENT};
+use crate::dense::{dense, Dense};
 use crate::meter::Wish;
 use crate::pair::{cost, trace_need, Lent, SCORES, WORDS};
 use crate::random::{changed, design, interface, register_names, Size};
@@ -8,7 +9,7 @@ use crate::reads;
 use crate::refusals;
 use crate::rewrite::rewritten;
 use crate::rng::Rng;
-use crate::shapes::{self, Builder, Multiplier};
+use crate::shapes::{self, Builder, Feedback, Multiplier};
 use crate::solving;
 use crate::vectors::{check_line, hex, replay_line};
 
@@ -157,6 +158,37 @@ fn late_proof(rng: &mut Rng, length: usize) -> Pair {
     };
     let gate = rewritten(rng, &gold, rename);
     Pair { gold, gate, depth: length }
+}
+
+/// A row of 32 registers against one rewritten, with no register named alike: Equivalent at depth 32, by query 4.
+fn shift_rows(rng: &mut Rng) -> Vec<String> {
+    let gold = long_row("p", 32);
+    let gate = rewritten(rng, &gold, |name| [b"q", &name[1..]].concat());
+    vec![Pair { gold, gate, depth: 32 }.line()]
+}
+
+/// Dense pairs, by turns 400 gates and 8 registers a side to depth 16, and 1,024 nodes and 40 registers a side to depth 8, where the sum of refusal 23 is 65,465.
+fn dense_pairs(rng: &mut Rng, count: usize) -> Vec<String> {
+    let small = Dense { inputs: 16, outputs: 4, registers: 8, nodes: 428, late: 10, more: 10 };
+    let large = Dense { inputs: 64, outputs: 64, registers: 40, nodes: 1_024, late: 10, more: 10 };
+    (0..count)
+        .map(|place| {
+            let (size, depth) = if place % 2 == 0 { (small, 16) } else { (large, 8) };
+            let (gold, gate) = dense(rng, size);
+            Pair { gold, gate, depth }.line()
+        })
+        .collect()
+}
+
+/// The two forms of a linear feedback shift register of 8 bits, y being 1 in the state after 60 cycles: Inconclusive at 48, since free states may agree in y for up to 255 cycles.
+fn feedback() -> Vec<String> {
+    let (gold, gate) = (Feedback::Fibonacci.design("p", 60), Feedback::Galois.design("q", 60));
+    vec![Pair { gold, gate, depth: 48 }.line()]
+}
+
+/// Three numbers of 10 bits added in two orders: the highest bit of the sum, which is proved, and all its bits, which give up.
+fn sums() -> Vec<String> {
+    [9, 0].map(|first| Pair { gold: shapes::three_added(10, first, false), gate: shapes::three_added(10, first, true), depth: 1 }.line()).to_vec()
 }
 
 /// Equivalent at depth k: checked to k, one short of it, and past it.
@@ -371,9 +403,9 @@ fn under(rng: &mut Rng, count: usize) -> Vec<String> {
 }
 
 /// The names of the families.
-pub const FAMILIES: [&str; 24] = [
+pub const FAMILIES: [&str; 28] = [
     "cases", "pairs", "small", "rewritten", "deep", "late", "hard", "rescale", "giveup", "limits", "buffers", "refusals", "sides", "replays", "refused-replays", "reads",
-    "listed", "cuts", "changes", "long", "names", "wire-bytes", "under", "solve",
+    "listed", "cuts", "changes", "long", "names", "wire-bytes", "under", "solve", "dense", "rows", "feedback", "sums",
 ];
 
 /// The lines of a family, without answers.
@@ -403,6 +435,10 @@ pub fn generate(family: &str, count: usize, seed: u64) -> Vec<String> {
         "names" => reads::names(),
         "wire-bytes" => reads::wire_bytes(),
         "under" => under(rng, count),
+        "dense" => dense_pairs(rng, count),
+        "rows" => shift_rows(rng),
+        "feedback" => feedback(),
+        "sums" => sums(),
         "solve" => (0..count).map(|_| solving::random_problem(rng)).collect(),
         _ => panic!("no family {family}; there are {}", FAMILIES.join(", ")),
     };

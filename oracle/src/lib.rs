@@ -5,6 +5,7 @@ include!(concat!(env!("OUT_DIR"), "/struo.rs"));
 pub mod asserts;
 pub mod bridge;
 pub mod check;
+pub mod dense;
 pub mod exhaustive;
 pub mod families;
 pub mod meter;

@@ -1,4 +1,4 @@
-//! Designs with a purpose: the specification's cases, rows, counters, multipliers.
+//! Designs with a purpose: the specification's cases, rows, counters, feedback shift registers, adders, multipliers.
 use crate::record::{Design, Enable, Name, Node, Register, Reset};
 
 /// A design in the making.
@@ -223,6 +223,108 @@ pub fn ring(prefix: &str, length: usize) -> Design {
     b.design
 }
 
+/// A linear feedback shift register of 8 bits that goes through all 255 states other than 0, from 1 on: the new bit is the parity of bits 3, 4, 5 and 7, or, in the Galois form,
+/// the last bit goes into bits 0, 2, 3 and 4.
+#[derive(Clone, Copy, Debug, Eq, PartialEq)]
+pub enum Feedback {
+    Fibonacci,
+    Galois,
+}
+
+impl Feedback {
+    /// The bits that the form reads, or writes.
+    fn taps(self) -> u8 {
+        match self {
+            Self::Fibonacci => 0b1011_1000,
+            Self::Galois => 0b0001_1101,
+        }
+    }
+
+    /// The state after one cycle.
+    pub fn next(self, state: u8) -> u8 {
+        match self {
+            Self::Fibonacci => state << 1 | (state & self.taps()).count_ones() as u8 & 1,
+            Self::Galois => state << 1 ^ if state >> 7 == 1 { self.taps() } else { 0 },
+        }
+    }
+
+    /// The node that bit `place` takes.
+    fn data(self, b: &mut Builder, bits: &[u16], place: usize) -> u16 {
+        let tapped = |place: usize| self.taps() >> place & 1 == 1;
+        match self {
+            Self::Fibonacci if place == 0 => (0..7).filter(|place| tapped(*place)).fold(bits[7], |parity, place| b.xor(parity, bits[place])),
+            Self::Galois if place == 0 => bits[7],
+            Self::Galois if tapped(place) => b.xor(bits[place - 1], bits[7]),
+            _ => bits[place - 1],
+        }
+    }
+
+    /// The register itself; y is 1 in the state after so many cycles from the initial one. Registers are PREFIX0 and on.
+    pub fn design(self, prefix: &str, cycles: usize) -> Design {
+        let (mut b, _) = clocked();
+        let bits: Vec<u16> = (0..8).map(|_| b.state()).collect();
+        let shown = (0..cycles).fold(1, |state, _| self.next(state));
+        let y = b.equals(&bits, usize::from(shown));
+        b.output("y", y);
+        for place in 0..8 {
+            let data = self.data(&mut b, &bits, place);
+            b.register(&format!("{prefix}{place}"), bits[place], data, sync(1, place == 0));
+        }
+        b.design
+    }
+}
+
+/// The sum of two rows of bits, as wide as the first; none is 0. The carry of a full adder is a majority, or by way of the half sum.
+fn added(b: &mut Builder, lhs: &[Option<u16>], rhs: &[Option<u16>], majority: bool) -> Vec<Option<u16>> {
+    let mut carry = None;
+    let mut sums = Vec::new();
+    for (x, y) in lhs.iter().zip(rhs) {
+        let bits: Vec<u16> = [*x, *y, carry].into_iter().flatten().collect();
+        let (sum, next) = match bits[..] {
+            [] => (None, None),
+            [only] => (Some(only), None),
+            [x, y] => (Some(b.xor(x, y)), Some(b.and(x, y))),
+            _ => full(b, bits[0], bits[1], bits[2], majority),
+        };
+        sums.push(sum);
+        carry = next;
+    }
+    sums
+}
+
+/// A full adder: its sum and carry.
+fn full(b: &mut Builder, x: u16, y: u16, z: u16, majority: bool) -> (Option<u16>, Option<u16>) {
+    let half = b.xor(x, y);
+    let sum = b.xor(half, z);
+    let both = b.and(x, y);
+    let carry = if majority {
+        let (xz, yz) = (b.and(x, z), b.and(y, z));
+        let some = b.or(both, xz);
+        b.or(some, yz)
+    } else {
+        let through = b.and(half, z);
+        b.or(both, through)
+    };
+    (Some(sum), Some(carry))
+}
+
+/// Three numbers of `width` bits added without the last carry, as (a + b) + c or as a + (b + c); outputs are the bits of the sum from `first` on, y0 the lowest.
+pub fn three_added(width: usize, first: usize, last_two_first: bool) -> Design {
+    let mut b = Builder::new("g");
+    let [x, y, z] = ["a", "b", "c"].map(|name| (0..width).map(|place| Some(b.input(&format!("{name}{place}")))).collect::<Vec<_>>());
+    let sum = if last_two_first {
+        let two = added(&mut b, &y, &z, false);
+        added(&mut b, &x, &two, false)
+    } else {
+        let two = added(&mut b, &x, &y, false);
+        added(&mut b, &two, &z, false)
+    };
+    for (place, bit) in sum.into_iter().enumerate().skip(first) {
+        b.output(&format!("y{place}"), bit.expect("every column has a bit"));
+    }
+    b.design
+}
+
 /// How a multiplier is built.
 #[derive(Clone, Copy, Debug)]
 pub struct Multiplier {
@@ -244,43 +346,9 @@ impl Multiplier {
                     row[place + shift] = Some(b.and(*other, *bit));
                 }
             }
-            sum = self.add(b, &sum, &row);
+            sum = added(b, &sum, &row, self.majority);
         }
         sum
-    }
-
-    /// The sum of two rows; none is 0.
-    fn add(self, b: &mut Builder, lhs: &[Option<u16>], rhs: &[Option<u16>]) -> Vec<Option<u16>> {
-        let mut carry = None;
-        let mut sums = Vec::new();
-        for (x, y) in lhs.iter().zip(rhs) {
-            let bits: Vec<u16> = [*x, *y, carry].into_iter().flatten().collect();
-            let (sum, next) = match bits[..] {
-                [] => (None, None),
-                [only] => (Some(only), None),
-                [x, y] => (Some(b.xor(x, y)), Some(b.and(x, y))),
-                _ => self.full(b, bits[0], bits[1], bits[2]),
-            };
-            sums.push(sum);
-            carry = next;
-        }
-        sums
-    }
-
-    /// A full adder: its sum and carry.
-    fn full(self, b: &mut Builder, x: u16, y: u16, z: u16) -> (Option<u16>, Option<u16>) {
-        let half = b.xor(x, y);
-        let sum = b.xor(half, z);
-        let both = b.and(x, y);
-        let carry = if self.majority {
-            let (xz, yz) = (b.and(x, z), b.and(y, z));
-            let some = b.or(both, xz);
-            b.or(some, yz)
-        } else {
-            let through = b.and(half, z);
-            b.or(both, through)
-        };
-        (Some(sum), Some(carry))
     }
 
     /// A design with one bit of the product of a and b as y.

@@ -4,7 +4,7 @@ use oracle::families::{generate, give_up_pair, product_pair, Pair};
 use oracle::meter::{Report, Wish, LEARNED_LIMIT};
 use oracle::pair::{cost, Lent, SCORES, WORDS};
 use oracle::record::{encode, read};
-use oracle::shapes;
+use oracle::shapes::{self, Feedback};
 use oracle::vectors::{answer, answered, hex, split};
 
 fn proved(pair: &Pair) -> (CheckAnswer, Report) {
@@ -88,16 +88,37 @@ fn limit() {
     assert_eq!(under(0).status, GAVE_UP);
 }
 
-/// Refusal 23's sums in the specification.
+/// Refusal 23's sum of a check line.
+fn sum(line: &str) -> u64 {
+    let words: Vec<&str> = line.split(' ').collect();
+    let design = |word| read(&oracle::vectors::unhex(word)).expect("accepted");
+    cost(&design(words[1]), &design(words[2]), words[3].parse().expect("a depth"))
+}
+
+/// Refusal 23's sums in the specification, and of the larger dense pair.
 #[test]
 fn sums() {
     let lines = generate("limits", 10, 1);
-    let sum = |line: &str| {
-        let words: Vec<&str> = line.split(' ').collect();
-        let design = |word| read(&oracle::vectors::unhex(word)).expect("accepted");
-        cost(&design(words[1]), &design(words[2]), words[3].parse().expect("a depth"))
-    };
     assert_eq!((sum(&lines[1]), sum(&lines[2])), (65_535, 66_186));
+    assert_eq!(sum(&generate("dense", 2, 1)[1]), 65_465);
+}
+
+/// The two forms of the feedback shift register show the same last bit in every cycle, and come back to their first state after 255.
+#[test]
+fn feedback() {
+    let last_bits = |form: Feedback| {
+        let mut state = 1;
+        let bits: Vec<u8> = (0..255).map(|_| { let bit = state >> 7; state = form.next(state); bit }).collect();
+        assert_eq!(state, 1);
+        bits
+    };
+    assert_eq!(last_bits(Feedback::Fibonacci), last_bits(Feedback::Galois));
+}
+
+/// Rows named apart are proved at their length, by query 4.
+#[test]
+fn rows() {
+    assert_eq!(answer(&generate("rows", 1, 1)[0]), "0 0 0 0 32 0 0 - 0");
 }
 
 /// Nothing is learned where a design is checked against itself, whatever the limit.
