@@ -26,7 +26,7 @@ use Rattle.model.specs.Equivalence as Search
 use Rattle.model.specs.Check.{problemOf, checkDesigns, acceptedCheck, checkOutcome, checkResult, lentOf, check, checked}
 use Rattle.laws.specs.Search.Limits.{give-up-needed}
 use Rattle.laws.specs.Terms.{Within, OfRecord, OfReplay, replayRefusal, RefusedWith, UnusedZero, Called, TraceLeft, CalledEquivalent, Comparable, checkedDesigns, LargerLimit, Linked, JoinedDesigns, TraceGood, Yes, Settled, answerTotal, literalCount, Reached, GivesUp, QueryOf, Asks, StopsAt}
-use Rattle.laws.specs.StepTerms.{beginRefusal, stepRefusal, afterBegin, stepAnswer, afterSteps, runPosition, heldAt, movedFrom, BytesKept, SameBits}
+use Rattle.laws.specs.StepTerms.{beginRefusal, stepRefusal, OfBegin, OfStep, afterBegin, stepAnswer, afterSteps, runPosition, heldAt, movedFrom, BytesKept, SameBits}
 use Rattle.laws.specs.Induction.Chain.{chain-outputs}
 use Rattle.laws.specs.Induction.Pairs.{comparable}
 use Rattle.laws.specs.Check.Call.{check-refuses, outcome-is, check-refused, check-cleared}
@@ -35,7 +35,7 @@ use Rattle.laws.specs.Check.Designs.{designs-sound, designs-said, design
 use Rattle.laws.specs.Check.Records.{check-sound, check-said, check-finds, check-equivalent, check-replays, check-swap, check-chain}
 use Rattle.laws.specs.Check.Ending.{designs-answer, check-answers}
 use Rattle.laws.specs.Check.LargerLimit.{designs-larger, check-larger, result-larger}
-use Rattle.laws.specs.Check.Refusals.{check-within, replay-within}
+use Rattle.laws.specs.Check.Refusals.{check-within, replay-within, begin-within, step-within}
 use Rattle.laws.specs.Check.Reading.{read-zero, read-answers, gold-refused, gate-refused}
 use Rattle.laws.specs.Replay.{steps-replay, agree-every, every-agree}
 use Rattle.laws.specs.Stepping.{begin-zero, step-zero, begin-refuses, step-refuses, steps-run, steps-no, steps-answer, step-past, step-runs, begin-kept, step-kept, step-alike}
@@ -326,6 +326,14 @@ begin-number-zero-exactly = begin-zero
 pub step-number-zero-exactly : (a b : List ℕ) (cycle : ℕ) (claim : List ℕ) (p : LentPosition) (bits : List ℕ)
     → (step a b cycle claim p bits .answer .refusal .number ≡ 0) ↔ (stepRefusal a b cycle claim bits ≡ none)
 step-number-zero-exactly = step-zero
+
+-- every refusal of a begin has a number from 1 to 15 or 18 to 22, or 24
+pub begin-numbered : (a b bits : List ℕ) (r : Refusal) → beginRefusal a b bits ≡ some r → OfBegin r
+begin-numbered = begin-within
+
+-- and every refusal of a step one of a replay's numbers, or 24
+pub step-numbered : (a b : List ℕ) (cycle : ℕ) (claim bits : List ℕ) (r : Refusal) → stepRefusal a b cycle claim bits ≡ some r → OfStep r
+step-numbered = step-within
 
 -- a refused begin: the first refusal of its list, and position and bits as they were
 pub refused-begin-leaves-all : (a b : List ℕ) (p : LentPosition) (bits : List ℕ) (r : Refusal) → beginRefusal a b bits ≡ some r

@@ -1,4 +1,4 @@
--- The words of the promises on the stepping call that `model` does not have: many calls one after another, the refusal of a call, and which bytes it looks at. Definitions only, over `model` alone. Assumes nothing.
+-- The words of the promises on the stepping call that `model` does not have: many calls one after another, the refusal of a call and its numbers, and which bytes it looks at. Definitions only, over `model` and `Terms` alone. Assumes nothing.
 use Prim.Native.Nat.{ℕ, zero, suc, _+_, _≤_, _<_}
 use mathlib.Core.Path.{_≡_}
 use mathlib.Core.Bool.{not, _&&_}
@@ -12,6 +12,7 @@ use Rattle.model.specs.Run.{StoredBits, InputSequence, storedAt, outputsAt}
 use Rattle.model.specs.Pair.{ReadPair, both, refusedPair, readPair}
 use Rattle.model.specs.Replay.{Position, claimInputs, differAt, agreeBefore, differAsClaimed}
 use Rattle.model.specs.Stepping.{LentPosition, StepResult, gateBits, storedBits, withStored, lentPosition, lentBits, tooFewBits, beginFault, stepFault, begin, step}
+use Rattle.laws.specs.Terms.{Within, OfReplay}
 
 -- ---- the refusal of a call, from the bytes of both records
 
@@ -32,6 +33,17 @@ stepRefusalOf (both gold gate) cycle claim bits = stepFault gold gate cycle clai
 -- the first refusal of a step
 unfoldable pub stepRefusal : List ℕ → List ℕ → ℕ → List ℕ → List ℕ → Option Refusal
 stepRefusal a b cycle claim bits = stepRefusalOf (readPair a b) cycle claim bits
+
+-- a refusal of a begin: 1 to 15, 18 to 22, or 24
+pub data OfBegin (r : Refusal) : Type 0 where
+  of-reading : Within 1 15 r → OfBegin r
+  of-comparing : Within 18 22 r → OfBegin r
+  of-length : r .number ≡ 24 → OfBegin r
+
+-- a refusal of a step: one of a replay, or 24
+pub data OfStep (r : Refusal) : Type 0 where
+  as-replay : OfReplay r → OfStep r
+  of-bits : r .number ≡ 24 → OfStep r
 
 -- ---- many calls
 

@@ -13,7 +13,7 @@ use lib.Dec.{ltb}
 use Rattle.facts.specs.Bools.{or-both}
 use Rattle.model.specs.Answers.{Refusal, accepted, ReplayAnswer}
 use Rattle.model.specs.Netlist.{Register, Design, registerCount}
-use Rattle.model.specs.Validate.{_otherwise_, refuseIf}
+use Rattle.model.specs.Validate.{refuseIf}
 use Rattle.model.specs.Run.{StoredBits, InputSequence, nextFrom, nextStored, storedAt, outputsAt, initialBit, initialBits}
 use Rattle.model.specs.Pair.{interfaceFault, initialFault, replayFault, allBits, ReadPair, both, refusedPair, readPair}
 use Rattle.model.specs.Replay.{Position, Stepped, claimInputs, differAt, agreeBefore, replay, replayRead, replayPair, refusedReplay, initialPosition, advance, stepIf, stepsReplay}
@@ -27,7 +27,7 @@ use Rattle.laws.specs.Replay.{step-at, next-at, position-at, steps-repla
 use Rattle.laws.specs.Record.Accepted.{otherwise-none, none-otherwise, refuseIf-none, pass, accepted-parsed}
 use Rattle.laws.specs.Record.Limits.{parse-limits}
 use Rattle.laws.specs.Induction.Pairs.{readPair-both}
-use Rattle.laws.specs.Check.Refusals.{begin-within, step-within}
+use Rattle.laws.specs.Check.Refusals.{begin-within, step-within, begin-not-zero, step-not-zero}
 
 -- ---- as many stored bits as registers
 
@@ -377,7 +377,7 @@ step-zero a b cycle claim p bits = (λ h. go (stepRefusal a b cycle claim bits) 
   where
     go : (x : Option Refusal) → stepRefusal a b cycle claim bits ≡ x → step a b cycle claim p bits .answer .refusal .number ≡ 0 → x ≡ none
     go none f h = refl
-    go (some r) f h = absurd (omega (arith, step-within a b cycle claim bits r f .low, sym (ap (λ (z : StepResult). z .answer .refusal .number) (step-refuses a b cycle claim p bits r f)) ∙ h))
+    go (some r) f h = absurd (step-not-zero r (step-within a b cycle claim bits r f) (sym (ap (λ (z : StepResult). z .answer .refusal .number) (step-refuses a b cycle claim p bits r f)) ∙ h))
 
 pub begin-zero : (a b : List ℕ) (p : LentPosition) (bits : List ℕ) → (begin a b p bits .answer .number ≡ 0) ↔ (beginRefusal a b bits ≡ none)
 unfolding begin beginRefusal
@@ -385,4 +385,4 @@ begin-zero a b p bits = (λ h. go (beginRefusal a b bits) refl h, begin-number (
   where
     go : (x : Option Refusal) → beginRefusal a b bits ≡ x → begin a b p bits .answer .number ≡ 0 → x ≡ none
     go none f h = refl
-    go (some r) f h = absurd (omega (arith, begin-within a b bits r f .low, sym (ap (λ (z : BeginResult). z .answer .number) (begin-refuses a b p bits r f)) ∙ h))
+    go (some r) f h = absurd (begin-not-zero r (begin-within a b bits r f) (sym (ap (λ (z : BeginResult). z .answer .number) (begin-refuses a b p bits r f)) ∙ h))

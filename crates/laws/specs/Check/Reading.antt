@@ -11,7 +11,6 @@ use Rattle.model.specs.Record.{Read, parsed, refusedRecord, parse}
 use Rattle.model.specs.Validate.{validate, judged, validated, readRecord, answerOf, read}
 use Rattle.model.specs.Pair.{onGate, withGate, withGold, refusedPair, readPair, checkRefusalOf, checkRefusal}
 use Rattle.model.specs.Replay.{refusedReplay, replayRead, replay}
-use Rattle.model.specs.Check.{check}
 use Rattle.laws.specs.Terms.{OfRecord, RefusedWith}
 use Rattle.laws.specs.Record.Accepted.{accepted-parsed}
 use Rattle.laws.specs.Check.Call.{check-refused}

@@ -1,7 +1,8 @@
--- The numbers of the refusals: of a record 1 to 15, of a check 1 to 24, of a replay 1 to 15, 18 to 22 and 25, of a begin 1 to 24, of a step 1 to 25. Assumes nothing.
+-- The numbers of the refusals: of a record 1 to 15, of a check 1 to 24, of a replay 1 to 15, 18 to 22 and 25, of a begin 1 to 15, 18 to 22 and 24, of a step those of a replay and 24. Assumes nothing.
 use Prim.Native.Nat.{ℕ, zero, suc, _+_, _≤_}
 use native.Mathlib.Omega.{arith}
 use mathlib.Core.Path.{_≡_, refl, subst}
+use mathlib.Core.Logic.{_≢_}
 use mathlib.Core.Bool.{Bool, true, false, cond}
 use mathlib.Core.List.{List, [], _∷_, _++_}
 use mathlib.Core.Option.{Option, none, some}
@@ -16,7 +17,7 @@ use Rattle.model.specs.Validate.{_otherwise_, refuseIf, nodeFault, nodesFault, 
 use Rattle.model.specs.Pair.{Lent, interfaceFault, resetsFault, initialFault, checkFault, replayFault, ReadPair, both, refusedPair, onGate, withGate, withGold, readPair, checkRefusalOf, checkRefusal}
 use Rattle.model.specs.Stepping.{bitsFault, beginFault, stepFault}
 use Rattle.laws.specs.Terms.{Within, OfRecord, OfReplay, of-record, of-pair, of-claim, replayRefusalOf, replayRefusal}
-use Rattle.laws.specs.StepTerms.{beginRefusalOf, beginRefusal, stepRefusalOf, stepRefusal}
+use Rattle.laws.specs.StepTerms.{beginRefusalOf, beginRefusal, stepRefusalOf, stepRefusal, OfBegin, of-reading, of-comparing, of-length, OfStep, as-replay, of-bits}
 
 -- a step of a reader that refuses with 1 to 15, if it refuses
 abbrev RealStep : {A : Type 0} → Step A → Type 0
@@ -333,39 +334,53 @@ replay-within a b cycle claim r e = subst (Every OfReplay) e (of-replay (readPai
 
 -- ---- the stepping call
 
-begin-fault : (gold gate : Design) (bits : List ℕ) → Every (Within 1 24) (beginFault gold gate bits)
+real-begin : (gold gate : Design) (bits : List ℕ) → Every OfBegin (beginFault gold gate bits)
 unfolding beginFault
-begin-fault gold gate bits =
-    or-within 1 24 _ _ (every-so (Within 18 22) (Within 1 24) wider (interfaceFault gold gate) (real-interface gold gate))
-    (or-within 1 24 _ _ (every-so (Within 18 22) (Within 1 24) wider (initialFault gold gate) (real-initial gold gate)) (if-within 1 24 24 0 0 _ (omega arith) (omega arith)))
+real-begin gold gate bits =
+    or-every OfBegin _ _ (every-so (Within 18 22) OfBegin (λ r h. of-comparing h) (interfaceFault gold gate) (real-interface gold gate))
+    (or-every OfBegin _ _ (every-so (Within 18 22) OfBegin (λ r h. of-comparing h) (initialFault gold gate) (real-initial gold gate)) (if-every OfBegin 24 0 0 _ (of-length refl)))
 
-of-begin : (p : ReadPair) (bits : List ℕ) → RealPair p → Every (Within 1 24) (beginRefusalOf p bits)
+of-begin : (p : ReadPair) (bits : List ℕ) → RealPair p → Every OfBegin (beginRefusalOf p bits)
 unfolding beginRefusalOf
-of-begin (refusedPair r) bits h = record { low = h .low; high = omega (arith, h .high) }
-of-begin (both gold gate) bits h = begin-fault gold gate bits
+of-begin (refusedPair r) bits h = of-reading h
+of-begin (both gold gate) bits h = real-begin gold gate bits
 
--- every refusal of a begin has a number from 1 to 24
-pub begin-within : (a b bits : List ℕ) (r : Refusal) → beginRefusal a b bits ≡ some r → Within 1 24 r
+-- every refusal of a begin is one of its numbers
+pub begin-within : (a b bits : List ℕ) (r : Refusal) → beginRefusal a b bits ≡ some r → OfBegin r
 unfolding beginRefusal
-begin-within a b bits r e = subst (Every (Within 1 24)) e (of-begin (readPair a b) bits (pair-real a b))
+begin-within a b bits r e = subst (Every OfBegin) e (of-begin (readPair a b) bits (pair-real a b))
 
-claim-within : (r : Refusal) → OfReplay r → Within 1 25 r
-claim-within r (of-record h) = record { low = h .low; high = omega (arith, h .high) }
-claim-within r (of-pair h) = record { low = omega (arith, h .low); high = omega (arith, h .high) }
-claim-within r (of-claim e) = record { low = omega (arith, e); high = omega (arith, e) }
-
-step-fault : (gold gate : Design) (cycle : ℕ) (claim bits : List ℕ) → Every (Within 1 25) (stepFault gold gate cycle claim bits)
+real-step : (gold gate : Design) (cycle : ℕ) (claim bits : List ℕ) → Every OfStep (stepFault gold gate cycle claim bits)
 unfolding stepFault bitsFault
-step-fault gold gate cycle claim bits =
-    or-within 1 25 _ _ (every-so OfReplay (Within 1 25) claim-within (replayFault gold gate cycle claim) (real-replay gold gate cycle claim))
-    (or-within 1 25 _ _ (if-within 1 25 24 0 0 _ (omega arith) (omega arith)) (if-within 1 25 25 0 0 _ (omega arith) (omega arith)))
+real-step gold gate cycle claim bits =
+    or-every OfStep _ _ (every-so OfReplay OfStep (λ r h. as-replay h) (replayFault gold gate cycle claim) (real-replay gold gate cycle claim))
+    (or-every OfStep _ _ (if-every OfStep 24 0 0 _ (of-bits refl)) (if-every OfStep 25 0 0 _ (as-replay (of-claim refl))))
 
-of-step : (p : ReadPair) (cycle : ℕ) (claim bits : List ℕ) → RealPair p → Every (Within 1 25) (stepRefusalOf p cycle claim bits)
+of-step : (p : ReadPair) (cycle : ℕ) (claim bits : List ℕ) → RealPair p → Every OfStep (stepRefusalOf p cycle claim bits)
 unfolding stepRefusalOf
-of-step (refusedPair r) cycle claim bits h = record { low = h .low; high = omega (arith, h .high) }
-of-step (both gold gate) cycle claim bits h = step-fault gold gate cycle claim bits
+of-step (refusedPair r) cycle claim bits h = as-replay (of-record h)
+of-step (both gold gate) cycle claim bits h = real-step gold gate cycle claim bits
 
--- every refusal of a step has a number from 1 to 25
-pub step-within : (a b : List ℕ) (cycle : ℕ) (claim bits : List ℕ) (r : Refusal) → stepRefusal a b cycle claim bits ≡ some r → Within 1 25 r
+-- every refusal of a step is one of its numbers
+pub step-within : (a b : List ℕ) (cycle : ℕ) (claim bits : List ℕ) (r : Refusal) → stepRefusal a b cycle claim bits ≡ some r → OfStep r
 unfolding stepRefusal
-step-within a b cycle claim bits r e = subst (Every (Within 1 25)) e (of-step (readPair a b) cycle claim bits (pair-real a b))
+step-within a b cycle claim bits r e = subst (Every OfStep) e (of-step (readPair a b) cycle claim bits (pair-real a b))
+
+-- ---- no refusal has number 0
+
+-- of a replay
+pub replay-not-zero : (r : Refusal) → OfReplay r → r .number ≢ 0
+replay-not-zero r (of-record h) e = omega (arith, h .low, e)
+replay-not-zero r (of-pair h) e = omega (arith, h .low, e)
+replay-not-zero r (of-claim h) e = omega (arith, h, e)
+
+-- of a begin
+pub begin-not-zero : (r : Refusal) → OfBegin r → r .number ≢ 0
+begin-not-zero r (of-reading h) e = omega (arith, h .low, e)
+begin-not-zero r (of-comparing h) e = omega (arith, h .low, e)
+begin-not-zero r (of-length h) e = omega (arith, h, e)
+
+-- of a step
+pub step-not-zero : (r : Refusal) → OfStep r → r .number ≢ 0
+step-not-zero r (as-replay h) e = replay-not-zero r h e
+step-not-zero r (of-bits h) e = omega (arith, h, e)

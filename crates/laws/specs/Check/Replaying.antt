@@ -15,14 +15,14 @@ use Rattle.model.specs.Validate.{validate}
 use Rattle.model.specs.Run.{initialBits}
 use Rattle.model.specs.Pair.{ReadPair, both, refusedPair, readPair, inputsDiffer, outputsDiffer, interfaceFault, replayFault}
 use Rattle.model.specs.Replay.{replays, refusedReplay, replayPair, replayRead, replay, claimInputs}
-use Rattle.laws.specs.Terms.{OfReplay, of-record, of-pair, of-claim, replayRefusalOf, replayRefusal, Yes}
+use Rattle.laws.specs.Terms.{replayRefusalOf, replayRefusal, Yes}
 use Rattle.laws.specs.Names.Order.{Distinct, sort-increasing}
 use Rattle.laws.specs.Names.Sets.{SameSet, increasing-unique, inputs-distinct, outputs-distinct}
 use Rattle.laws.specs.Record.Accepted.{otherwise-none, refuseIf-none, accepted-parsed}
 use Rattle.laws.specs.Replay.{replays-yes}
 use Rattle.laws.specs.Induction.Chain.{output-length}
 use Rattle.laws.specs.Induction.Pairs.{readPair-both, same-names, names-refl}
-use Rattle.laws.specs.Check.Refusals.{replay-within}
+use Rattle.laws.specs.Check.Refusals.{replay-within, replay-not-zero}
 
 -- the output names of two designs that a replay does not refuse
 names-alike : (gold gate : Design) (cycle : ℕ) (claim : List ℕ) → replayFault gold gate cycle claim ≡ none → namesOf (outputs gold) ≡ namesOf (outputs gate)
@@ -64,16 +64,10 @@ module _ (a b : List ℕ) (cycle : ℕ) (claim : List ℕ) where
       go (refusedPair q) e = absurd (let z : _≡_ {A = ℕ} 0 1 = cc in omega arith)
       go (both gold gate) e = rw e
 
-  -- no refusal of a replay has number 0
-  replay-number : (r : Refusal) → OfReplay r → r .number ≢ 0
-  replay-number r (of-record h) e = omega (arith, h .low, e)
-  replay-number r (of-pair h) e = omega (arith, h .low, e)
-  replay-number r (of-claim h) e = omega (arith, h, e)
-
   -- the replay is refused with r exactly where r is its first refusal
   pub replay-refused-with : (r : Refusal) → (replayRefusal a b cycle claim ≡ some r) ↔ ((replay a b cycle claim ≡ record { refusal = r; yes = false }) × (r .number ≢ 0))
   unfolding accepted
-  replay-refused-with r = (λ e. (replay-refused r e, replay-number r (replay-within a b cycle claim r e)), λ h. back (replayRefusal a b cycle claim) refl h)
+  replay-refused-with r = (λ e. (replay-refused r e, replay-not-zero r (replay-within a b cycle claim r e)), λ h. back (replayRefusal a b cycle claim) refl h)
     where
       back : (o : Option Refusal) → replayRefusal a b cycle claim ≡ o → (replay a b cycle claim ≡ record { refusal = r; yes = false }) × (r .number ≢ 0) → replayRefusal a b cycle claim ≡ some r
       back (some q) e h = let f : q ≡ r = ap (λ x. x .refusal) (sym (replay-refused q e) ∙ h .0) in e ∙ ap some f
@@ -86,7 +80,7 @@ module _ (a b : List ℕ) (cycle : ℕ) (claim : List ℕ) where
     where
       go : (o : Option Refusal) → replayRefusal a b cycle claim ≡ o → replay a b cycle claim .refusal .number ≡ 0 → o ≡ none
       go none e h = refl
-      go (some r) e h = absurd (replay-number r (replay-within a b cycle claim r e) (ap (λ x. x .refusal .number) (sym (replay-refused r e)) ∙ h))
+      go (some r) e h = absurd (replay-not-zero r (replay-within a b cycle claim r e) (ap (λ x. x .refusal .number) (sym (replay-refused r e)) ∙ h))
 
 -- ---- 18 and 19
 
