@@ -1,7 +1,7 @@
 -- Laws of the lent bits: read and written byte by byte, and checked. Assumes nothing.
 use Prim.Native.Nat.{ℕ, suc, zero, _+_, _<_, _≤_}
 use mathlib.Core.Path.{_≡_, refl, sym, ap, ap₂, _∙_}
-use mathlib.Core.Bool.{Bool, true, false, not}
+use mathlib.Core.Bool.{Bool, true, false}
 use mathlib.Core.List.{List, [], _∷_, map, map-append}
 use mathlib.Core.Option.{none}
 use native.Mathlib.Omega.{arith}
@@ -10,8 +10,7 @@ use lib.ListN.{length, take, drop, getD, set, length-map, length-drop, List·get
 use lib.Seq.{length-take-le, take-suc, take-suc-set, getD-drop, paste, paste-zero, paste-suc}
 use borrow.Author.Tests.{lt-ltb, le-ltb, ltb-false}
 use Rattle.model.specs.Netlist.{Design, registerCount}
-use Rattle.model.specs.Record.{bit}
-use Rattle.model.specs.Validate.{_otherwise_, refuseIf}
+use Rattle.model.specs.Validate.{refuseIf}
 use Rattle.model.specs.Pair.{interfaceFault, initialFault, replayFault}
 use Rattle.model.specs.Encode.{bitByte}
 use Rattle.model.specs.Replay.{claimBit}

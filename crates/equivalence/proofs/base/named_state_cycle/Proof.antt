@@ -1,5 +1,4 @@
 -- `equivalence::base::named_state_cycle` meets its contract. Assumes nothing.
-use Prim.Native.Nat.{_-_}
 use native.Mathlib.Omega.{arith}
 use Rattle.unrolling.specs.Naming.{matches-below}
 use Rattle.equivalence.specs.NamedState.{startable-named, named-cycled}

@@ -1,5 +1,4 @@
 -- `equivalence::induction::assumed` meets its contract. Assumes nothing.
-use Prim.Native.Nat.{_-_}
 use Rattle.model.specs.Equivalence.{assumed}
 use borrow.Author.Needs.{needs}
 use Rattle.equivalence.proofs.induction.assumed.Statement.{statement}

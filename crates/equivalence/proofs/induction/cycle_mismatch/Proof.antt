@@ -1,5 +1,4 @@
 -- `equivalence::induction::cycle_mismatch` meets its contract. Assumes nothing.
-use Prim.Native.Nat.{_-_}
 use borrow.Author.Tests.{not-true, not-false}
 use Rattle.equivalence.specs.Inducing.{joined, not-joined}
 use borrow.Author.Needs.{needs}

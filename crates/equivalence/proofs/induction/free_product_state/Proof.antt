@@ -1,6 +1,5 @@
 -- `equivalence::induction::free_product_state` meets its contract. Assumes nothing.
 use mathlib.Core.Path.{refl}
-use Prim.Native.Nat.{_-_}
 use native.Mathlib.Omega.{arith}
 use Rattle.unrolling.specs.Naming.{matches-below}
 use Rattle.equivalence.specs.FreeState.{freed}

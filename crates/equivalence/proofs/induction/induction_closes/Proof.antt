@@ -1,5 +1,4 @@
 -- `equivalence::induction::induction_closes` meets its contract. Assumes nothing.
-use Prim.Native.Nat.{_-_}
 use native.Mathlib.Omega.{arith}
 use Rattle.equivalence.specs.FreeState.{startable-free, induces}
 use borrow.Author.Needs.{needs}

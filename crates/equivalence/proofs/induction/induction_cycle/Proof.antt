@@ -1,5 +1,4 @@
 -- `equivalence::induction::induction_cycle` meets its contract. Assumes nothing.
-use Prim.Native.Nat.{_-_}
 use native.Mathlib.Omega.{arith}
 use lib.ListN.{length-set}
 use Rattle.lowering.specs.Firsts.{below-le}

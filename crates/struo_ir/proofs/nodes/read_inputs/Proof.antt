@@ -1,5 +1,4 @@
 -- `struo_ir::nodes::read_inputs` meets its contract. Assumes nothing.
-use Prim.Native.Nat.{_-_}
 use mathlib.Core.Path.{_∙_}
 use Rattle.model.specs.Record.{refuse}
 use Rattle.fields.specs.Fields.{numberOf}

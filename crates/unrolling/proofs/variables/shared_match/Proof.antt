@@ -1,5 +1,4 @@
 -- `unrolling::variables::shared_match` meets its contract. Assumes nothing.
-use Prim.Native.Nat.{_-_}
 use Rattle.unrolling.specs.Matching.{sharedMatch}
 use Rattle.unrolling.proofs.variables.shared_match.Statement.{statement}
 use Rattle.unrolling.proofs.variables.shared_match.Tie as tie
