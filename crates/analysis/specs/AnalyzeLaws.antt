@@ -11,7 +11,7 @@ use lib.ListN.{length, getD, replicate}
 use lib.Seq.{slice}
 use lib.Ieee.{Float}
 use Rattle.facts.specs.Numbers.{below}
-use Rattle.words.specs.Layout.{LENT, SMALL, POOL, CLAUSE-STARTS, LITERALS}
+use Rattle.words.specs.Layout.{LENT, SMALL, POOL, TRAIL, CLAUSE-STARTS, LITERALS}
 use Rattle.words.specs.Region.{region}
 use Rattle.literals.specs.declared.Literal.{Literal}
 use Rattle.model.specs.Literal as Literals
@@ -24,8 +24,8 @@ use Rattle.assignment.specs.ScoreLaws.{others-none, others-both}
 use Rattle.assignment.specs.declared.state.Trail.{Trail}
 use Rattle.assignment.specs.declared.state.Activity.{Activity}
 use Rattle.analysis.specs.declared.state.Analysis.{Analysis}
-use Rattle.analysis.specs.Analysis.{seenOf, analysisOf, analysisRegions, Able, Sees, literalsAt, clausesFrom, viewOf, Begins, Closes, Bounded, Analyzes}
-use Rattle.analysis.specs.SeeLaws.{literals-grow, seen-of, learned-length}
+use Rattle.analysis.specs.Analysis.{seenOf, analysisOf, analysisRegions, Unmarked, Ranged, Able, Sees, literalsAt, clausesFrom, viewOf, Begins, Closes, Bounded, Analyzes}
+use Rattle.analysis.specs.SeeLaws.{nothing-seen, literals-grow, seen-of, learned-length}
 
 -- ---- the solver as an analysis sees it
 
@@ -54,15 +54,14 @@ literals-kept : (count : ℕ) {w w′ : List ℕ} (id : ℕ) → Unchanged analy
 unfolding literalsAt
 literals-kept count id f = rw (f .same CLAUSE-STARTS refl, f .same LITERALS refl)
 
-clauses-kept : (k i : ℕ) {w w′ : List ℕ} → Unchanged analysisRegions w w′ → clausesFrom k i w′ ≡ clausesFrom k i w
-unfolding clausesFrom
-clauses-kept zero i f = refl
-clauses-kept (suc k) i f = rw (f .same CLAUSE-STARTS refl, f .same LITERALS refl, clauses-kept k (suc i) f)
-
--- the analysis' own regions are no part of it
-view-kept : (count : ℕ) (t : Trail) (a : Activity) {w w′ : List ℕ} (s : List Float) → Unchanged analysisRegions w w′ → viewOf count t a w′ s ≡ viewOf count t a w s
-unfolding viewOf
-view-kept count t a s f = rw (clauses-kept count 0 f, assignment-kept analysisRegions t refl f)
+-- the literals of the clauses and of the trail are of the variables still
+pub ranged-kept : (count : ℕ) (t : Trail) {w w′ : List ℕ} → Unchanged analysisRegions w w′ → Ranged count t w → Ranged count t w′
+ranged-kept count t f r =
+    record {
+      some = r .some;
+      clauses = λ id h i k. rw (f .same LITERALS refl) (r .clauses id h i (rw (f .same CLAUSE-STARTS refl) at k));
+      trail = λ i h. rw (f .same TRAIL refl) (r .trail i h);
+    }
 
 -- ---- solvers that an analysis does not tell apart
 
@@ -163,6 +162,10 @@ module _ (count : ℕ) (t : Trail) (conflict : ℕ) (activity : Activity) (w₀ 
     pub frame : Unchanged analysisRegions w₀ w
     pub others : Others (t .variables) s₀ s
     pub opened : a .open_at_level + rounds * POOL ≤ SMALL * POOL
+    pub stamp : a .stamp ≡ count + 1
+    pub place : i ≤ t .length
+    pub ranged : Ranged count t w
+    pub marks : Unmarked (count + 1) (t .variables) w
     pub cached : Cached t w₀ activity s₀ → Cached t w (a .activity) s
     pub bounded : Bounded (Sat.analyze S conflict)
     pub left : Sat.resolveRounds rounds S (Sat.resolving (analysisOf t a w s) i id v) ≡ Sat.analyze S conflict
@@ -213,7 +216,7 @@ module _ (count : ℕ) (t : Trail) (conflict : ℕ) (activity : Activity) (w₀ 
 
     -- a round: the literals seen, the pivot found at j, and closed
     module _ {a₁ a₂ : Analysis} {w₁ w₂ : List ℕ} {s₁ : List Float} (j p : ℕ) (q : Sees POOL t a w s seen-now a₁ w₁ s₁)
-        (m : j ≡ Sat.pivotIndex (assignmentOf t w₁) (seenOf t w₁) i) (e : p ≡ getD (assignmentOf t w₁ .trail) j 0) (c : Closes t a₁ w₁ p a₂ w₂) where
+        (m : j ≡ Sat.pivotIndex (assignmentOf t w₁) (seenOf (a₁ .stamp) t w₁) i) (e : p ≡ getD (assignmentOf t w₁ .trail) j 0) (c : Closes t a₁ w₁ p a₂ w₂) where
       frame₁ : Unchanged analysisRegions w₀ w₁
       frame₁ = unchanged-both analysisRegions (g .frame) (q .frame)
 
@@ -225,6 +228,10 @@ module _ (count : ℕ) (t : Trail) (conflict : ℕ) (activity : Activity) (w₀ 
           let f = assignment-is frame₁ in
           x ∙ below-is (assignmentOf t w₀) (analysisOf t a₁ w₁ s₁) (analysisOf t a₂ w₂ s₁) i j p (rw (seen-of t a₁ w₁ s₁, ← f) m) (rw (← f) e) (c .is s₁) ∙ rw (opened-of t a₂ w₂ s₁)
 
+      -- no mark is above this analysis' stamp
+      pub marks₂ : Unmarked (count + 1) (t .variables) w₂
+      marks₂ = c .marks (count + 1) (q .marks (count + 1) (omega (arith, g .stamp)) (g .marks))
+
       frame₂ : Unchanged analysisRegions w₀ w₂
       frame₂ = unchanged-both analysisRegions frame₁ (c .frame)
 
@@ -232,10 +239,10 @@ module _ (count : ℕ) (t : Trail) (conflict : ℕ) (activity : Activity) (w₀ 
       unfolding Sat.resolveNext
       round-done z = sym (rounds-resolved (rounds - 1) (analysisOf t a₂ w₂ s₁) p) ∙ ap (λ (r : Sat.Resolution). Sat.resolveRounds (rounds - 1) S r) (sym (round-is ∙ rw (eq-eqb (a₂ .open_at_level) 0 z))) ∙ next-left
 
-      pub round-more : (k u : ℕ) → (a₂ .open_at_level ≡ 0 → ⊥) → u ≡ Literals.node p → k ≡ Sat.reasonOf (assignmentOf t w₂) u → length w₁ ≡ length w → length w₂ ≡ length w₁ → LENT ≤ length w₂
+      pub round-more : (k u : ℕ) → j ≤ t .length → (a₂ .open_at_level ≡ 0 → ⊥) → u ≡ Literals.node p → k ≡ Sat.reasonOf (assignmentOf t w₂) u → length w₁ ≡ length w → length w₂ ≡ length w₁ → LENT ≤ length w₂
           → Resolving a₂ w₂ s₁ j k u (rounds - 1)
       unfolding Sat.resolveNext
-      round-more k u n d r l₁ l₂ x =
+      round-more k u z n d r l₁ l₂ x =
           let y = g .able .ready in
           record {
             able =
@@ -245,11 +252,16 @@ module _ (count : ℕ) (t : Trail) (conflict : ℕ) (activity : Activity) (w₀ 
                   fixed = rw (c .same) (q .fixed);
                   room = omega (arith, c .learned, round-room, ap (λ (z : Sat.Analysis). length (z .learned)) (q .is), learned-length t a₁ w₁ s₁ (q .words));
                   few = omega (arith, c .opened, q .opened, g .opened, round-some);
+                  stamped = omega (arith, c .stamp, q .stamp, g .stamp);
                 };
             long = l₂ ∙ l₁ ∙ g .long;
             frame = frame₂;
             others = others-both (t .variables) (g .others) (q .others);
             opened = omega (arith, c .opened, q .opened, g .opened, round-some);
+            stamp = c .stamp ∙ q .stamp ∙ g .stamp;
+            place = z;
+            ranged = ranged-kept count t (unchanged-both analysisRegions (q .frame) (c .frame)) (g .ranged);
+            marks = marks₂;
             cached = λ k. c .cached s₁ (q .cached (g .cached k));
             bounded = g .bounded;
             left = rw (r, d, assignment-is frame₂) (ap (λ (z : Sat.Resolution). Sat.resolveRounds (rounds - 1) S z) (sym (round-is ∙ rw (ne-eqb (a₂ .open_at_level) 0 n))) ∙ next-left);
@@ -257,50 +269,50 @@ module _ (count : ℕ) (t : Trail) (conflict : ℕ) (activity : Activity) (w₀ 
 
   -- ---- the first round and the end
 
-  resolving-first : (a : Analysis) → TrailReady t w₀ → a .activity ≡ activity → seenOf t w₀ ≡ replicate (t .variables) false → a .learned ≡ 0 → a .open_at_level ≡ 0
+  resolving-first : (a : Analysis) → TrailReady t w₀ → a .activity ≡ activity → seenOf (a .stamp) t w₀ ≡ replicate (t .variables) false → a .learned ≡ 0 → a .open_at_level ≡ 0
       → analysisOf t a w₀ s₀ ≡ Sat.noAnalysis S
   unfolding analysisOf Sat.noAnalysis viewOf
   resolving-first a r e f g h = rw (e, f, g, h, variables-are t w₀ r)
 
-  pub resolving-start : (a : Analysis) → TrailReady t w₀ → t .variables ≤ length s₀ → Fixed activity → a .activity ≡ activity → seenOf t w₀ ≡ replicate (t .variables) false → a .learned ≡ 0
-      → a .open_at_level ≡ 0 → Bounded (Sat.analyze S conflict) → Resolving a w₀ s₀ (t .length) conflict 0 (t .length)
+-- the analysis before its first round
+module _ (count : ℕ) (t : Trail) (conflict : ℕ) (activity : Activity) (w₀ : List ℕ) (s₀ : List Float) (r : Analysis) (b : Begins activity count r) where
+  same-goal : Sat.analyze (viewOf count t (r .activity) w₀ s₀) conflict ≡ Sat.analyze (viewOf count t activity w₀ s₀) conflict
+  same-goal = rw (b .scores)
+
+  pub resolving-begins : TrailReady t w₀ → t .variables ≤ length s₀ → Fixed activity → Unmarked count (t .variables) w₀ → Ranged count t w₀ → Bounded (Sat.analyze (viewOf count t activity w₀ s₀) conflict)
+      → Resolving count t conflict (r .activity) w₀ s₀ r w₀ s₀ (t .length) conflict 0 (t .length)
   unfolding Sat.analyze
-  resolving-start a r k x e f g h b =
+  resolving-begins y k f m z x =
+      let unseen = nothing-seen (r .stamp) count t w₀ y m (omega (arith, b .stamp)) in
       record {
-        able = record { ready = r; scores = k; fixed = rw e x; room = omega arith; few = omega arith };
+        able = record { ready = y; scores = k; fixed = rw (b .scores) f; room = omega (arith, b .learned); few = omega (arith, b .opened); stamped = omega (arith, b .stamp) };
         long = refl;
         frame = unchanged-none analysisRegions w₀;
         others = others-none (t .variables) s₀;
-        opened = omega (arith, r .literals);
-        cached = λ c. rw e c;
-        bounded = b;
-        left = rw (resolving-first a r e f g h, view-assignment, trail-length t w₀ r);
+        opened = omega (arith, y .literals, b .opened);
+        stamp = b .stamp;
+        place = omega arith;
+        ranged = z;
+        marks = λ v h. omega (arith, m v h);
+        cached = λ c. c;
+        bounded = rw same-goal x;
+        left = rw (resolving-first count t conflict (r .activity) w₀ s₀ r y refl unseen (b .learned) (b .opened), view-assignment count t conflict (r .activity) w₀ s₀, trail-length t w₀ y);
       }
 
--- ---- from the call to the answer
-
--- the analysis before its first round: w are the words at the call, w₀ those with nothing seen
-module _ (count : ℕ) (t : Trail) (conflict : ℕ) (activity : Activity) (w w₀ : List ℕ) (s₀ : List Float) (r : Analysis) (b : Begins t activity w r w₀) where
-  same-goal : Sat.analyze (viewOf count t (r .activity) w₀ s₀) conflict ≡ Sat.analyze (viewOf count t activity w s₀) conflict
-  same-goal = rw (b .scores, view-kept count t activity s₀ (b .frame))
-
-  pub resolving-begins : TrailReady t w → t .variables ≤ length s₀ → Fixed activity → Bounded (Sat.analyze (viewOf count t activity w s₀) conflict)
-      → Resolving count t conflict (r .activity) w₀ s₀ r w₀ s₀ (t .length) conflict 0 (t .length)
-  resolving-begins y k f x =
-      resolving-start count t conflict (r .activity) w₀ s₀ r (record { words = b .words; variables = y .variables; literals = y .literals; levels = y .levels }) k (rw (b .scores) f) refl (b .seen) (b .learned)
-      (b .opened) (rw same-goal x)
+  -- ---- the end
 
   module _ {a a₁ a₂ : Analysis} {w₁ w₂ w₃ : List ℕ} {s s₁ : List Float} {i id v rounds : ℕ} (g : Resolving count t conflict (r .activity) w₀ s₀ a w₁ s i id v rounds) (j : ℕ) (p : Literal)
       (q : Sees POOL t a w₁ s (Sat.seeLiterals (assignmentOf t w₁) v (analysisOf t a w₁ s) (literalsAt count w₁ id)) a₁ w₂ s₁)
-      (m : j ≡ Sat.pivotIndex (assignmentOf t w₂) (seenOf t w₂) i) (e : p .0 ≡ getD (assignmentOf t w₂ .trail) j 0) (c : Closes t a₁ w₂ (p .0) a₂ w₃) where
-    pub analyzes : a₂ .open_at_level ≡ 0 → Analyzes count t activity conflict w s₀ (record { analysis = a₂; pivot = p }) w₃ s₁
+      (m : j ≡ Sat.pivotIndex (assignmentOf t w₂) (seenOf (a₁ .stamp) t w₂) i) (e : p .0 ≡ getD (assignmentOf t w₂ .trail) j 0) (c : Closes t a₁ w₂ (p .0) a₂ w₃) where
+    pub analyzes : a₂ .open_at_level ≡ 0 → Analyzes count t activity conflict w₀ s₀ (record { analysis = a₂; pivot = p }) w₃ s₁
     analyzes z =
         record {
           is = round-done count t conflict (r .activity) w₀ s₀ g j (p .0) q m e c z ∙ same-goal;
-          frame = unchanged-both analysisRegions (b .frame) (unchanged-both analysisRegions (g .frame) (unchanged-both analysisRegions (q .frame) (c .frame)));
+          frame = unchanged-both analysisRegions (g .frame) (unchanged-both analysisRegions (q .frame) (c .frame));
           others = others-both (t .variables) (g .others) (q .others);
           words = c .words;
           fixed = rw (c .same) (q .fixed);
           room = omega (arith, c .learned, round-room count t conflict (r .activity) w₀ s₀ g, ap (λ (z : Sat.Analysis). length (z .learned)) (q .is), learned-length t a₁ w₂ s₁ (q .words));
-          cached = λ k. c .cached s₁ (q .cached (g .cached (b .cached s₀ k)));
+          marks = marks₂ count t conflict (r .activity) w₀ s₀ g j (p .0) q m e c;
+          cached = λ k. c .cached s₁ (q .cached (g .cached (rw (b .scores) k)));
         }

@@ -12,7 +12,7 @@ use literals::Literal;
 use words::LEARNED;
 use words::LEVELS;
 use words::SMALL;
-use words::fetch;
+use words::load;
 use words::wide;
 
 // The higher of two numbers.
@@ -39,7 +39,7 @@ pub fn highest_level(words: &[u32], t: Trail, count: usize) -> usize
     let mut highest: usize = 0;
     let mut i: usize = 0;
     while i < count {
-        let literal = Literal(fetch(words, LEARNED, SMALL, i));
+        let literal = Literal(load(words, LEARNED, i));
         highest = higher(highest, level_of(words, t, literal));
         i += 1;
     }

@@ -1,15 +1,15 @@
 // The rounds of the analysis: a clause's literals seen, the pivot found, and the reason of the pivot next.
 ghost use mathlib.Core.Path.{_≡_};
 ghost use mathlib.Core.Bool.{false};
-ghost use Prim.Native.Nat.{_+_, _-_, _<_, _≤_};
+ghost use Prim.Native.Nat.{_+_, _-_, _*_, _<_, _≤_};
 ghost use lib.ListN.{length};
 ghost use lib.Seq.{slice};
-ghost use Rattle.words.specs.Layout.{LENT, SMALL, POOL, LITERALS};
+ghost use Rattle.words.specs.Layout.{LENT, SMALL, STARTS, POOL, LITERALS};
 ghost use Rattle.words.specs.Region.{region};
 ghost use Rattle.model.specs.Sat as Sat;
 ghost use Rattle.assignment.specs.State.{assignmentOf, TrailReady};
 ghost use Rattle.assignment.specs.Scores.{Fixed};
-ghost use Rattle.analysis.specs.Analysis.{seenOf, analysisOf, Able, Sees, saw, literalsAt, Spans, Begins, Closes, Bounded, Analyzes, viewOf};
+ghost use Rattle.analysis.specs.Analysis.{seenOf, Unmarked, analysisOf, saw, PoolBelow, ClausesBelow, Ranged, Able, Sees, literalsAt, viewOf, Spans, Begins, Closes, Bounded, Analyzes};
 use crate::state::Analysis;
 use crate::state::Analyzed;
 use crate::state::Bounds;
@@ -28,26 +28,25 @@ use words::SEEN;
 use words::SMALL;
 use words::STARTS;
 use words::TRAIL;
-use words::clear;
 use words::fetch;
+use words::load;
 use words::lower;
-use words::stash;
+use words::put;
 use words::wide;
 
 // Whether a literal is skipped: the resolved variable, a seen one, or one of level 0.
-fn skipped(words: &[u32], t: Trail, resolved: usize, literal: Literal) -> bool
-    requires { ⌜ TrailReady t (now words) ⌝ }
-    ensures { λ r. ⌜ ((a : Sat.Analysis) → a .seen ≡ seenOf t (now (words .entry)) → r ≡ Sat.skipped (assignmentOf t (now (words .entry))) resolved a (literal .0)) ⌝ }
+fn skipped(words: &[u32], t: Trail, stamp: u32, resolved: usize, literal: Literal) -> bool
+    requires { ⌜ TrailReady t (now words) × (0 < stamp) × (literal .0 < t .variables * 2) ⌝ }
+    ensures { λ r. ⌜ ((a : Sat.Analysis) → a .seen ≡ seenOf stamp t (now (words .entry)) → r ≡ Sat.skipped (assignmentOf t (now (words .entry))) resolved a (literal .0)) ⌝ }
 {
     let v = wide(literal.node());
-    let n = t.variables;
     if v == resolved {
         return true;
     }
-    if fetch_below(words, SEEN, SMALL, n, v) != 0 {
+    if load(words, SEEN, v) == stamp {
         return true;
     }
-    fetch_below(words, LEVELS, SMALL, n, v) == 0
+    load(words, LEVELS, v) == 0
 }
 
 // A variable seen for the first time: open where it is of the current level, else its literal is learned.
@@ -58,28 +57,29 @@ fn see_variable(
     a: Analysis,
     literal: Literal,
 ) -> Analysis
-    requires { ⌜ Able t a (now words) (now scores) ⌝ }
+    requires { ⌜ Able t a (now words) (now scores) × (literal .0 < t .variables * 2) ⌝ }
     ensures { λ r. ⌜ Sees 1 t a (now (words .entry)) (now (scores .entry))
         (Sat.seeUnless (assignmentOf t (now (words .entry))) (analysisOf t a (now (words .entry)) (now (scores .entry))) (literal .0) false)
         r (now (words .exit)) (now (scores .exit)) ⌝ }
 {
     let v = wide(literal.node());
-    let n = t.variables;
     let learned = a.learned;
     let activity = bump_activity(words, scores, t, a.activity, v);
-    stash(words, SEEN, SMALL, v, 1);
-    if wide(fetch_below(words, LEVELS, SMALL, n, v)) == t.level {
+    put(words, SEEN, v, a.stamp);
+    if wide(load(words, LEVELS, v)) == t.level {
         return Analysis {
             activity,
             learned,
             open_at_level: a.open_at_level + 1,
+            stamp: a.stamp,
         };
     }
-    stash(words, LEARNED, SMALL, learned, literal.0);
+    put(words, LEARNED, learned, literal.0);
     Analysis {
         activity,
         learned: learned + 1,
         open_at_level: a.open_at_level,
+        stamp: a.stamp,
     }
 }
 
@@ -92,12 +92,12 @@ fn see_literal(
     resolved: usize,
     literal: Literal,
 ) -> Analysis
-    requires { ⌜ Able t a (now words) (now scores) ⌝ }
+    requires { ⌜ Able t a (now words) (now scores) × (literal .0 < t .variables * 2) ⌝ }
     ensures { λ r. ⌜ Sees 1 t a (now (words .entry)) (now (scores .entry))
         (saw (assignmentOf t (now (words .entry))) resolved (analysisOf t a (now (words .entry)) (now (scores .entry))) (literal .0))
         r (now (words .exit)) (now (scores .exit)) ⌝ }
 {
-    if skipped(words, t, resolved, literal) {
+    if skipped(words, t, a.stamp, resolved, literal) {
         return a;
     }
     see_variable(words, scores, t, a, literal)
@@ -113,7 +113,7 @@ fn see_literals(
     start: usize,
     end: usize,
 ) -> Analysis
-    requires { ⌜ Able t earlier (now words) (now scores) × (end ≤ POOL) × (earlier .open_at_level + POOL < 1152921504606846976)
+    requires { ⌜ Able t earlier (now words) (now scores) × (end ≤ POOL) × PoolBelow end (t .variables) (now words) × (earlier .open_at_level + POOL < 1152921504606846976)
         × (length (Sat.seeLiterals (assignmentOf t (now words)) resolved (analysisOf t earlier (now words) (now scores)) (slice start end (region LITERALS (now words))) .learned) < SMALL) ⌝ }
     ensures { λ r. ⌜ Sees POOL t earlier (now (words .entry)) (now (scores .entry))
         (Sat.seeLiterals (assignmentOf t (now (words .entry))) resolved (analysisOf t earlier (now (words .entry)) (now (scores .entry))) (slice start end (region LITERALS (now (words .entry)))))
@@ -122,7 +122,7 @@ fn see_literals(
     let mut a = earlier;
     let mut i = start;
     while i < end {
-        let literal = Literal(fetch(words, LITERALS, POOL, i));
+        let literal = Literal(load(words, LITERALS, i));
         a = see_literal(words, scores, t, a, resolved, literal);
         i += 1;
     }
@@ -153,7 +153,7 @@ fn see_clause(
     clauses: usize,
     id: usize,
 ) -> Analysis
-    requires { ⌜ Able t a (now words) (now scores) × (a .open_at_level + POOL < 1152921504606846976)
+    requires { ⌜ Able t a (now words) (now scores) × ClausesBelow clauses (t .variables) (now words) × (a .open_at_level + POOL < 1152921504606846976)
         × (length (Sat.seeLiterals (assignmentOf t (now words)) resolved (analysisOf t a (now words) (now scores)) (literalsAt clauses (now words) id) .learned) < SMALL) ⌝ }
     ensures { λ r. ⌜ Sees POOL t a (now (words .entry)) (now (scores .entry))
         (Sat.seeLiterals (assignmentOf t (now (words .entry))) resolved (analysisOf t a (now (words .entry)) (now (scores .entry))) (literalsAt clauses (now (words .entry)) id))
@@ -172,39 +172,39 @@ fn one_less(x: usize) -> usize
 
 // The reason clause of a variable; 0 where it has none.
 fn reason_of(words: &[u32], t: Trail, variable: usize) -> usize
-    requires { ⌜ TrailReady t (now words) ⌝ }
+    requires { ⌜ TrailReady t (now words) × (variable < t .variables) ⌝ }
     ensures { λ r. ⌜ r ≡ Sat.reasonOf (assignmentOf t (now (words .entry))) variable ⌝ }
 {
-    let n = t.variables;
-    one_less(wide(fetch_below(words, REASONS, SMALL, n, variable)))
+    one_less(wide(load(words, REASONS, variable)))
 }
 
 // The pivot no longer seen, and one less open.
 fn close_pivot(words: &mut [u32], t: Trail, a: Analysis, pivot: Literal) -> Analysis
-    requires { ⌜ TrailReady t (now words) ⌝ }
+    requires { ⌜ TrailReady t (now words) × (0 < a .stamp) × (pivot .0 < t .variables * 2) ⌝ }
     ensures { λ r. ⌜ Closes t a (now (words .entry)) (pivot .0) r (now (words .exit)) ⌝ }
 {
     let activity = a.activity;
     let open_at_level = one_less(a.open_at_level);
-    stash(words, SEEN, SMALL, wide(pivot.node()), 0);
+    put(words, SEEN, wide(pivot.node()), 0);
     Analysis {
         activity,
         learned: a.learned,
         open_at_level,
+        stamp: a.stamp,
     }
 }
 
-// The analysis before its first round: nothing is seen.
-fn start(words: &mut [u32], t: Trail, activity: Activity) -> Analysis
-    requires { ⌜ TrailReady t (now words) ⌝ }
-    ensures { λ r. ⌜ Begins t activity (now (words .entry)) r (now (words .exit)) ⌝ }
+// The analysis before its first round. Every mark of an earlier conflict is at most the number of clauses, so that nothing is seen.
+fn start(activity: Activity, clauses: usize) -> Analysis
+    requires { ⌜ clauses < STARTS ⌝ }
+    ensures { λ r. ⌜ Begins activity clauses r ⌝ }
 {
-    let n = t.variables;
-    clear(words, SEEN, SMALL, n);
+    let stamp = (clauses + 1) as u32;
     Analysis {
         activity,
         learned: 0,
         open_at_level: 0,
+        stamp,
     }
 }
 
@@ -218,13 +218,12 @@ pub fn analyze(
     clauses: usize,
     conflict: usize,
 ) -> Analyzed
-    requires { ⌜ TrailReady t (now words) × (t .variables ≤ length (now scores)) × Fixed activity
+    requires { ⌜ TrailReady t (now words) × (t .variables ≤ length (now scores)) × Fixed activity × (clauses < STARTS) × Unmarked clauses (t .variables) (now words) × Ranged clauses t (now words)
         × Bounded (Sat.analyze (viewOf clauses t activity (now words) (now scores)) conflict) ⌝ }
     ensures { λ r. ⌜ Analyzes clauses t activity conflict (now (words .entry)) (now (scores .entry)) r (now (words .exit)) (now (scores .exit)) ⌝ }
 {
-    let variables = t.variables;
     let length = t.length;
-    let mut a = start(words, t, activity);
+    let mut a = start(activity, clauses);
     let mut trail_index = length;
     let mut rounds = length;
     let mut clause = conflict;
@@ -236,8 +235,8 @@ pub fn analyze(
                 break Literal(fetch_below(words, TRAIL, SMALL, length, 0));
             }
             trail_index -= 1;
-            let candidate = Literal(fetch_below(words, TRAIL, SMALL, length, trail_index));
-            if fetch_below(words, SEEN, SMALL, variables, wide(candidate.node())) != 0 {
+            let candidate = Literal(load(words, TRAIL, trail_index));
+            if load(words, SEEN, wide(candidate.node())) == a.stamp {
                 break candidate;
             }
         };

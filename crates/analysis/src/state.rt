@@ -2,12 +2,13 @@
 use assignment::state::Activity;
 use literals::Literal;
 
-// The numbers of an analysis that are not in lent words: the activity, how many literals are learned after the first place, and how
-// many seen variables of the current level are open.
+// The numbers of an analysis that are not in lent words: the activity, how many literals are learned after the first place, how many
+// seen variables of the current level are open, and the mark of a seen variable.
 pub struct Analysis {
     pub activity: Activity,
     pub learned: usize,
     pub open_at_level: usize,
+    pub stamp: u32,
 }
 
 // The answer of `analyze`: the analysis, and the pivot whose negation is learned first.

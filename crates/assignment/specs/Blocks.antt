@@ -1,6 +1,6 @@
 -- The choice among the unassigned variables of a range, what the words of the blocks of variables say of it, and what the functions over them promise. Definitions only.
 use mathlib.Core.Path.{_≡_}
-use mathlib.Core.Bool.{Bool, true, false, cond}
+use mathlib.Core.Bool.{true, false, cond}
 use mathlib.Core.List.{List, [], _∷_}
 use Prim.Native.Nat.{ℕ, zero, suc, _+_, _-_, _*_, _/_, _<_, _≤_, min, max}
 use lib.ListN.{getD, take, drop}

@@ -1,18 +1,18 @@
 -- Laws of a bump in lent words: the scores stay ordered, and the words of the blocks true. Assumes nothing.
-use mathlib.Core.Path.{_≡_, ap, sym, _∙_}
+use mathlib.Core.Path.{_≡_, ap, _∙_}
 use mathlib.Core.Bool.{true}
 use mathlib.Core.List.{List, [], _∷_}
-use Prim.Native.Nat.{ℕ, _≤_}
+use Prim.Native.Nat.{ℕ}
 use lib.ListN.{take, set}
 use lib.Seq.{getD-set-other}
 use lib.Ieee.{Float}
 use Rattle.facts.specs.Floats.{unsigned}
 use Rattle.words.specs.Layout.{BLOCKS}
 use Rattle.model.specs.Sat as Sat
-use Rattle.assignment.specs.State.{Unchanged, TrailReady}
+use Rattle.assignment.specs.State.{TrailReady}
 use Rattle.assignment.specs.StateLaws.{take-set, unchanged-none}
 use Rattle.assignment.specs.Scores.{scoresOf, Bumped}
-use Rattle.assignment.specs.Blocks.{score, Unsigned, Cached, Forgets, ForgetsAll, Bumps}
+use Rattle.assignment.specs.Blocks.{score, Unsigned, Forgets, ForgetsAll, Bumps}
 use Rattle.assignment.specs.OrderLaws.{bump-unsigned}
 use Rattle.assignment.specs.declared.state.Activity.{Activity}
 use Rattle.assignment.specs.declared.state.Trail.{Trail}

@@ -1,8 +1,8 @@
 -- Laws of the choice of a variable in lent words: a variable more, a block, and the blocks in turn. Assumes nothing.
-use mathlib.Core.Path.{_≡_, refl, ap, sym, _∙_}
+use mathlib.Core.Path.{_≡_, refl, sym, _∙_}
 use mathlib.Core.Bool.{Bool, true, false, cond}
 use mathlib.Core.List.{List, [], _∷_}
-use Prim.Native.Nat.{ℕ, zero, suc, _+_, _-_, _*_, _/_, _<_, _≤_, min, max}
+use Prim.Native.Nat.{ℕ, zero, suc, _+_, _-_, _*_, _<_, _≤_, min, max}
 use native.Mathlib.Omega.{arith}
 use lib.ListN.{length, take, drop, getD}
 use lib.Seq.{length-take-le, getD-set-same, getD-set-other}
@@ -14,7 +14,7 @@ use Rattle.model.specs.Sat as Sat
 use Rattle.assignment.specs.State.{assignmentOf, column, Unchanged, TrailReady}
 use Rattle.assignment.specs.StateLaws.{variables-are, unchanged-none, unchanged-both, unchanged-stored, assignment-kept}
 use Rattle.assignment.specs.Scores.{bestOf, choiceOf}
-use Rattle.assignment.specs.Blocks.{Free, Leads, Unsigned, firstOf, endOf, Known, KnownIn, LeadsIn, higherOf, Betters, Current, BlockChosen, Chooses}
+use Rattle.assignment.specs.Blocks.{Unsigned, firstOf, endOf, Known, KnownIn, LeadsIn, higherOf, Betters, Current, BlockChosen, Chooses}
 use Rattle.assignment.specs.BlockLaws.{leads-nothing, leads-assigned, leads-free, join, join-left, best-some, leads-chosen}
 use Rattle.assignment.specs.KnownLaws.{free-word, assigned-word}
 use Rattle.assignment.specs.declared.state.Trail.{Trail}

@@ -1,12 +1,12 @@
 -- Laws of a decision and of the start in lent words. Assumes nothing.
 use mathlib.Core.Path.{_≡_, refl, ap, _∙_}
-use mathlib.Core.Bool.{true, false}
+use mathlib.Core.Bool.{Bool, true, false, cond}
 use mathlib.Core.List.{List, [], _∷_, map}
 use Prim.Native.Nat.{ℕ, zero, suc, _+_, _*_, _/_, _<_, _≤_}
 use native.Mathlib.Omega.{arith}
 use borrow.Author.Tests.{eq-eqb}
 use lib.ListN.{length, getD, replicate, List·getD-map}
-use Rattle.words.specs.Layout.{LENT, SMALL, MOST-NODES, VALUES, LEVELS, REASONS, PHASES, TRAIL, LIMITS, BLOCKS, BLOCK}
+use Rattle.words.specs.Layout.{LENT, SMALL, DOUBLE, MOST-NODES, VALUES, LEVELS, REASONS, PHASES, TRAIL, LIMITS, BLOCKS, BLOCK}
 use Rattle.words.specs.Fill.{take-filled}
 use Rattle.words.specs.Region.{region, sizeOf, stored, stores, cleared, cleared-in, length-region}
 use Rattle.literals.specs.LiteralLaws.{negate-even}
@@ -25,6 +25,15 @@ use Rattle.assignment.specs.declared.state.Trail.{Trail}
 phase-is : (t : Trail) (w : List ℕ) (v : ℕ) → getD (assignmentOf t w .phases) v false ≡ wordBit (getD (column (t .variables) PHASES w) v 0)
 unfolding assignmentOf wordBit
 phase-is t w v = List·getD-map wordBit (column (t .variables) PHASES w) v 0
+
+-- a decision on a variable of the layout is a literal of it
+pub decision-near : (a : Sat.Assignment) (v : ℕ) → v < MOST-NODES → Sat.decision a v < DOUBLE
+unfolding Sat.decision
+decision-near a v h = go (getD (a .phases) v false)
+  where
+    go : (b : Bool) → cond b (v * 2) (v * 2 + 1) < DOUBLE
+    go true = omega arith
+    go false = omega arith
 
 pub decision-false : (t : Trail) (w : List ℕ) (v p : ℕ) → p ≡ getD (column (t .variables) PHASES w) v 0 → p ≡ 0 → Literals.negate (v * 2) ≡ Sat.decision (assignmentOf t w) v
 unfolding Sat.decision wordBit

@@ -20,7 +20,7 @@ use Rattle.model.specs.Literal as Literals
 use Rattle.model.specs.Sat as Sat
 use Rattle.assignment.specs.State.{assignmentOf, assignmentRegions, apartFrom, spares, column, wordValue, wordReason, Unchanged, TrailReady, Assigns, Becomes, decided}
 use Rattle.assignment.specs.StateLaws.{unchanged-none, unchanged-stored, unchanged-cleared, assignment-kept}
-use Rattle.assignment.specs.Blocks.{score, Free, Ahead, Leads, Unsigned, firstOf, endOf, Known, KnownIn, Cached, Grown, Forgets, ForgetsAll}
+use Rattle.assignment.specs.Blocks.{score, Free, Ahead, Leads, Unsigned, firstOf, endOf, Known, Cached, Grown, Forgets, ForgetsAll}
 use Rattle.assignment.specs.declared.state.Activity.{Activity}
 use Rattle.assignment.specs.declared.state.Trail.{Trail}
 

@@ -4,7 +4,7 @@ use mathlib.Core.List.{List, [], _∷_}
 use Prim.Native.Nat.{ℕ, _+_, _<_, _≤_}
 use native.Mathlib.Omega.{arith}
 use native.Mathlib.Numerals.{add-one}
-use lib.ListN.{length, take, set, getD}
+use lib.ListN.{length, take, getD}
 use lib.Seq.{slice, slice-cons, slice-empty, getD-set-other}
 use lib.Ieee.{Float}
 use Rattle.words.specs.Layout.{BLOCKS, LITERALS}
@@ -13,7 +13,7 @@ use Rattle.model.specs.Literal as Literals
 use Rattle.model.specs.Sat as Sat
 use Rattle.assignment.specs.State.{Unchanged, TrailReady}
 use Rattle.assignment.specs.StateLaws.{unchanged-none, unchanged-both}
-use Rattle.assignment.specs.Scores.{Raised, Others, Added}
+use Rattle.assignment.specs.Scores.{Raised, Others}
 use Rattle.assignment.specs.ScoreLaws.{others-none, others-both}
 use Rattle.assignment.specs.Blocks.{score, Cached, Forgets, AddsOnes}
 use Rattle.assignment.specs.OrderLaws.{one-unsigned, raise-unsigned}

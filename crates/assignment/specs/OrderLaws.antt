@@ -1,15 +1,15 @@
 -- The scores stay ordered: none becomes negative or a NaN, and neither does the increment. Assumes nothing.
-use mathlib.Core.Path.{_≡_, refl, sym, _∙_}
+use mathlib.Core.Path.{_≡_, refl}
 use mathlib.Core.Bool.{Bool, true, false}
 use mathlib.Core.List.{List, [], _∷_, map}
 use Prim.Native.Nat.{ℕ, zero, suc}
 use lib.ListN.{replicate}
-use lib.Ieee.{Float, fin, binary64, lt}
+use lib.Ieee.{Float, binary64}
 use lib.Ieee as Ieee
 use Rattle.facts.specs.Lists.{set-any}
 use Rattle.facts.specs.Floats.{unsigned, add-unsigned, mul-unsigned, div-unsigned}
 use Rattle.model.specs.Sat as Sat
-use Rattle.assignment.specs.Blocks.{score, Unsigned}
+use Rattle.assignment.specs.Blocks.{Unsigned}
 
 pub one-unsigned : unsigned Sat.scoreOne ≡ true
 unfolding Sat.scoreOne unsigned

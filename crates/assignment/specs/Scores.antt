@@ -1,14 +1,12 @@
 -- What lent scores stand for: the definition's scores; and what the functions over them promise. Definitions only.
 use mathlib.Core.Path.{_≡_}
 use mathlib.Core.List.{List, map}
-use Prim.Native.Nat.{ℕ, zero, suc, _<_, _≤_}
+use Prim.Native.Nat.{ℕ, zero, suc, _<_}
 use lib.ListN.{length, take, drop, getD, replicate}
 use lib.Ieee.{Float, binary64}
 use lib.Ieee as Ieee
 use Rattle.model.specs.Sat as Sat
-use Rattle.assignment.specs.State.{assignmentOf}
 use Rattle.assignment.specs.declared.state.Activity.{Activity}
-use Rattle.assignment.specs.declared.state.Trail.{Trail}
 use Rattle.assignment.specs.declared.state.Choice.{Choice}
 use Rattle.assignment.specs.declared.state.Choice.the-variants as Choices
 

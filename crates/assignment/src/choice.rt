@@ -9,13 +9,14 @@ ghost use Rattle.assignment.specs.Blocks.{Unsigned, KnownIn, LeadsIn, hi
 use crate::state::Choice;
 use crate::state::Trail;
 use crate::trail::fetch_below;
+use crate::trail::load_below;
 use words::BLOCK;
 use words::BLOCKS;
 use words::SMALL;
 use words::VALUES;
-use words::fetch;
+use words::load;
 use words::lower;
-use words::stash;
+use words::put;
 use words::wide;
 
 // The choice of two: the second, of the higher number, by a strictly higher score only. 0 stands for none.
@@ -38,7 +39,7 @@ fn better(words: &[u32], scores: &[f64], t: Trail, best: usize, variable: usize)
     ensures { λ r. ⌜ Betters t (now (words .entry)) (now (scores .entry)) best variable r ⌝ }
 {
     let n = t.variables;
-    if fetch_below(words, VALUES, SMALL, n, variable) != 0 {
+    if load_below(words, VALUES, n, variable) != 0 {
         return best;
     }
     higher(scores, best, variable)
@@ -88,12 +89,12 @@ fn block_choice(words: &mut [u32], scores: &[f64], t: Trail, block: usize) -> us
     requires { ⌜ TrailReady t (now words) × (t .variables ≤ length (now scores)) × (block * BLOCK < t .variables) × Unsigned (take (t .variables) (now scores)) × KnownIn t (now words) (now scores) ⌝ }
     ensures { λ r. ⌜ BlockChosen t (now (words .entry)) (now (scores .entry)) block r (now (words .exit)) ⌝ }
 {
-    let known = fetch(words, BLOCKS, SMALL, block);
+    let known = load(words, BLOCKS, block);
     if is_current(words, t, known) {
         return wide(known) - 1;
     }
     let best = scan_block(words, scores, t, block);
-    stash(words, BLOCKS, SMALL, block, (best + 1) as u32);
+    put(words, BLOCKS, block, (best + 1) as u32);
     best
 }
 

@@ -15,8 +15,7 @@ use crate::state::Activity;
 use crate::state::Trail;
 use literals::Literal;
 use words::LITERALS;
-use words::POOL;
-use words::fetch;
+use words::load;
 use words::wide;
 
 // The increment, decay and ceiling of a new search.
@@ -123,7 +122,7 @@ pub fn add_ones(words: &mut [u32], scores: &mut [f64], t: Trail, start: usize, e
     let n = t.variables;
     let mut i = start;
     while i < end {
-        let literal = Literal(fetch(words, LITERALS, POOL, i));
+        let literal = Literal(load(words, LITERALS, i));
         let variable = wide(literal.node());
         add_score(scores, n, variable, 1.0);
         forget(words, t, variable);

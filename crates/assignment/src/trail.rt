@@ -1,8 +1,8 @@
 // Values, a literal made true, and backtrack, as sat.rs has them, over the words of a search.
 ghost use mathlib.Core.Path.{_≡_};
-ghost use Prim.Native.Nat.{_+_, _<_, _≤_};
+ghost use Prim.Native.Nat.{_+_, _*_, _<_, _≤_};
 ghost use lib.ListN.{length, getD, take, drop};
-ghost use Rattle.words.specs.Layout.{LENT, SMALL, MOST-NODES};
+ghost use Rattle.words.specs.Layout.{LENT, SMALL, DOUBLE, MOST-NODES};
 ghost use Rattle.words.specs.Region.{region, sizeOf};
 ghost use Rattle.model.specs.Sat as Sat;
 ghost use Rattle.assignment.specs.State.{assignmentOf, valueOf, TrailReady, Assigns, Becomes, decided};
@@ -21,7 +21,9 @@ use words::TRAIL;
 use words::VALUES;
 use words::clear;
 use words::fetch;
+use words::load;
 use words::lower;
+use words::put;
 use words::stash;
 use words::wide;
 
@@ -37,13 +39,20 @@ pub fn fetch_below(words: &[u32], base: usize, size: usize, count: usize, i: usi
     }
 }
 
-// The value of a literal.
+// A word of the first `count` of a region, whose place is among them.
+pub fn load_below(words: &[u32], base: usize, count: usize, i: usize) -> u32
+    requires { ⌜ (LENT ≤ length (now words)) × (base + sizeOf base ≤ LENT) × (i < count) × (count ≤ sizeOf base) ⌝ }
+    ensures { λ r. ⌜ r ≡ getD (take count (region base (now (words .entry)))) i 0 ⌝ }
+{
+    load(words, base, i)
+}
+
+// The value of a literal of the variables.
 pub fn value(words: &[u32], t: Trail, literal: Literal) -> Value
-    requires { ⌜ LENT ≤ length (now words) ⌝ }
+    requires { ⌜ TrailReady t (now words) × (literal .0 < t .variables * 2) ⌝ }
     ensures { λ r. ⌜ valueOf r ≡ Sat.value (assignmentOf t (now (words .entry))) (literal .0) ⌝ }
 {
-    let n = t.variables;
-    let word = fetch_below(words, VALUES, SMALL, n, wide(literal.node()));
+    let word = load(words, VALUES, wide(literal.node()));
     if word == 0 {
         return Value::Unassigned;
     }
@@ -56,18 +65,18 @@ pub fn value(words: &[u32], t: Trail, literal: Literal) -> Value
 
 // An unassigned literal made true; a reason is 0 for none, and one more than the number of its clause.
 pub fn assign(words: &mut [u32], t: Trail, literal: Literal, reason: u32) -> Trail
-    requires { ⌜ TrailReady t (now words) × (t .length < SMALL) ⌝ }
+    requires { ⌜ TrailReady t (now words) × (t .length < SMALL) × (literal .0 < DOUBLE) ⌝ }
     ensures { λ r. ⌜ Assigns t (now (words .entry)) (literal .0) reason r (now (words .exit)) ⌝ }
 {
     let v = wide(literal.node());
     let sign = literal.inverted() as u32;
     let n = t.length;
     let level = t.level as u32;
-    stash(words, VALUES, SMALL, v, sign + 1);
-    stash(words, LEVELS, SMALL, v, level);
-    stash(words, REASONS, SMALL, v, reason);
-    stash(words, PHASES, SMALL, v, 1 - sign);
-    stash(words, TRAIL, SMALL, n, literal.0);
+    put(words, VALUES, v, sign + 1);
+    put(words, LEVELS, v, level);
+    put(words, REASONS, v, reason);
+    put(words, PHASES, v, 1 - sign);
+    put(words, TRAIL, n, literal.0);
     Trail {
         variables: t.variables,
         length: n + 1,

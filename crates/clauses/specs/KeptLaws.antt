@@ -37,13 +37,13 @@ module _ (listed : List ℕ) (x : spares listed searchRegions ≡ true) (m : Sto
   unfolding assignmentOf
   same-assignment = rw (kept VALUES refl, kept LEVELS refl, kept REASONS refl, kept PHASES refl, kept TRAIL refl, kept LIMITS refl)
 
-  queues-kept : queuesOf u ≡ queuesOf w
-  queues-kept = same-queues u w (kept WATCH-HEADS refl) (kept WATCH-TAILS refl) (kept WATCH-COUNTS refl) (kept LINKS refl)
+  queues-kept : queuesOf (t .variables) u ≡ queuesOf (t .variables) w
+  queues-kept = same-queues (t .variables) u w (kept WATCH-HEADS refl) (kept WATCH-TAILS refl) (kept WATCH-COUNTS refl) (kept LINKS refl)
 
   pub sound-kept : (p : List ℕ) → length u ≡ length w → SoundStore m t w p → SoundStore m t u p
   sound-kept p l s =
       record {
-        formed = formed-kept m t w u (s .formed) (kept CLAUSE-STARTS refl) (kept LITERALS refl) same-assignment l;
+        formed = formed-kept m t w u (s .formed) (kept CLAUSE-STARTS refl) (kept WATCHED refl) (kept LITERALS refl) same-assignment l;
         queues = rw queues-kept (s .queues);
       }
 
@@ -57,4 +57,4 @@ module _ (listed : List ℕ) (x : spares listed searchRegions ≡ true) (m : Sto
 
   pub attachable-kept : (count : ℕ) → length u ≡ length w → Attachable m t w count → Attachable m t u count
   attachable-kept count l a =
-      record { sound = sound-kept [] l (a .sound); clauses = a .clauses; literals = a .literals; some = a .some; range = rw (kept LITERALS refl) (a .range) }
+      record { sound = sound-kept [] l (a .sound); clauses = a .clauses; literals = a .literals; some = a .some; range = rw (kept LITERALS refl) (a .range); apart = rw (kept LITERALS refl) (a .apart) }

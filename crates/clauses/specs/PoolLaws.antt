@@ -12,6 +12,8 @@ use Rattle.words.specs.Region.{region, stored, stores, stored-in, stored-out, l
 use Rattle.model.specs.Lists.{snoc, member}
 use Rattle.model.specs.Literal as Literals
 use Rattle.model.specs.Sat.{Solver}
+use Rattle.laws.specs.Search.State.{Apart}
+use Rattle.laws.specs.Search.Sorting.{Ascending, ascending-apart}
 use Rattle.assignment.specs.State.{Unchanged}
 use Rattle.assignment.specs.StateLaws.{unchanged-none, unchanged-both, unchanged-stored, unchanged-within}
 use Rattle.assignment.specs.KnownLaws.{cached-kept}
@@ -19,7 +21,7 @@ use Rattle.assignment.specs.declared.state.Trail.{Trail}
 use Rattle.clauses.specs.declared.state.Store.{Store}
 use Rattle.clauses.specs.Tabulate.{tabulate-same}
 use Rattle.clauses.specs.Queue.{queuesOf}
-use Rattle.clauses.specs.Clauses.{clauseAt, clausesOf, same-watches}
+use Rattle.clauses.specs.Clauses.{clauseAt, literalsOf, clausesOf, same-watches}
 use Rattle.clauses.specs.State.{solverOf, SoundStore, watchRegions, addRegions, poolLiterals, Attachable, AllBelow, Pooled, scored, clean, Added, AddedList, Room}
 use Rattle.clauses.specs.StepLaws.{same-assignment}
 use Rattle.clauses.specs.EncodeLaws.{clean-one, clean-two, clean-three}
@@ -32,19 +34,22 @@ module _ (m : Store) (t : Trail) (w : List ℕ) (s : SoundStore m t w []) (i v :
   unfolding member
   pool-unchanged = unchanged-stored watchRegions LITERALS i v refl (unchanged-none watchRegions w) refl
 
-  pool-queues : queuesOf (stored LITERALS w i v) ≡ queuesOf w
+  pool-queues : queuesOf (t .variables) (stored LITERALS w i v) ≡ queuesOf (t .variables) w
   unfolding queuesOf
   pool-queues = simp stores
 
-  pool-clause : (k : ℕ) → k < m .clauses → clauseAt (stored LITERALS w i v) k ≡ clauseAt w k
-  unfolding clauseAt
-  pool-clause k b =
+  pool-literals : (k : ℕ) → k < m .clauses → literalsOf (stored LITERALS w i v) k ≡ literalsOf w k
+  unfolding literalsOf
+  pool-literals k b =
       rw (
         stored-out CLAUSE-STARTS w LITERALS i v refl,
-        stored-out WATCHED w LITERALS i v refl,
         stored-in LITERALS w i v,
         take-set-le (getD (region CLAUSE-STARTS w) (k + 1) 0) (region LITERALS w) i v (omega (arith, s .formed .within (k + 1) (omega arith))),
       )
+
+  pool-clause : (k : ℕ) → k < m .clauses → clauseAt (stored LITERALS w i v) k ≡ clauseAt w k
+  unfolding clauseAt
+  pool-clause k b = rw (stored-out WATCHED w LITERALS i v refl, pool-literals k b)
 
   pool-clauses : clausesOf (m .clauses) (stored LITERALS w i v) ≡ clausesOf (m .clauses) w
   unfolding clausesOf
@@ -60,6 +65,11 @@ module _ (m : Store) (t : Trail) (w : List ℕ) (s : SoundStore m t w []) (i v :
       last = rw (stored-out CLAUSE-STARTS w LITERALS i v refl) (s .formed .last);
       within = rw (stored-out CLAUSE-STARTS w LITERALS i v refl) (s .formed .within);
       range = λ k b. rw (stored-in LITERALS w i v, getD-set-other (region LITERALS w) i k v 0 (λ z. omega arith)) (s .formed .range k b);
+      watching = record {
+        apart = λ k b. rw (pool-literals k b) (s .formed .watching .apart k b);
+        first = λ k b. rw (pool-literals k b, stored-out WATCHED w LITERALS i v refl) (s .formed .watching .first k b);
+        second = λ k b. rw (pool-literals k b, stored-out WATCHED w LITERALS i v refl) (s .formed .watching .second k b);
+      };
       room = rw (same-assignment t w _ pool-unchanged) (s .formed .room);
     };
     queues = rw pool-queues (s .queues);
@@ -103,10 +113,10 @@ all-at b [] a i h = absurd (omega arith)
 all-at b (x ∷ xs) a zero h = a .0
 all-at b (x ∷ xs) a (suc i) h = all-at b xs (a .1) i (omega arith)
 
--- literals of the variables can become a clause
+-- distinct literals of the variables can become a clause
 pub attachable : (m : Store) (t : Trail) (w : List ℕ) (count : ℕ) → SoundStore m t w [] → m .clauses + 1 < STARTS → m .literals + count ≤ POOL → 0 < count
-    → AllBelow (t .variables * 2) (poolLiterals m count w) → Attachable m t w count
-attachable m t w count s c l p a = record { sound = s; clauses = c; literals = l; some = p; range = range }
+    → AllBelow (t .variables * 2) (poolLiterals m count w) → Apart (poolLiterals m count w) → Attachable m t w count
+attachable m t w count s c l p a d = record { sound = s; clauses = c; literals = l; some = p; range = range; apart = d }
   where
     range : (i : ℕ) → m .literals ≤ i → i < m .literals + count → getD (region LITERALS w) i 0 < t .variables * 2
     range i h k =
@@ -130,8 +140,8 @@ added-list m t w u x ls count m′ w′ x′ f k l n a = record {
 
 -- what `add_clause` asks, from the literals in the pool
 ready-clause : (m : Store) (t : Trail) (w u : List ℕ) (x : List Float) (ls : List ℕ) (count : ℕ) → Room m t w x count → SoundStore m t u [] → 0 < count → poolLiterals m count u ≡ ls
-    → AllBelow (t .variables * 2) ls → clean ls ≡ true → Attachable m t u count × (t .variables ≤ length x) × (clean (poolLiterals m count u) ≡ true)
-ready-clause m t w u x ls count r s p e a c = (attachable m t u count s (r .clauses) (r .literals) p (rw e a), r .scores, rw e c)
+    → AllBelow (t .variables * 2) ls → Ascending ls → clean ls ≡ true → Attachable m t u count × (t .variables ≤ length x) × (clean (poolLiterals m count u) ≡ true)
+ready-clause m t w u x ls count r s p e a o c = (attachable m t u count s (r .clauses) (r .literals) p (rw e a) (rw e (ascending-apart ls o)), r .scores, rw e c)
 
 -- a clause of one, two or three literals that were put into the pool: what `add_clause` asks, and what it makes
 module _ (m : Store) (t : Trail) (w : List ℕ) (x : List Float) (a : ℕ) (u : List ℕ) (p : Pooled m t w 0 a u) where
@@ -140,7 +150,7 @@ module _ (m : Store) (t : Trail) (w : List ℕ) (x : List Float) (a : ℕ) (u : 
   one-pooled = let e = p .literals in rw (pool-none m w) at e
 
   pub one-asked : Room m t w x 1 → a < t .variables * 2 → Attachable m t u 1 × (t .variables ≤ length x) × (clean (poolLiterals m 1 u) ≡ true)
-  one-asked r h = ready-clause m t w u x (a ∷ []) 1 r (p .sound) (omega arith) one-pooled (h, tt) (clean-one a)
+  one-asked r h = ready-clause m t w u x (a ∷ []) 1 r (p .sound) (omega arith) one-pooled (h, tt) (tt, tt) (clean-one a)
 
   pub one-added : (m′ : Store) (w′ : List ℕ) (x′ : List Float) → Added m t u x 1 m′ w′ x′ → AddedList m t w x (a ∷ []) m′ w′ x′
   one-added m′ w′ x′ d = added-list m t w u x (a ∷ []) 1 m′ w′ x′ (p .frame) (p .is) one-pooled refl d
@@ -158,7 +168,7 @@ module _ (m : Store) (t : Trail) (w : List ℕ) (x : List Float) (a : ℕ) (u : 
 
     pub two-asked : Room m t w x 2 → Literals.node a < Literals.node b → b < t .variables * 2 → Attachable m t v 2 × (t .variables ≤ length x) × (clean (poolLiterals m 2 v) ≡ true)
     unfolding Literals.node
-    two-asked r h k = ready-clause m t w v x (a ∷ b ∷ []) 2 r (q .sound) (omega arith) two-pooled (omega arith, (k, tt)) (clean-two a b h)
+    two-asked r h k = ready-clause m t w v x (a ∷ b ∷ []) 2 r (q .sound) (omega arith) two-pooled (omega arith, (k, tt)) ((omega arith, tt), (tt, tt)) (clean-two a b h)
 
     pub two-added : (m′ : Store) (w′ : List ℕ) (x′ : List Float) → Added m t v x 2 m′ w′ x′ → AddedList m t w x (a ∷ b ∷ []) m′ w′ x′
     two-added m′ w′ x′ d = added-list m t w v x (a ∷ b ∷ []) 2 m′ w′ x′ two-frame two-same two-pooled refl d
@@ -170,7 +180,7 @@ module _ (m : Store) (t : Trail) (w : List ℕ) (x : List Float) (a : ℕ) (u : 
 
       pub three-asked : Room m t w x 3 → Literals.node a < Literals.node b → Literals.node b < Literals.node c → c < t .variables * 2 → Attachable m t z 3 × (t .variables ≤ length x) × (clean (poolLiterals m 3 z) ≡ true)
       unfolding Literals.node
-      three-asked o h i k = ready-clause m t w z x (a ∷ b ∷ c ∷ []) 3 o (r .sound) (omega arith) three-pooled (omega arith, (omega arith, (k, tt))) (clean-three a b c h i)
+      three-asked o h i k = ready-clause m t w z x (a ∷ b ∷ c ∷ []) 3 o (r .sound) (omega arith) three-pooled (omega arith, (omega arith, (k, tt))) ((omega arith, (omega arith, tt)), ((omega arith, tt), (tt, tt))) (clean-three a b c h i)
 
       pub three-added : (m′ : Store) (w′ : List ℕ) (x′ : List Float) → Added m t z x 3 m′ w′ x′ → AddedList m t w x (a ∷ b ∷ c ∷ []) m′ w′ x′
       three-added m′ w′ x′ d = added-list m t w z x (a ∷ b ∷ c ∷ []) 3 m′ w′ x′ (unchanged-both watchRegions two-frame (r .frame)) (λ s. r .is s ∙ two-same s) three-pooled refl d

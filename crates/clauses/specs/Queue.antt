@@ -2,15 +2,15 @@
 use mathlib.Core.Path.{_≡_, refl, ap}
 use mathlib.Core.Bool.{Bool, true, false, cond}
 use mathlib.Core.List.{List, [], _∷_, _++_}
-use Prim.Native.Nat.{ℕ, zero, suc, _+_, _<_, _≤_}
+use Prim.Native.Nat.{ℕ, zero, suc, _+_, _*_, _<_, _≤_}
 use native.Mathlib.Omega.{arith}
 use native.Mathlib.Numerals.{add-one}
 use lib.Dec.{eqb}
 use borrow.Author.Tests.{ne-eqb, eqb-false}
-use lib.ListN.{set, getD, length, List·getD-eq-default}
-use lib.Seq.{getD-set-same, getD-set-other, set-out}
+use lib.ListN.{set, getD, length, take}
+use lib.Seq.{getD-set-same, getD-set-other, getD-take, take-set-lt, length-take-le}
 use Rattle.facts.specs.Bools.{cond-same}
-use Rattle.words.specs.Layout.{LENT, DOUBLE, CELLS, WATCH-HEADS, WATCH-TAILS, WATCH-COUNTS, LINKS}
+use Rattle.words.specs.Layout.{LENT, DOUBLE, CELLS, MOST-NODES, WATCH-HEADS, WATCH-TAILS, WATCH-COUNTS, LINKS}
 use Rattle.words.specs.Region.{region, stored, stores, length-region}
 use Rattle.clauses.specs.Members.{Free, Ends, EndsIn}
 
@@ -21,9 +21,15 @@ pub record Queues : Type 0 where
   pub counts : List ℕ
   pub links : List ℕ
 
--- the queues in lent words
-unfoldable pub queuesOf : List ℕ → Queues
-queuesOf w = record { heads = region WATCH-HEADS w; tails = region WATCH-TAILS w; counts = region WATCH-COUNTS w; links = region LINKS w }
+-- the queues of n variables in lent words: of a literal past theirs there is none, whatever its count's word holds
+unfoldable pub queuesOf : ℕ → List ℕ → Queues
+queuesOf n w = record { heads = region WATCH-HEADS w; tails = region WATCH-TAILS w; counts = take (n * 2) (region WATCH-COUNTS w); links = region LINKS w }
+
+-- what a push to the queue of l asks: it is within the layout, and has room for one cell more
+pub record HasRoom (w : List ℕ) (l : ℕ) : Type 0 where
+  pub near : l < DOUBLE
+  pub more : getD (region WATCH-COUNTS w) l 0 < CELLS + 1
+  pub tail : 0 < getD (region WATCH-COUNTS w) l 0 → getD (region WATCH-TAILS w) l 0 < CELLS
 
 -- n cells from p on, each but the first the link of the one before
 unfoldable pub walk : List ℕ → ℕ → ℕ → List ℕ
@@ -111,11 +117,6 @@ pub push-other : (q : Queues) (l x k : ℕ) → (k ≡ l → ⊥) → (0 < getD 
 unfolding queue
 push-other q l x k h f = rw (counts-other q l x k h, heads-other q l x k h) (push-walk q l x (getD (q .counts) k 0) (getD (q .heads) k 0) f)
 
--- a push to a number past the regions does nothing
-pub push-past : (q : Queues) (l x : ℕ) → length (q .heads) ≤ l → length (q .tails) ≤ l → length (q .counts) ≤ l → pushed q l x ≡ q
-unfolding pushed
-push-past q l x h t c = rw (List·getD-eq-default (q .counts) 0 c, set-out (q .heads) l x h, set-out (q .tails) l x t, set-out (q .counts) l 1 c)
-
 -- the words after the head or the link of a push
 unfoldable pub linked : List ℕ → ℕ → ℕ → List ℕ
 linked w l x = cond (eqb (getD (region WATCH-COUNTS w) l 0) 0) (stored WATCH-HEADS w l x) (stored LINKS w (getD (region WATCH-TAILS w) l 0) x)
@@ -129,9 +130,15 @@ region-cond : (b : ℕ) (t : Bool) (u v : List ℕ) → region b (cond t u v) �
 region-cond b true u v = refl
 region-cond b false u v = refl
 
-pub push-law : (w : List ℕ) (l x : ℕ) → queuesOf (pushedWords w l x) ≡ pushed (queuesOf w) l x
+-- the count of a literal of the variables is the one that the words hold
+pub count-is : (n : ℕ) (w : List ℕ) (l : ℕ) → l < n * 2 → getD (queuesOf n w .counts) l 0 ≡ getD (region WATCH-COUNTS w) l 0
+unfolding queuesOf
+count-is n w l k = getD-take (n * 2) (region WATCH-COUNTS w) l 0 k
+
+pub push-law : (n : ℕ) (w : List ℕ) (l x : ℕ) → l < n * 2 → queuesOf n (pushedWords w l x) ≡ pushed (queuesOf n w) l x
 unfolding queuesOf pushed linked pushedWords
-push-law w l x = simp (stores, region-cond, cond-same)
+push-law n w l x k = rw (getD-take (n * 2) (region WATCH-COUNTS w) l 0 k)
+    (simp (stores, region-cond, cond-same) (rw (take-set-lt (n * 2) (region WATCH-COUNTS w) l (getD (region WATCH-COUNTS w) l 0 + 1) k)))
 
 -- ---- a queue taken
 
@@ -139,9 +146,9 @@ push-law w l x = simp (stores, region-cond, cond-same)
 unfoldable pub taken : Queues → ℕ → Queues
 taken q l = record { heads = q .heads; tails = q .tails; counts = set (q .counts) l 0; links = q .links }
 
-pub take-law : (w : List ℕ) (l : ℕ) → queuesOf (stored WATCH-COUNTS w l 0) ≡ taken (queuesOf w) l
+pub take-law : (n : ℕ) (w : List ℕ) (l : ℕ) → l < n * 2 → queuesOf n (stored WATCH-COUNTS w l 0) ≡ taken (queuesOf n w) l
 unfolding queuesOf taken
-take-law w l = simp stores
+take-law n w l k = simp stores (rw (take-set-lt (n * 2) (region WATCH-COUNTS w) l 0 k))
 
 pub take-own : (q : Queues) (l : ℕ) → l < length (q .counts) → queue (taken q l) l ≡ []
 unfolding queue taken walk
@@ -153,10 +160,15 @@ take-other q l k h = rw (getD-set-other (q .counts) l k 0 0 h)
 
 -- ---- facts of the regions
 
-pub lengths : (w : List ℕ) → LENT ≤ length w
-    → (length (queuesOf w .heads) ≡ DOUBLE) × (length (queuesOf w .tails) ≡ DOUBLE) × (length (queuesOf w .counts) ≡ DOUBLE) × (length (queuesOf w .links) ≡ CELLS)
+pub lengths : (n : ℕ) (w : List ℕ) → LENT ≤ length w → n ≤ MOST-NODES
+    → (length (queuesOf n w .heads) ≡ DOUBLE) × (length (queuesOf n w .tails) ≡ DOUBLE) × (length (queuesOf n w .counts) ≡ n * 2) × (length (queuesOf n w .links) ≡ CELLS)
 unfolding queuesOf
-lengths w h = (length-region WATCH-HEADS w (omega arith), length-region WATCH-TAILS w (omega arith), length-region WATCH-COUNTS w (omega arith), length-region LINKS w (omega arith))
+lengths n w h b = (
+  length-region WATCH-HEADS w (omega arith),
+  length-region WATCH-TAILS w (omega arith),
+  length-take-le (n * 2) (region WATCH-COUNTS w) (omega (arith, length-region WATCH-COUNTS w (omega arith))),
+  length-region LINKS w (omega arith),
+)
 
 pub queue-some : (q : Queues) (l : ℕ) → 0 < getD (q .counts) l 0 → queue q l ≡ [] → ⊥
 queue-some q l p e = let k : length (queue q l) ≡ 0 = ap length e in omega (arith, length-queue q l)

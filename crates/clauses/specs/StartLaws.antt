@@ -39,9 +39,9 @@ module _ (n : ℕ) (w : List ℕ) (x : List Float) (ls : List ℕ) (count : ℕ)
   unfolding Sat.new
   new-room = rw (b .is, no-trail, b .variables) (omega (arith, all-unassigned n))
 
-  module _ (m2 : Store) (w2 : List ℕ) (c : Cleared w1 m2 w2) where
+  module _ (m2 : Store) (w2 : List ℕ) (c : Cleared n w1 m2 w2) where
     new-sound : SoundStore m2 t w2 []
-    new-sound = c .sound t (b .ready) (rw (b .variables) (a .some)) new-room
+    new-sound = c .sound t (b .variables) (b .ready) (rw (b .variables) (a .some)) new-room
 
     start-frame : Unchanged encodeRegions w w2
     start-frame = unchanged-both encodeRegions (unchanged-within (BLOCKS ∷ assignmentRegions) encodeRegions refl (b .frame)) (unchanged-within watchRegions encodeRegions refl (c .frame))
@@ -66,7 +66,7 @@ module _ (n : ℕ) (w : List ℕ) (x : List Float) (ls : List ℕ) (count : ℕ)
 
     start-is : encodedOf (Sat.new n) (record { store = m2; inconsistent = false }) t w2 x1 ≡ Sat.new n
     unfolding encodedOf solverOf flagged scored Sat.new
-    start-is = rw (c .none, c .watches (t .variables), c .assignment t, b .is, b .variables, z .is)
+    start-is = rw (c .none, c .assignment t, b .is, b .variables, c .watches, z .is)
 
     module _ (m3 : Store) (w3 : List ℕ) (x3 : List Float) (d : Grows m2 t w2 x1 (3 * t .variables) (7 * t .variables) m3 w3 x3)
         (k : (s : Sat.Solver) (g : List Node) → Holds (t .variables) w2 g → solverOf (scored s (t .variables) x3) m3 t w3 ≡ Sat.addNodes (solverOf (scored s (t .variables) x1) m2 t w2) 1 (drop 1 g)) where

@@ -1,19 +1,21 @@
 -- What a search's clauses, watch queues and numbers stand for: the definition's solver; what holds of them throughout; and what the functions over them promise. Definitions only.
 use mathlib.Core.Path.{_≡_}
-use mathlib.Core.Bool.{Bool, true, false, not}
+use mathlib.Core.Bool.{Bool, true, false, not, _&&_}
 use mathlib.Core.List.{List, [], _∷_, _++_}
 use mathlib.Core.Option.{Option, none, some}
 use Prim.Native.Nat.{ℕ, zero, suc, _+_, _*_, _/_, _%_, _<_, _≤_}
+use lib.Dec.{eqb}
 use lib.ListN.{getD, length, take, replicate}
 use lib.Ieee.{Float}
 use lib.Seq.{slice}
 use Rattle.facts.specs.Floats.{unsigned}
-use Rattle.words.specs.Layout.{LENT, DOUBLE, STARTS, POOL, MOST-NODES, BLOCKS, GRAPH-LHS, GRAPH-RHS, WATCH-HEADS, WATCH-TAILS, WATCH-COUNTS, CLAUSE-STARTS, WATCHED, LINKS, LITERALS}
+use Rattle.words.specs.Layout.{LENT, STARTS, POOL, MOST-NODES, BLOCKS, GRAPH-LHS, GRAPH-RHS, WATCH-HEADS, WATCH-TAILS, WATCH-COUNTS, CLAUSE-STARTS, WATCHED, LINKS, LITERALS}
 use Rattle.words.specs.Region.{region, stored, cleared}
 use Rattle.model.specs.Lists.{snoc}
 use Rattle.model.specs.Aig.{Node, Constant, Variable, And}
 use Rattle.model.specs.Sat as Sat
 use Rattle.model.specs.Sat.{Solver}
+use Rattle.laws.specs.Search.State.{Apart}
 use Rattle.assignment.specs.State.{assignmentOf, assignmentRegions, TrailReady, Unchanged}
 use Rattle.assignment.specs.Scores.{Others}
 use Rattle.assignment.specs.Blocks.{Cached, Grown}
@@ -23,11 +25,11 @@ use Rattle.clauses.specs.declared.state.Store.{Store}
 use Rattle.clauses.specs.declared.state.Clause.{Clause}
 use Rattle.clauses.specs.declared.state.Encoding.{Encoding}
 use Rattle.clauses.specs.declared.state.Encoded.{Encoded}
-use Rattle.clauses.specs.declared.state.Place.{Place}
-use Rattle.clauses.specs.declared.state.Place.the-variants as Places
+use Rattle.clauses.specs.declared.state.Spare.{Spare}
+use Rattle.clauses.specs.declared.state.Spare.the-variants as Found
 use Rattle.clauses.specs.Queue.{queuesOf}
 use Rattle.clauses.specs.Sound.{SoundQueues}
-use Rattle.clauses.specs.Clauses.{clausesOf, watchesOf}
+use Rattle.clauses.specs.Clauses.{clausesOf, watchesOf, literalsOf, placeIn, Stands}
 
 -- ---- THE ABSTRACTION
 
@@ -43,14 +45,31 @@ solverOf s m t w =
       learned = s .learned;
     }
 
+-- the literals of a clause that was read
+unfoldable pub spanOf : Clause → List ℕ → List ℕ
+spanOf c w = slice (c .start) (c .end) (region LITERALS w)
+
 -- the definition's clause of one that was read
 unfoldable pub clauseOf : Clause → List ℕ → Sat.Clause
-clauseOf c w = record { literals = slice (c .start) (c .end) (region LITERALS w); watched = (c .first, c .second) }
+clauseOf c w = record { literals = spanOf c w; watched = (placeIn (c .first .0) (spanOf c w), placeIn (c .second .0) (spanOf c w)) }
 
--- the definition's answer for a place
-abbrev pub placeOf : Place → Option ℕ
-placeOf (Places.At i) = some i
-placeOf Places.Nothing = none
+-- the definition's place of a spare literal of a clause
+abbrev pub placeOf : Spare → List ℕ → Option ℕ
+placeOf (Found.Found l) ls = some (placeIn (l .0) ls)
+placeOf Found.Nothing ls = none
+
+-- a spare literal that was found stands in the clause
+abbrev pub SpareStands : Spare → List ℕ → Type 0
+SpareStands (Found.Found l) ls = Stands (l .0) ls
+SpareStands Found.Nothing ls = Unit {0}
+
+-- whether a literal is none of the watched ones of a clause
+unfoldable pub isSpare : Clause → ℕ → Bool
+isSpare c l = not (eqb l (c .first .0)) && not (eqb l (c .second .0))
+
+-- whether a literal of a clause is neither watched nor false
+unfoldable pub canWatch : Sat.Assignment → Clause → ℕ → Bool
+canWatch t c l = not (eqb l (c .first .0)) && not (eqb l (c .second .0)) && Sat.notFalse (Sat.value t l)
 
 -- ---- what holds throughout
 
@@ -61,6 +80,12 @@ unassigned (Sat.False ∷ vs) = unassigned vs
 unassigned (Sat.Unassigned ∷ vs) = suc (unassigned vs)
 unassigned (Sat.True ∷ vs) = unassigned vs
 
+-- the literals of each clause are distinct, and its two watched words are literals of it
+pub record Watching (m : Store) (w : List ℕ) : Type 0 where
+  pub apart : (i : ℕ) → i < m .clauses → Apart (literalsOf w i)
+  pub first : (i : ℕ) → i < m .clauses → Stands (getD (region WATCHED w) (i * 2) 0) (literalsOf w i)
+  pub second : (i : ℕ) → i < m .clauses → Stands (getD (region WATCHED w) (i * 2 + 1) 0) (literalsOf w i)
+
 -- the numbers are within the layout, the clauses end where the next begin, their literals are of the variables, and the trail has room for the unassigned variables
 pub record Formed (m : Store) (t : Trail) (w : List ℕ) : Type 0 where
   pub ready : TrailReady t w
@@ -70,12 +95,13 @@ pub record Formed (m : Store) (t : Trail) (w : List ℕ) : Type 0 where
   pub last : getD (region CLAUSE-STARTS w) (m .clauses) 0 ≡ m .literals
   pub within : (i : ℕ) → i ≤ m .clauses → getD (region CLAUSE-STARTS w) i 0 ≤ m .literals
   pub range : (i : ℕ) → i < m .literals → getD (region LITERALS w) i 0 < t .variables * 2
+  pub watching : Watching m w
   pub room : unassigned (assignmentOf t w .assignments) + t .length ≤ t .variables
 
 -- and the queues are sound, with the cells p pending
 pub record SoundStore (m : Store) (t : Trail) (w : List ℕ) (p : List ℕ) : Type 0 where
   pub formed : Formed m t w
-  pub queues : SoundQueues (queuesOf w) (m .clauses * 2) p
+  pub queues : SoundQueues (queuesOf (t .variables) w) (m .clauses * 2) p
 
 -- ---- what is promised
 
@@ -104,28 +130,44 @@ pub record Step (m : Store) (t : Trail) (w : List ℕ) (r : Trail) (w′ : List 
   pub head : r .head ≡ t .head
   pub grows : Grown t w r w′
 
--- the slot of a number
+-- the slot of a number: 2 and more for neither
 unfoldable pub slotOf : ℕ → Sat.Slot
 slotOf zero = Sat.slot0
-slotOf (suc k) = Sat.slot1
+slotOf (suc zero) = Sat.slot1
+slotOf (suc (suc k)) = Sat.neither
+
+-- what is asked of a clause whose spare literal is looked for: its literals lie in the pool, are distinct and of the variables, and the watched ones are among them
+pub record Watchable (t : Trail) (w : List ℕ) (c : Clause) : Type 0 where
+  pub ready : TrailReady t w
+  pub inside : c .end ≤ POOL
+  pub apart : Apart (spanOf c w)
+  pub first : Stands (c .first .0) (spanOf c w)
+  pub second : Stands (c .second .0) (spanOf c w)
+  pub range : (i : ℕ) → getD (spanOf c w) i 0 < t .variables * 2
+
+-- the spare literal of a clause is at the definition's place, and stands in the clause
+pub record Spares (t : Trail) (w : List ℕ) (c : Clause) (r : Spare) : Type 0 where
+  pub is : placeOf r (spanOf c w) ≡ Sat.replacement (assignmentOf t w) (clauseOf c w)
+  pub found : SpareStands r (spanOf c w)
 
 -- ---- clauses added
 
--- the words with the clause id sealed: its literals end at `end`, and it watches its first literal and the one at `place`
-unfoldable pub sealedWords : List ℕ → ℕ → ℕ → ℕ → List ℕ
-sealedWords w id end place = stored WATCHED (stored WATCHED (stored CLAUSE-STARTS w (id + 1) end) (id * 2) 0) (id * 2 + 1) place
+-- the words with the clause id sealed: its literals end at `end`, and it watches the literals a and b
+unfoldable pub sealedWords : List ℕ → ℕ → ℕ → ℕ → ℕ → List ℕ
+sealedWords w id end a b = stored WATCHED (stored WATCHED (stored CLAUSE-STARTS w (id + 1) end) (id * 2) a) (id * 2 + 1) b
 
 -- the literals that lie in the pool after those of the clauses
 abbrev pub poolLiterals : Store → ℕ → List ℕ → List ℕ
 poolLiterals m count w = slice (m .literals) (m .literals + count) (region LITERALS w)
 
--- what is asked where `count` literals in the pool are to become a clause: there is room, and they are literals of the variables
+-- what is asked where `count` literals in the pool are to become a clause: there is room, and they are distinct literals of the variables
 pub record Attachable (m : Store) (t : Trail) (w : List ℕ) (count : ℕ) : Type 0 where
   pub sound : SoundStore m t w []
   pub clauses : m .clauses + 1 < STARTS
   pub literals : m .literals + count ≤ POOL
   pub some : 0 < count
   pub range : (i : ℕ) → m .literals ≤ i → i < m .literals + count → getD (region LITERALS w) i 0 < t .variables * 2
+  pub apart : Apart (poolLiterals m count w)
 
 -- the solver with a clause more, scores apart
 unfoldable pub attachedTo : Solver → List ℕ → Solver
@@ -253,19 +295,19 @@ pub record Holds (n : ℕ) (w : List ℕ) (g : List Node) : Type 0 where
 
 -- ---- the start
 
--- the words with the counts of all queues 0, and with no clause
-unfoldable pub clearedWords : List ℕ → List ℕ
-clearedWords w = stored CLAUSE-STARTS (cleared WATCH-COUNTS w DOUBLE) 0 0
+-- the words with the counts of the queues of n variables 0, and with no clause
+unfoldable pub clearedWords : ℕ → List ℕ → List ℕ
+clearedWords n w = stored CLAUSE-STARTS (cleared WATCH-COUNTS w (n * 2)) 0 0
 
--- no clause and no watch: with an assignment whose trail has room for its unassigned variables all is sound
-pub record Cleared (w : List ℕ) (m : Store) (w′ : List ℕ) : Type 0 where
+-- no clause and no watch: with an assignment of n variables whose trail has room for the unassigned ones all is sound
+pub record Cleared (n : ℕ) (w : List ℕ) (m : Store) (w′ : List ℕ) : Type 0 where
   pub frame : Unchanged watchRegions w w′
   pub clauses : m .clauses ≡ 0
   pub literals : m .literals ≡ 0
   pub none : clausesOf (m .clauses) w′ ≡ []
-  pub watches : (n : ℕ) → watchesOf n w′ ≡ replicate (n * 2) []
+  pub watches : watchesOf n w′ ≡ replicate (n * 2) []
   pub assignment : (t : Trail) → assignmentOf t w′ ≡ assignmentOf t w
-  pub sound : (t : Trail) → TrailReady t w → 0 < t .variables → unassigned (assignmentOf t w .assignments) + t .length ≤ t .variables → SoundStore m t w′ []
+  pub sound : (t : Trail) → t .variables ≡ n → TrailReady t w → 0 < t .variables → unassigned (assignmentOf t w .assignments) + t .length ≤ t .variables → SoundStore m t w′ []
 
 -- ---- assumptions
 

@@ -1,14 +1,15 @@
--- What a push, a change of a watched place and an assignment make of the solver that the words stand for. Assumes nothing.
+-- What a push, a change of a watched literal and an assignment make of the solver that the words stand for. Assumes nothing.
 use mathlib.Core.Path.{_≡_, refl, ap, sym, _∙_}
 use mathlib.Core.Bool.{Bool, true, false, cond}
 use mathlib.Core.List.{List, [], _∷_, _++_}
-use mathlib.Core.Logic.{_⊎_, inl, inr}
+use mathlib.Core.Logic.{_⊎_, inl, inr, ⊎-elim}
 use mathlib.Core.Option.{some}
 use Prim.Native.Nat.{ℕ, zero, suc, _+_, _*_, _<_, _≤_}
 use native.Mathlib.Omega.{arith}
 use lib.Dec.{eqb}
+use borrow.Author.Tests.{eqb-true, eqb-false}
 use lib.ListN.{set, getD, length, length-append}
-use lib.Seq.{getD-set-same, getD-set-other}
+use lib.Seq.{slice, getD-set-same, getD-set-other, set-out}
 use Rattle.facts.specs.Bools.{and-left, and-right}
 use Rattle.facts.specs.Numbers.{below}
 use Rattle.words.specs.Layout.{LENT, SMALL, STARTS, CELLS, VALUES, LEVELS, REASONS, PHASES, TRAIL, LIMITS, WATCH-HEADS, WATCH-TAILS, WATCH-COUNTS, CLAUSE-STARTS, WATCHED, LINKS, LITERALS}
@@ -27,8 +28,8 @@ use Rattle.clauses.specs.declared.state.Clause.{Clause}
 use Rattle.clauses.specs.Tabulate.{tabulate-set}
 use Rattle.clauses.specs.Queue.{queuesOf, linked, pushedWords, walk}
 use Rattle.clauses.specs.Sound.{SoundQueues}
-use Rattle.clauses.specs.Clauses.{clauseAt, clausesOf, watchesOf, half, same-clauses, same-queues, same-watches, pushed-sound, pushed-pending, pushed-watches}
-use Rattle.clauses.specs.State.{solverOf, Formed, SoundStore, Step, watchRegions, searchRegions, unassigned, slotOf}
+use Rattle.clauses.specs.Clauses.{clauseAt, literalsOf, placeIn, Stands, clausesOf, watchesOf, half, same-clauses, same-literals, same-queues, same-watches, pushed-sound, pushed-pending, pushed-watches}
+use Rattle.clauses.specs.State.{solverOf, Watching, Formed, SoundStore, Step, watchRegions, searchRegions, unassigned, slotOf}
 use Rattle.clauses.specs.ClauseLaws.{slice-in, slice-out}
 
 -- ---- frames
@@ -59,8 +60,8 @@ same-assignment t w w′ f =
 pub assigned-clauses : (n : ℕ) (w w′ : List ℕ) → Unchanged assignmentRegions w w′ → clausesOf n w′ ≡ clausesOf n w
 assigned-clauses n w w′ f = same-clauses n w′ w (f .same CLAUSE-STARTS refl) (f .same WATCHED refl) (f .same LITERALS refl)
 
-pub assigned-queues : (w w′ : List ℕ) → Unchanged assignmentRegions w w′ → queuesOf w′ ≡ queuesOf w
-assigned-queues w w′ f = same-queues w′ w (f .same WATCH-HEADS refl) (f .same WATCH-TAILS refl) (f .same WATCH-COUNTS refl) (f .same LINKS refl)
+pub assigned-queues : (n : ℕ) (w w′ : List ℕ) → Unchanged assignmentRegions w w′ → queuesOf n w′ ≡ queuesOf n w
+assigned-queues n w w′ f = same-queues n w′ w (f .same WATCH-HEADS refl) (f .same WATCH-TAILS refl) (f .same WATCH-COUNTS refl) (f .same LINKS refl)
 
 -- ---- a push
 
@@ -96,10 +97,19 @@ length-pushed w l x = rw (length-stored, length-stored) (go (eqb (getD (region W
     go true = length-stored WATCH-HEADS w l x
     go false = length-stored LINKS w (getD (region WATCH-TAILS w) l 0) x
 
--- words with the same starts, literals and assignment are as well formed
-pub formed-kept : (m : Store) (t : Trail) (w w′ : List ℕ) → Formed m t w → region CLAUSE-STARTS w′ ≡ region CLAUSE-STARTS w → region LITERALS w′ ≡ region LITERALS w → assignmentOf t w′ ≡ assignmentOf t w
-    → length w′ ≡ length w → Formed m t w′
-formed-kept m t w w′ f a b c n = record {
+-- the literals and the watched words of the clauses depend on three regions alone
+pub watching-kept : (m : Store) (w w′ : List ℕ) → Watching m w → region CLAUSE-STARTS w′ ≡ region CLAUSE-STARTS w → region WATCHED w′ ≡ region WATCHED w → region LITERALS w′ ≡ region LITERALS w → Watching m w′
+watching-kept m w w′ k a b c =
+    record {
+      apart = λ i h. rw (same-literals w′ w a c i) (k .apart i h);
+      first = λ i h. rw (same-literals w′ w a c i, b) (k .first i h);
+      second = λ i h. rw (same-literals w′ w a c i, b) (k .second i h);
+    }
+
+-- words with the same clauses and assignment are as well formed
+pub formed-kept : (m : Store) (t : Trail) (w w′ : List ℕ) → Formed m t w → region CLAUSE-STARTS w′ ≡ region CLAUSE-STARTS w → region WATCHED w′ ≡ region WATCHED w → region LITERALS w′ ≡ region LITERALS w
+    → assignmentOf t w′ ≡ assignmentOf t w → length w′ ≡ length w → Formed m t w′
+formed-kept m t w w′ f a d b c n = record {
   ready = record { words = omega (arith, f .ready .words); variables = f .ready .variables; literals = f .ready .literals; levels = f .ready .levels };
   some = f .some;
   clauses = f .clauses;
@@ -107,10 +117,11 @@ formed-kept m t w w′ f a b c n = record {
   last = rw a (f .last);
   within = rw a (f .within);
   range = rw b (f .range);
+  watching = watching-kept m w w′ (f .watching) a d b;
   room = rw c (f .room);
 }
 
-module _ (m : Store) (t : Trail) (w : List ℕ) (l x : ℕ) (p : List ℕ) (s : SoundStore m t w (x ∷ p)) where
+module _ (m : Store) (t : Trail) (w : List ℕ) (l x : ℕ) (p : List ℕ) (s : SoundStore m t w (x ∷ p)) (in-range : l < t .variables * 2) where
   cells-fit : m .clauses * 2 ≤ CELLS
   cells-fit = omega (arith, s .formed .clauses)
 
@@ -122,9 +133,9 @@ module _ (m : Store) (t : Trail) (w : List ℕ) (l x : ℕ) (p : List ℕ) (s : 
   push-step = record {
     frame = watches-only w (pushedWords w l x) (pushed-unchanged w l x);
     sound = record {
-      formed = formed-kept m t w (pushedWords w l x) (s .formed) (pushed-clause-region w l x CLAUSE-STARTS refl refl refl refl) (pushed-clause-region w l x LITERALS refl refl refl refl)
+      formed = formed-kept m t w (pushedWords w l x) (s .formed) (pushed-clause-region w l x CLAUSE-STARTS refl refl refl refl) (pushed-clause-region w l x WATCHED refl refl refl refl) (pushed-clause-region w l x LITERALS refl refl refl refl)
           (same-assignment t w (pushedWords w l x) (pushed-unchanged w l x)) (length-pushed w l x);
-      queues = pushed-sound w words-fit (m .clauses * 2) cells-fit l x p (s .queues);
+      queues = pushed-sound (t .variables) w words-fit (s .formed .ready .variables) (m .clauses * 2) cells-fit l x p (s .queues) in-range;
     };
     variables = refl;
     level = refl;
@@ -139,119 +150,158 @@ module _ (m : Store) (t : Trail) (w : List ℕ) (l x : ℕ) (p : List ℕ) (s : 
   -- and the clause stands at the end of the watch list
   pub push-solver : (v : Solver) → solverOf v m t (pushedWords w l x) ≡ Sat.keepWatch l (half x) (solverOf v m t w)
   unfolding solverOf Sat.keepWatch Sat.withWatches
-  push-solver v = rw (push-clauses, pushed-watches w words-fit (m .clauses * 2) cells-fit l x p (s .queues) (t .variables) (s .formed .ready .variables), same-assignment t w (pushedWords w l x) (pushed-unchanged w l x))
+  push-solver v = rw (push-clauses, pushed-watches (t .variables) w words-fit (s .formed .ready .variables) (m .clauses * 2) cells-fit l x p (s .queues) in-range, same-assignment t w (pushedWords w l x) (pushed-unchanged w l x))
 
   pub push-pending : (n c : ℕ) → p ≡ walk (region LINKS w) n c → walk (region LINKS (pushedWords w l x)) n c ≡ p
   unfolding queuesOf
-  push-pending n c e = pushed-pending w words-fit (m .clauses * 2) cells-fit l x p (s .queues) n c e
+  push-pending n c e = pushed-pending (t .variables) w words-fit (s .formed .ready .variables) (m .clauses * 2) cells-fit l x p (s .queues) in-range n c e
 
--- ---- a change of a watched place
+-- ---- a change of a watched literal
 
 -- the places of two clauses do not meet
 other-place : (i j k : ℕ) → (i ≡ j → ⊥) → k < 2 → (i * 2 ≡ j * 2 + k → ⊥) × (i * 2 + 1 ≡ j * 2 + k → ⊥)
 other-place i j k n h = ((λ e. n (omega arith)), λ e. n (omega arith))
 
--- the clause whose place changed
-clause-moved : (w : List ℕ) (id i : ℕ) → id < STARTS → LENT ≤ length w → (k : ℕ) → k < 2 → clauseAt (stored WATCHED w (id * 2 + k) i) id ≡ Sat.moveWatch (clauseAt w id) (slotOf k) i
-unfolding clauseAt Sat.moveWatch slotOf
-clause-moved w id i h n zero b =
+-- what holds of a word, and of the word stored if it is that one, holds of the word then
+set-word : (P : ℕ → Type 0) (xs : List ℕ) (j v i : ℕ) → P (getD xs i 0) → (i ≡ j → P v) → P (getD (set xs j v) i 0)
+set-word P xs j v i p q = go (eqb i j) refl
+  where
+    go : (b : Bool) → eqb i j ≡ b → P (getD (set xs j v) i 0)
+    go false e = rw (getD-set-other xs j i v 0 (eqb-false i j e)) p
+    go true e = ⊎-elim
+        (λ (h : j < length xs). let z = eqb-true i j e in rw (z, getD-set-same xs j v 0 h) (q z))
+        (λ (h : length xs ≤ j). rw (set-out xs j v h) p)
+        (below j (length xs))
+
+-- the clause whose watched literal changed
+clause-moved : (w : List ℕ) (id l : ℕ) → id < STARTS → LENT ≤ length w → (k : ℕ) → k < 2 → clauseAt (stored WATCHED w (id * 2 + k) l) id ≡ Sat.moveWatch (clauseAt w id) (slotOf k) (placeIn l (literalsOf w id))
+unfolding clauseAt literalsOf Sat.moveWatch slotOf
+clause-moved w id l h n zero b =
     let e : id * 2 + 0 ≡ id * 2 = omega arith in
-    let l : id * 2 < length (region WATCHED w) = omega (arith, length-region WATCHED w (omega arith)) in
+    let r : id * 2 < length (region WATCHED w) = omega (arith, length-region WATCHED w (omega arith)) in
     rw (
       e,
-      stored-out CLAUSE-STARTS w WATCHED (id * 2) i refl,
-      stored-out LITERALS w WATCHED (id * 2) i refl,
-      stored-in WATCHED w (id * 2) i,
-      getD-set-same (region WATCHED w) (id * 2) i 0 l,
-      getD-set-other (region WATCHED w) (id * 2) (id * 2 + 1) i 0 (λ z. omega arith),
+      stored-out CLAUSE-STARTS w WATCHED (id * 2) l refl,
+      stored-out LITERALS w WATCHED (id * 2) l refl,
+      stored-in WATCHED w (id * 2) l,
+      getD-set-same (region WATCHED w) (id * 2) l 0 r,
+      getD-set-other (region WATCHED w) (id * 2) (id * 2 + 1) l 0 (λ z. omega arith),
     )
-clause-moved w id i h n (suc zero) b =
-    let l : id * 2 + 1 < length (region WATCHED w) = omega (arith, length-region WATCHED w (omega arith)) in
+clause-moved w id l h n (suc zero) b =
+    let r : id * 2 + 1 < length (region WATCHED w) = omega (arith, length-region WATCHED w (omega arith)) in
     rw (
-      stored-out CLAUSE-STARTS w WATCHED (id * 2 + 1) i refl,
-      stored-out LITERALS w WATCHED (id * 2 + 1) i refl,
-      stored-in WATCHED w (id * 2 + 1) i,
-      getD-set-same (region WATCHED w) (id * 2 + 1) i 0 l,
-      getD-set-other (region WATCHED w) (id * 2 + 1) (id * 2) i 0 (λ z. omega arith),
+      stored-out CLAUSE-STARTS w WATCHED (id * 2 + 1) l refl,
+      stored-out LITERALS w WATCHED (id * 2 + 1) l refl,
+      stored-in WATCHED w (id * 2 + 1) l,
+      getD-set-same (region WATCHED w) (id * 2 + 1) l 0 r,
+      getD-set-other (region WATCHED w) (id * 2 + 1) (id * 2) l 0 (λ z. omega arith),
     )
-clause-moved w id i h n (suc (suc k)) b = absurd (omega arith)
+clause-moved w id l h n (suc (suc k)) b = absurd (omega arith)
 
-module _ (w : List ℕ) (id k i : ℕ) (h : id < STARTS) (n : LENT ≤ length w) where
+module _ (w : List ℕ) (id k l : ℕ) (h : id < STARTS) (n : LENT ≤ length w) where
   -- the other clauses
-  clause-stays : k < 2 → (j : ℕ) → (j ≡ id → ⊥) → clauseAt (stored WATCHED w (id * 2 + k) i) j ≡ clauseAt w j
-  unfolding clauseAt
+  clause-stays : k < 2 → (j : ℕ) → (j ≡ id → ⊥) → clauseAt (stored WATCHED w (id * 2 + k) l) j ≡ clauseAt w j
+  unfolding clauseAt literalsOf
   clause-stays b j d =
       rw (
-        stored-out CLAUSE-STARTS w WATCHED (id * 2 + k) i refl,
-        stored-out LITERALS w WATCHED (id * 2 + k) i refl,
-        stored-in WATCHED w (id * 2 + k) i,
-        getD-set-other (region WATCHED w) (id * 2 + k) (j * 2) i 0 (other-place j id k d b .0),
-        getD-set-other (region WATCHED w) (id * 2 + k) (j * 2 + 1) i 0 (other-place j id k d b .1),
+        stored-out CLAUSE-STARTS w WATCHED (id * 2 + k) l refl,
+        stored-out LITERALS w WATCHED (id * 2 + k) l refl,
+        stored-in WATCHED w (id * 2 + k) l,
+        getD-set-other (region WATCHED w) (id * 2 + k) (j * 2) l 0 (other-place j id k d b .0),
+        getD-set-other (region WATCHED w) (id * 2 + k) (j * 2 + 1) l 0 (other-place j id k d b .1),
       )
 
-  pub clauses-moved : k < 2 → (c : ℕ) → clausesOf c (stored WATCHED w (id * 2 + k) i) ≡ set (clausesOf c w) id (Sat.moveWatch (clauseAt w id) (slotOf k) i)
+  pub clauses-moved : k < 2 → (c : ℕ) → clausesOf c (stored WATCHED w (id * 2 + k) l) ≡ set (clausesOf c w) id (Sat.moveWatch (clauseAt w id) (slotOf k) (placeIn l (literalsOf w id)))
   unfolding clausesOf
-  clauses-moved b c = tabulate-set c (clauseAt w) (clauseAt (stored WATCHED w (id * 2 + k) i)) id _ (λ j q d. clause-stays b j d) (λ q. clause-moved w id i h n k b)
+  clauses-moved b c = tabulate-set c (clauseAt w) (clauseAt (stored WATCHED w (id * 2 + k) l)) id _ (λ j q d. clause-stays b j d) (λ q. clause-moved w id l h n k b)
 
-module _ (m : Store) (t : Trail) (w : List ℕ) (id k i : ℕ) (p : List ℕ) (s : SoundStore m t w p) where
-  pub move-unchanged : Unchanged watchRegions w (stored WATCHED w (id * 2 + k) i)
+module _ (m : Store) (t : Trail) (w : List ℕ) (id k l : ℕ) (b : k < 2) (there : Stands l (literalsOf w id)) (p : List ℕ) (s : SoundStore m t w p) where
+  pub move-unchanged : Unchanged watchRegions w (stored WATCHED w (id * 2 + k) l)
   unfolding member
-  move-unchanged = unchanged-stored watchRegions WATCHED (id * 2 + k) i refl (unchanged-none watchRegions w) refl
+  move-unchanged = unchanged-stored watchRegions WATCHED (id * 2 + k) l refl (unchanged-none watchRegions w) refl
 
-  move-queues : queuesOf (stored WATCHED w (id * 2 + k) i) ≡ queuesOf w
+  move-queues : queuesOf (t .variables) (stored WATCHED w (id * 2 + k) l) ≡ queuesOf (t .variables) w
   unfolding queuesOf
   move-queues = simp stores
 
-  pub move-sound : SoundStore m t (stored WATCHED w (id * 2 + k) i) p
-  move-sound = record {
-    formed = formed-kept m t w _ (s .formed) (stored-out CLAUSE-STARTS w WATCHED (id * 2 + k) i refl) (stored-out LITERALS w WATCHED (id * 2 + k) i refl)
-        (same-assignment t w _ move-unchanged) (length-stored WATCHED w (id * 2 + k) i);
-    queues = rw move-queues (s .queues);
-  }
+  move-literals : (i : ℕ) → literalsOf (stored WATCHED w (id * 2 + k) l) i ≡ literalsOf w i
+  move-literals i = same-literals _ w (stored-out CLAUSE-STARTS w WATCHED (id * 2 + k) l refl) (stored-out LITERALS w WATCHED (id * 2 + k) l refl) i
 
-  pub move-watches : watchesOf (t .variables) (stored WATCHED w (id * 2 + k) i) ≡ watchesOf (t .variables) w
+  -- the clauses still watch literals of their own
+  move-watching : Watching m (stored WATCHED w (id * 2 + k) l)
+  move-watching =
+      let v = s .formed .watching in
+      record {
+        apart = λ i h. rw (move-literals i) (v .apart i h);
+        first = λ i h. rw (move-literals i, stored-in WATCHED w (id * 2 + k) l) (set-word (λ (x : ℕ). Stands x (literalsOf w i)) (region WATCHED w) (id * 2 + k) l (i * 2) (v .first i h)
+            (λ e. let z : i ≡ id = omega arith in rw z there));
+        second = λ i h. rw (move-literals i, stored-in WATCHED w (id * 2 + k) l) (set-word (λ (x : ℕ). Stands x (literalsOf w i)) (region WATCHED w) (id * 2 + k) l (i * 2 + 1) (v .second i h)
+            (λ e. let z : i ≡ id = omega arith in rw z there));
+      }
+
+  pub move-sound : SoundStore m t (stored WATCHED w (id * 2 + k) l) p
+  move-sound =
+      let f = s .formed in
+      record {
+        formed = record {
+          ready = record { words = rw (length-stored WATCHED w (id * 2 + k) l) (f .ready .words); variables = f .ready .variables; literals = f .ready .literals; levels = f .ready .levels };
+          some = f .some;
+          clauses = f .clauses;
+          literals = f .literals;
+          last = rw (stored-out CLAUSE-STARTS w WATCHED (id * 2 + k) l refl) (f .last);
+          within = rw (stored-out CLAUSE-STARTS w WATCHED (id * 2 + k) l refl) (f .within);
+          range = rw (stored-out LITERALS w WATCHED (id * 2 + k) l refl) (f .range);
+          watching = move-watching;
+          room = rw (same-assignment t w _ move-unchanged) (f .room);
+        };
+        queues = rw move-queues (s .queues);
+      }
+
+  pub move-watches : watchesOf (t .variables) (stored WATCHED w (id * 2 + k) l) ≡ watchesOf (t .variables) w
   move-watches = same-watches (t .variables) _ w move-queues
 
--- the words after the clause of the cell x, the first pending one, goes over to the literal l at its place i
-unfoldable pub replacedWords : List ℕ → ℕ → ℕ → ℕ → ℕ → List ℕ
-replacedWords w x k i l = pushedWords (stored WATCHED w (half x * 2 + k) i) l x
+-- the words after the clause of the cell x, the first pending one, goes over to the literal l
+unfoldable pub replacedWords : List ℕ → ℕ → ℕ → ℕ → List ℕ
+replacedWords w x k l = pushedWords (stored WATCHED w (half x * 2 + k) l) l x
 
-module _ (m : Store) (t : Trail) (w : List ℕ) (x k i l : ℕ) (p : List ℕ) (s : SoundStore m t w (x ∷ p)) where
-  pub replace-step : Step m t w t (replacedWords w x k i l) p
+module _ (m : Store) (t : Trail) (w : List ℕ) (x k l : ℕ) (b : k < 2) (there : Stands l (literalsOf w (half x))) (p : List ℕ) (s : SoundStore m t w (x ∷ p)) (in-range : l < t .variables * 2) where
+  moved : SoundStore m t (stored WATCHED w (half x * 2 + k) l) (x ∷ p)
+  moved = move-sound m t w (half x) k l b there (x ∷ p) s
+
+  kept : assignmentOf t (stored WATCHED w (half x * 2 + k) l) ≡ assignmentOf t w
+  kept = same-assignment t w _ (move-unchanged m t w (half x) k l b there (x ∷ p) s)
+
+  pub replace-step : Step m t w t (replacedWords w x k l) p
   unfolding replacedWords
   replace-step =
-      let v = move-sound m t w (half x) k i (x ∷ p) s in
-      let r = push-step m t (stored WATCHED w (half x * 2 + k) i) l x p v in
+      let r = push-step m t (stored WATCHED w (half x * 2 + k) l) l x p moved in-range in
       record {
-        frame = unchanged-both searchRegions (watches-only w _ (move-unchanged m t w (half x) k i (x ∷ p) s)) (r .frame);
+        frame = unchanged-both searchRegions (watches-only w _ (move-unchanged m t w (half x) k l b there (x ∷ p) s)) (r .frame);
         sound = r .sound;
         variables = refl;
         level = refl;
         head = refl;
-        grows = λ y f. rw (same-assignment t w _ (move-unchanged m t w (half x) k i (x ∷ p) s)) at (r .grows y f);
+        grows = λ y f. rw kept at (r .grows y f);
       }
 
-  pub replace-pending : (n c : ℕ) → p ≡ walk (region LINKS w) n c → walk (region LINKS (replacedWords w x k i l)) n c ≡ p
+  pub replace-pending : (n c : ℕ) → p ≡ walk (region LINKS w) n c → walk (region LINKS (replacedWords w x k l)) n c ≡ p
   unfolding replacedWords
-  replace-pending n c e =
-      push-pending m t (stored WATCHED w (half x * 2 + k) i) l x p (move-sound m t w (half x) k i (x ∷ p) s) n c (rw (stored-out LINKS w WATCHED (half x * 2 + k) i refl) e)
+  replace-pending n c e = push-pending m t (stored WATCHED w (half x * 2 + k) l) l x p moved in-range n c (rw (stored-out LINKS w WATCHED (half x * 2 + k) l refl) e)
 
-  pub replace-solver : (c : Sat.Clause) → k < 2 → half x < m .clauses → c ≡ clauseAt w (half x) → l ≡ getD (c .literals) i 0
-      → (v : Solver) → solverOf v m t (replacedWords w x k i l) ≡ Sat.replaceWatch (half x) (solverOf v m t w) c (slotOf k) i
-  unfolding replacedWords solverOf Sat.replaceWatch
-  replace-solver c b h e g v =
-      let w1 = stored WATCHED w (half x * 2 + k) i in
-      let s1 = move-sound m t w (half x) k i (x ∷ p) s in
+  pub replace-solver : half x < m .clauses → (v : Solver)
+      → solverOf v m t (replacedWords w x k l) ≡ Sat.replaceWatch (half x) (solverOf v m t w) (clauseAt w (half x)) (slotOf k) (placeIn l (literalsOf w (half x)))
+  unfolding replacedWords solverOf Sat.replaceWatch clauseAt
+  replace-solver h v =
+      let w1 = stored WATCHED w (half x * 2 + k) l in
       let n : half x < STARTS = omega (arith, s .formed .clauses) in
       rw (
-        push-clauses m t w1 l x p s1,
-        clauses-moved w (half x) k i n (s .formed .ready .words) b (m .clauses),
-        pushed-watches w1 (s1 .formed .ready .words) (m .clauses * 2) (cells-fit m t w l x p s) l x p (s1 .queues) (t .variables) (s .formed .ready .variables),
-        move-watches m t w (half x) k i (x ∷ p) s,
+        push-clauses m t w1 l x p moved in-range,
+        clauses-moved w (half x) k l n (s .formed .ready .words) b (m .clauses),
+        pushed-watches (t .variables) w1 (moved .formed .ready .words) (s .formed .ready .variables) (m .clauses * 2) (cells-fit m t w l x p s in-range) l x p (moved .queues) in-range,
+        move-watches m t w (half x) k l b there (x ∷ p) s,
         same-assignment t w1 (pushedWords w1 l x) (pushed-unchanged w1 l x),
-        same-assignment t w w1 (move-unchanged m t w (half x) k i (x ∷ p) s),
-        ← e,
-        ← g,
+        kept,
+        there,
       )
 
 -- ---- an assignment
@@ -308,14 +358,15 @@ module _ (m : Store) (t : Trail) (w : List ℕ) (l : ℕ) (f : Formed m t w) (b 
       last = rw (a .frame .same CLAUSE-STARTS refl) (f .last);
       within = rw (a .frame .same CLAUSE-STARTS refl) (f .within);
       range = rw (a .frame .same LITERALS refl, a .variables) (f .range);
+      watching = watching-kept m w w′ (f .watching) (a .frame .same CLAUSE-STARTS refl) (a .frame .same WATCHED refl) (a .frame .same LITERALS refl);
       room = rw (assigned-values, assigned-length, a .variables) (omega (arith, fewer, f .room));
     }
 
     -- after an assignment all is sound
-    pub assign-step : (p : List ℕ) → SoundQueues (queuesOf w) (m .clauses * 2) p → Step m t w r w′ p
+    pub assign-step : (p : List ℕ) → SoundQueues (queuesOf (t .variables) w) (m .clauses * 2) p → Step m t w r w′ p
     assign-step p q = record {
       frame = assignment-only w w′ (a .frame);
-      sound = record { formed = assigned-formed; queues = rw (assigned-queues w w′ (a .frame)) q };
+      sound = record { formed = assigned-formed; queues = rw (a .variables, assigned-queues (t .variables) w w′ (a .frame)) q };
       variables = a .variables;
       level = a .level;
       head = assigned-head;
@@ -325,7 +376,7 @@ module _ (m : Store) (t : Trail) (w : List ℕ) (l : ℕ) (f : Formed m t w) (b 
     -- and the clauses and the watch lists are as they were
     pub assign-solver : (v : Solver) → solverOf v m r w′ ≡ Sat.withAssignment (solverOf v m t w) (Sat.assign (assignmentOf t w) l (wordReason reason))
     unfolding solverOf Sat.withAssignment
-    assign-solver v = rw (a .is, assigned-clauses (m .clauses) w w′ (a .frame), a .variables, same-watches (t .variables) w′ w (assigned-queues w w′ (a .frame)))
+    assign-solver v = rw (a .is, assigned-clauses (m .clauses) w w′ (a .frame), a .variables, same-watches (t .variables) w′ w (assigned-queues (t .variables) w w′ (a .frame)))
 
 -- a step after another
 pub step-both : (m : Store) (t : Trail) (w : List ℕ) (r : Trail) (w′ : List ℕ) (u : Trail) (w″ : List ℕ) (p q : List ℕ) → Step m t w r w′ p → Step m r w′ u w″ q → Step m t w u w″ q
@@ -339,10 +390,10 @@ step-both m t w r w′ u w″ p q a b = record {
 }
 
 -- a literal of a clause is one of the variables'
-pub literal-range : (m : Store) (t : Trail) (w : List ℕ) → Formed m t w → (i : ℕ) → i < m .clauses → (p : ℕ) → getD (clauseAt w i .literals) p 0 < t .variables * 2
-unfolding clauseAt
+pub literal-range : (m : Store) (t : Trail) (w : List ℕ) → Formed m t w → (i : ℕ) → i < m .clauses → (p : ℕ) → getD (literalsOf w i) p 0 < t .variables * 2
+unfolding literalsOf
 literal-range m t w f i h p = go (below (getD (region CLAUSE-STARTS w) i 0 + p) (getD (region CLAUSE-STARTS w) (i + 1) 0))
   where
-    go : (getD (region CLAUSE-STARTS w) i 0 + p < getD (region CLAUSE-STARTS w) (i + 1) 0) ⊎ (getD (region CLAUSE-STARTS w) (i + 1) 0 ≤ getD (region CLAUSE-STARTS w) i 0 + p) → getD (clauseAt w i .literals) p 0 < t .variables * 2
+    go : (getD (region CLAUSE-STARTS w) i 0 + p < getD (region CLAUSE-STARTS w) (i + 1) 0) ⊎ (getD (region CLAUSE-STARTS w) (i + 1) 0 ≤ getD (region CLAUSE-STARTS w) i 0 + p) → getD (slice (getD (region CLAUSE-STARTS w) i 0) (getD (region CLAUSE-STARTS w) (i + 1) 0) (region LITERALS w)) p 0 < t .variables * 2
     go (inl k) = rw (slice-in _ _ p (region LITERALS w) k) (f .range _ (omega (arith, f .within (i + 1) (omega arith))))
     go (inr k) = rw (slice-out _ _ p (region LITERALS w) k) (omega (arith, f .some))

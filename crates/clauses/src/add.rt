@@ -1,4 +1,4 @@
-// Clauses added: the literals that lie in the pool become a clause, which watches its places 0 and 1.
+// Clauses added: the literals that lie in the pool become a clause, which watches its first two.
 ghost use mathlib.Core.Path.{_≡_};
 ghost use Prim.Native.Nat.{_+_, _*_, _<_, _≤_};
 ghost use mathlib.Core.Bool.{true};
@@ -10,24 +10,21 @@ use crate::state::Store;
 use assignment::scores::add_ones;
 use assignment::state::Trail;
 use literals::Literal;
-use words::CELLS;
 use words::CLAUSE_STARTS;
 use words::LITERALS;
-use words::POOL;
-use words::STARTS;
 use words::WATCHED;
-use words::fetch;
-use words::stash;
+use words::load;
+use words::put;
 use words::wide;
 
-// The end of the clause id, and its watched places: 0 and the given one.
-fn seal(words: &mut [u32], id: usize, end: usize, place: u32)
-    requires { ⌜ (LENT ≤ length (now words)) × (id < STARTS) × (end ≤ POOL) ⌝ }
-    ensures { λ _. ⌜ (now (words .exit) ≡ sealedWords (now (words .entry)) id end place) × (LENT ≤ length (now (words .exit))) ⌝ }
+// The end of the clause id, and its watched literals.
+fn seal(words: &mut [u32], id: usize, end: usize, first: Literal, second: Literal)
+    requires { ⌜ (LENT ≤ length (now words)) × (id + 1 < STARTS) × (end ≤ POOL) ⌝ }
+    ensures { λ _. ⌜ (now (words .exit) ≡ sealedWords (now (words .entry)) id end (first .0) (second .0)) × (LENT ≤ length (now (words .exit))) ⌝ }
 {
-    stash(words, CLAUSE_STARTS, STARTS, id + 1, end as u32);
-    stash(words, WATCHED, CELLS, id * 2, 0);
-    stash(words, WATCHED, CELLS, id * 2 + 1, place);
+    put(words, CLAUSE_STARTS, id + 1, end as u32);
+    put(words, WATCHED, id * 2, first.0);
+    put(words, WATCHED, id * 2 + 1, second.0);
 }
 
 // One literal of the pool becomes a clause.
@@ -37,8 +34,8 @@ fn attach_unit(words: &mut [u32], store: Store, t: Trail) -> Store
 {
     let id = store.clauses;
     let start = store.literals;
-    let first = Literal(fetch(words, LITERALS, POOL, start));
-    seal(words, id, start + 1, 0);
+    let first = Literal(load(words, LITERALS, start));
+    seal(words, id, start + 1, first, first);
     push_back(words, wide(first.0), (id * 2) as u32);
     Store {
         clauses: id + 1,
@@ -53,9 +50,9 @@ fn attach_longer(words: &mut [u32], store: Store, t: Trail, count: usize) -> Sto
 {
     let id = store.clauses;
     let start = store.literals;
-    let first = Literal(fetch(words, LITERALS, POOL, start));
-    let second = Literal(fetch(words, LITERALS, POOL, start + 1));
-    seal(words, id, start + count, 1);
+    let first = Literal(load(words, LITERALS, start));
+    let second = Literal(load(words, LITERALS, start + 1));
+    seal(words, id, start + count, first, second);
     push_back(words, wide(first.0), (id * 2) as u32);
     push_back(words, wide(second.0), (id * 2 + 1) as u32);
     Store {

@@ -1,37 +1,34 @@
-// Reading clauses: the clause with a number, a literal of it, and the place that can be watched instead of a false one.
+// Reading clauses: the clause with a number, and the literal that can be watched instead of a false one.
 ghost use mathlib.Core.Path.{_≡_};
-ghost use Prim.Native.Nat.{_+_, _<_, _≤_};
+ghost use Prim.Native.Nat.{_+_, _*_, _<_, _≤_};
 ghost use lib.ListN.{length, getD};
-ghost use Rattle.words.specs.Layout.{LENT, POOL, CLAUSE-STARTS};
+ghost use Rattle.words.specs.Layout.{LENT, STARTS, CLAUSE-STARTS, WATCHED};
 ghost use Rattle.words.specs.Region.{region};
-ghost use Rattle.model.specs.Sat as Sat;
-ghost use Rattle.assignment.specs.State.{assignmentOf};
-ghost use Rattle.clauses.specs.Clauses.{clauseAt};
-ghost use Rattle.clauses.specs.State.{clauseOf, placeOf};
+ghost use Rattle.assignment.specs.State.{assignmentOf, TrailReady};
+ghost use Rattle.clauses.specs.Clauses.{literalsOf};
+ghost use Rattle.clauses.specs.State.{spanOf, isSpare, canWatch, Watchable, Spares};
 use crate::state::Clause;
-use crate::state::Place;
+use crate::state::Spare;
 use assignment::state::Trail;
 use assignment::state::Value;
 use assignment::trail::value;
 use literals::Literal;
-use words::CELLS;
 use words::CLAUSE_STARTS;
 use words::LITERALS;
-use words::POOL;
-use words::STARTS;
 use words::WATCHED;
-use words::fetch;
+use words::load;
 use words::wide;
 
 // The clause with a number.
 pub fn clause(words: &[u32], id: usize) -> Clause
-    requires { ⌜ (LENT ≤ length (now words)) × (id < 4294967296) ⌝ }
-    ensures { λ r. ⌜ (clauseOf r (now (words .entry)) ≡ clauseAt (now (words .entry)) id) × (r .end ≡ getD (region CLAUSE-STARTS (now (words .entry))) (id + 1) 0) ⌝ }
+    requires { ⌜ (LENT ≤ length (now words)) × (id + 1 < STARTS) ⌝ }
+    ensures { λ r. ⌜ (spanOf r (now (words .entry)) ≡ literalsOf (now (words .entry)) id) × (r .end ≡ getD (region CLAUSE-STARTS (now (words .entry))) (id + 1) 0)
+        × (r .first .0 ≡ getD (region WATCHED (now (words .entry))) (id * 2) 0) × (r .second .0 ≡ getD (region WATCHED (now (words .entry))) (id * 2 + 1) 0) ⌝ }
 {
-    let start = fetch(words, CLAUSE_STARTS, STARTS, id);
-    let end = fetch(words, CLAUSE_STARTS, STARTS, id + 1);
-    let first = fetch(words, WATCHED, CELLS, id * 2);
-    let second = fetch(words, WATCHED, CELLS, id * 2 + 1);
+    let start = load(words, CLAUSE_STARTS, id);
+    let end = load(words, CLAUSE_STARTS, id + 1);
+    let first = Literal(load(words, WATCHED, id * 2));
+    let second = Literal(load(words, WATCHED, id * 2 + 1));
     Clause {
         start,
         end,
@@ -40,51 +37,43 @@ pub fn clause(words: &[u32], id: usize) -> Clause
     }
 }
 
-// The literal at a place of a clause; the false one past its end.
-pub fn literal_at(words: &[u32], c: Clause, place: u32) -> Literal
-    requires { ⌜ LENT ≤ length (now words) ⌝ }
-    ensures { λ r. ⌜ r .0 ≡ getD (clauseOf c (now (words .entry)) .literals) place 0 ⌝ }
+// Whether a literal is none of the watched ones of a clause.
+fn is_spare(c: Clause, l: Literal) -> bool
+    ensures { λ r. ⌜ r ≡ isSpare c (l .0) ⌝ }
 {
-    let at = wide(c.start) + wide(place);
-    if at < wide(c.end) {
-        Literal(fetch(words, LITERALS, POOL, at))
-    } else {
-        Literal::FALSE
+    let first = c.first;
+    let second = c.second;
+    if l.0 == first.0 {
+        return false;
     }
+    l.0 != second.0
 }
 
-// Whether a place of a clause is unwatched and its literal not false.
-fn can_replace(words: &[u32], t: Trail, c: Clause, place: u32) -> bool
-    requires { ⌜ LENT ≤ length (now words) ⌝ }
-    ensures { λ r. ⌜ r ≡ Sat.canReplace (assignmentOf t (now (words .entry))) (clauseOf c (now (words .entry))) place (getD (clauseOf c (now (words .entry)) .literals) place 0) ⌝ }
+// Whether a literal of a clause is neither watched nor false. Most are false, so that is asked first.
+fn can_watch(words: &[u32], t: Trail, c: Clause, l: Literal) -> bool
+    requires { ⌜ TrailReady t (now words) × (l .0 < t .variables * 2) ⌝ }
+    ensures { λ r. ⌜ r ≡ canWatch (assignmentOf t (now (words .entry))) c (l .0) ⌝ }
 {
-    if place == c.first {
-        return false;
-    }
-    if place == c.second {
-        return false;
-    }
-    let l = literal_at(words, c, place);
     match value(words, t, l) {
         Value::False => false,
-        Value::Unassigned => true,
-        Value::True => true,
+        Value::Unassigned => is_spare(c, l),
+        Value::True => is_spare(c, l),
     }
 }
 
-// The first place of a clause that is unwatched and whose literal is not false.
-pub fn replacement(words: &[u32], t: Trail, c: Clause) -> Place
-    requires { ⌜ (LENT ≤ length (now words)) × (c .end ≤ POOL) ⌝ }
-    ensures { λ r. ⌜ placeOf r ≡ Sat.replacement (assignmentOf t (now (words .entry))) (clauseOf c (now (words .entry))) ⌝ }
+// The first literal of a clause that is neither watched nor false.
+pub fn replacement(words: &[u32], t: Trail, c: Clause) -> Spare
+    requires { ⌜ Watchable t (now words) c ⌝ }
+    ensures { λ r. ⌜ Spares t (now (words .entry)) c r ⌝ }
 {
-    let start = wide(c.start);
     let end = wide(c.end);
-    let mut i: u32 = 0;
-    while start + wide(i) < end {
-        if can_replace(words, t, c, i) {
-            return Place::At(i);
+    let mut at = wide(c.start);
+    while at < end {
+        let l = Literal(load(words, LITERALS, at));
+        if can_watch(words, t, c, l) {
+            return Spare::Found(l);
         }
-        i += 1;
+        at += 1;
     }
-    Place::Nothing
+    Spare::Nothing
 }

@@ -1,40 +1,37 @@
-// The watch queues: a cell at the end of a queue, and a queue taken whole.
+// The watch queues: a cell at the end of a queue.
 ghost use mathlib.Core.Path.{_≡_};
-ghost use Prim.Native.Nat.{_+_, _<_, _≤_};
-ghost use lib.ListN.{length, getD};
-ghost use Rattle.words.specs.Layout.{LENT, CELLS, WATCH-COUNTS};
-ghost use Rattle.words.specs.Region.{region};
-ghost use Rattle.clauses.specs.Queue.{linked, pushedWords};
-use words::CELLS;
-use words::DOUBLE;
+ghost use Prim.Native.Nat.{_≤_};
+ghost use lib.ListN.{length};
+ghost use Rattle.words.specs.Layout.{LENT};
+ghost use Rattle.clauses.specs.Queue.{HasRoom, linked, pushedWords};
 use words::LINKS;
 use words::WATCH_COUNTS;
 use words::WATCH_HEADS;
 use words::WATCH_TAILS;
-use words::fetch;
-use words::stash;
+use words::load;
+use words::put;
 use words::wide;
 
 // The head of an empty queue, or the link of the last cell, set to a cell.
 fn link(words: &mut [u32], l: usize, cell: u32)
-    requires { ⌜ LENT ≤ length (now words) ⌝ }
+    requires { ⌜ (LENT ≤ length (now words)) × HasRoom (now words) l ⌝ }
     ensures { λ _. ⌜ (now (words .exit) ≡ linked (now (words .entry)) l cell) × (LENT ≤ length (now (words .exit))) ⌝ }
 {
-    if fetch(words, WATCH_COUNTS, DOUBLE, l) == 0 {
-        stash(words, WATCH_HEADS, DOUBLE, l, cell);
+    if load(words, WATCH_COUNTS, l) == 0 {
+        put(words, WATCH_HEADS, l, cell);
         return;
     }
-    let tail = wide(fetch(words, WATCH_TAILS, DOUBLE, l));
-    stash(words, LINKS, CELLS, tail, cell);
+    let tail = wide(load(words, WATCH_TAILS, l));
+    put(words, LINKS, tail, cell);
 }
 
-// A cell at the end of the queue of l; the count has room for one more.
+// A cell at the end of the queue of l, which has room for one more.
 pub fn push_back(words: &mut [u32], l: usize, cell: u32)
-    requires { ⌜ (LENT ≤ length (now words)) × (getD (region WATCH-COUNTS (now words)) l 0 < CELLS + 1) ⌝ }
+    requires { ⌜ (LENT ≤ length (now words)) × HasRoom (now words) l ⌝ }
     ensures { λ _. ⌜ (now (words .exit) ≡ pushedWords (now (words .entry)) l cell) × (LENT ≤ length (now (words .exit))) ⌝ }
 {
-    let count = fetch(words, WATCH_COUNTS, DOUBLE, l);
+    let count = load(words, WATCH_COUNTS, l);
     link(words, l, cell);
-    stash(words, WATCH_TAILS, DOUBLE, l, cell);
-    stash(words, WATCH_COUNTS, DOUBLE, l, count + 1);
+    put(words, WATCH_TAILS, l, cell);
+    put(words, WATCH_COUNTS, l, count + 1);
 }

@@ -1,7 +1,7 @@
 // The start of a search: no clause and empty queues; then the clauses of a graph and its assumptions.
 ghost use Prim.Native.Nat.{_≤_};
 ghost use lib.ListN.{length};
-ghost use Rattle.words.specs.Layout.{LENT};
+ghost use Rattle.words.specs.Layout.{LENT, MOST-NODES};
 ghost use Rattle.clauses.specs.State.{Cleared, Encodable, Encodes};
 use crate::encode::add_assumptions;
 use crate::encode::add_nodes;
@@ -17,12 +17,12 @@ use words::WATCH_COUNTS;
 use words::clear;
 use words::stash;
 
-// No clause and no watch, whatever the words held before.
-pub fn clear_watches(words: &mut [u32]) -> Store
-    requires { ⌜ LENT ≤ length (now words) ⌝ }
-    ensures { λ r. ⌜ Cleared (now (words .entry)) r (now (words .exit)) ⌝ }
+// No clause and no watch of the variables, whatever the words held before.
+pub fn clear_watches(words: &mut [u32], variables: usize) -> Store
+    requires { ⌜ (LENT ≤ length (now words)) × (variables ≤ MOST-NODES) ⌝ }
+    ensures { λ r. ⌜ Cleared variables (now (words .entry)) r (now (words .exit)) ⌝ }
 {
-    clear(words, WATCH_COUNTS, DOUBLE, DOUBLE);
+    clear(words, WATCH_COUNTS, DOUBLE, variables * 2);
     stash(words, CLAUSE_STARTS, STARTS, 0, 0);
     Store {
         clauses: 0,
@@ -43,7 +43,7 @@ pub fn encode(
 {
     let trail = new(words, variables);
     clear_scores(scores, variables);
-    let empty = clear_watches(words);
+    let empty = clear_watches(words, variables);
     let store = add_nodes(words, scores, empty, trail);
     let before = Encoding {
         store,

@@ -1,5 +1,6 @@
 // The types of this crate's arguments and answers.
 use assignment::state::Trail;
+use literals::Literal;
 
 // How many clauses there are, and how many literals they have together.
 pub struct Store {
@@ -7,17 +8,17 @@ pub struct Store {
     pub literals: usize,
 }
 
-// A clause as it is read: its literals lie in the pool from `start` up to `end`; the two watched places.
+// A clause as it is read: its literals lie in the pool from `start` up to `end`; the two watched ones.
 pub struct Clause {
     pub start: u32,
     pub end: u32,
-    pub first: u32,
-    pub second: u32,
+    pub first: Literal,
+    pub second: Literal,
 }
 
-// A place in a clause, or none.
-pub enum Place {
-    At(u32),
+// A literal of a clause that can be watched instead of a false one, or none.
+pub enum Spare {
+    Found(Literal),
     Nothing,
 }
 

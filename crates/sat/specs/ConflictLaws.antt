@@ -2,34 +2,34 @@
 use mathlib.Core.Path.{_≡_, refl, ap, sym, subst, _∙_}
 use mathlib.Core.Bool.{Bool, true, false}
 use mathlib.Core.List.{List, [], _∷_}
-use Prim.Native.Nat.{ℕ, zero, suc, _+_, _-_, _<_, _≤_}
+use Prim.Native.Nat.{ℕ, zero, suc, _+_, _-_, _*_, _<_, _≤_}
 use native.Mathlib.Omega.{arith}
 use borrow.Author.Tests.{lt-ltb, le-ltb}
 use lib.Dec.{ltb}
-use lib.ListN.{length}
-use lib.Seq.{length-take-le}
+use lib.ListN.{length, getD}
+use lib.Seq.{length-take-le, getD-take}
 use lib.Ieee.{Float}
-use Rattle.words.specs.Layout.{LEARNED}
+use Rattle.words.specs.Layout.{STARTS, TRAIL, LEARNED}
 use Rattle.words.specs.Region.{region, length-region}
-use Rattle.model.specs.Literal.{negate}
+use Rattle.model.specs.Literal.{node, negate}
 use Rattle.model.specs.Sat as Sat
 use Rattle.laws.specs.Search.Analysis.{Analyzed, AnalysisEnded}
 use Rattle.laws.specs.Search.Step.{analysis-ends}
-use Rattle.assignment.specs.State.{column, TrailReady, Unchanged}
+use Rattle.assignment.specs.State.{column, assignmentOf, TrailReady, Unchanged}
 use Rattle.assignment.specs.Scores.{scoresOf, Fixed, Others, Decays}
-use Rattle.assignment.specs.StateLaws.{unchanged-none, unchanged-both, unchanged-within, level-is}
+use Rattle.assignment.specs.StateLaws.{unchanged-none, unchanged-both, unchanged-within, trail-length, level-is}
 use Rattle.assignment.specs.declared.state.Activity.{Activity}
 use Rattle.clauses.specs.Clauses.{length-clauses}
 use Rattle.assignment.specs.Blocks.{Cached}
 use Rattle.assignment.specs.OrderLaws.{decay-unsigned}
 use Rattle.clauses.specs.State.{solverOf, SoundStore}
 use Rattle.clauses.specs.KeptLaws.{sound-kept, solver-kept}
-use Rattle.analysis.specs.Analysis.{analysisOf, analysisRegions, viewOf, Bounded, Analyzes}
+use Rattle.analysis.specs.Analysis.{analysisOf, analysisRegions, Ranged, viewOf, Bounded, Analyzes}
 use Rattle.analysis.specs.declared.state.Analyzed as Answers
 use Rattle.assignment.specs.ScoreLaws.{others-none, others-both}
 use Rattle.sat.specs.CapacityLaws.{analysis-fits, asserting-below, clause-below, clause-length, clause-clean}
 use Rattle.sat.specs.ViewLaws.{analysis-of}
-use Rattle.sat.specs.State.{baseOf, stateOf, Stopped, solveRegions, Results, Assertable}
+use Rattle.sat.specs.State.{baseOf, stateOf, Marks, Stopped, solveRegions, Results, Assertable}
 use Rattle.sat.specs.declared.state.State.{State}
 use Rattle.sat.specs.declared.state.Step.{Step}
 use Rattle.sat.specs.declared.state.Step.the-variants as Steps
@@ -82,12 +82,28 @@ module _ (limit : ℕ) (s : State) (w : List ℕ) (x : List Float) (id : ℕ) (h
     unfolding stateOf baseOf
     viewed = analysis-of (baseOf s x) (s .store) (s .trail) (s .activity) w x refl id
 
+    trail-low : (i : ℕ) → i < s .trail .length → getD (region TRAIL w) i 0 < s .trail .variables * 2
+    unfolding stateOf solverOf assignmentOf node
+    trail-low i k =
+        let m : i < length (column (s .trail .length) TRAIL w) = omega (arith, trail-length (s .trail) w (h .fits .sound .formed .ready)) in
+        omega (arith, h .stuck .core .justified .trail-inv .range i m .1, getD-take (s .trail .length) (region TRAIL w) i 0 k)
+
+    -- the literals of the clauses and of the trail are of the variables
+    ranged : Ranged (s .store .clauses) (s .trail) w
+    ranged =
+        let f = h .fits .sound .formed in
+        record { some = f .some; clauses = λ id k i l. f .range i (omega (arith, l, f .within (id + 1) (omega arith))); trail = trail-low }
+
     -- what `analyze` asks
-    pub analyze-asked : TrailReady (s .trail) w × (s .trail .variables ≤ length x) × Fixed (s .activity) × Bounded (Sat.analyze (viewOf (s .store .clauses) (s .trail) (s .activity) w x) id)
+    pub analyze-asked : TrailReady (s .trail) w × (s .trail .variables ≤ length x) × Fixed (s .activity) × (s .store .clauses < STARTS) × Marks (s .store .clauses) s w × Ranged (s .store .clauses) (s .trail) w
+        × Bounded (Sat.analyze (viewOf (s .store .clauses) (s .trail) (s .activity) w x) id)
     analyze-asked = (
       h .fits .sound .formed .ready,
       h .fits .scores,
       h .fits .fixed,
+      omega (arith, h .fits .clauses, h .fits .total, h .fits .limited),
+      h .marks,
+      ranged,
       subst Bounded viewed (analysis-fits (s .trail .variables) (S .clauses) (S .assignment) (Sat.analyze S id) (h .fits .sound .formed .ready .variables) ended),
     )
 
@@ -177,6 +193,7 @@ module _ (limit : ℕ) (s : State) (w : List ℕ) (x : List Float) (id : ℕ) (h
                     literals = h .fits .literals;
                     cached = decayed-cached (z .cached (h .fits .cached));
                   };
+              marks = z .marks;
               able =
                   record {
                     sound = sound₁;

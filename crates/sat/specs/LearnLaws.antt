@@ -12,6 +12,8 @@ use Rattle.words.specs.Layout.{LENT, SMALL, STARTS, POOL, LEARNED, BLOCKS, LITE
 use Rattle.words.specs.Region.{region, length-region}
 use Rattle.model.specs.Lists.{snoc}
 use Rattle.model.specs.Sat as Sat
+use Rattle.laws.specs.Search.State.{Apart}
+use Rattle.laws.specs.Search.Sorting.{sort-ascending, ascending-apart}
 use Rattle.assignment.specs.State.{Unchanged, column, assignmentOf, assignmentRegions}
 use Rattle.assignment.specs.Blocks.{Unsigned, Cached, Undoes}
 use Rattle.assignment.specs.KnownLaws.{cached-kept}
@@ -81,9 +83,9 @@ module _ (m : Store) (t : Trail) (start count : ℕ) (w₀ : List ℕ) where
 
   -- what `add_clause` asks
   pub learned-asked : (w : List ℕ) (x : List Float) → Pushes m t start count w₀ w → m .literals + count ≤ POOL → m .clauses + 1 < STARTS → 0 < count → t .variables ≤ length x
-      → AllBelow (t .variables * 2) (part count start (region LEARNED w₀)) → clean (part count start (region LEARNED w₀)) ≡ true
+      → AllBelow (t .variables * 2) (part count start (region LEARNED w₀)) → Apart (part count start (region LEARNED w₀)) → clean (part count start (region LEARNED w₀)) ≡ true
       → Attachable m t w count × (t .variables ≤ length x) × (clean (poolLiterals m count w) ≡ true)
-  learned-asked w x p l c n v a k = (attachable m t w count (p .sound) c l n (rw (p .literals) a), v, rw (p .literals) k)
+  learned-asked w x p l c n v a d k = (attachable m t w count (p .sound) c l n (rw (p .literals) a) (rw (p .literals) d), v, rw (p .literals) k)
 
   -- what it makes
   pub learned-added : (w : List ℕ) (x : List Float) (m′ : Store) (w′ : List ℕ) (x′ : List Float) → Pushes m t start count w₀ w → LENT ≤ length w₀ → start + count ≤ SMALL → Added m t w x count m′ w′ x′
@@ -154,7 +156,7 @@ module _ (m : Store) (t : Trail) (w : List ℕ) (x : List Float) (asserting coun
     some-literal (suc n) u e = omega arith
 
     pub learn-asked : SoundStore m r w₂ [] × (m .literals + (count + 1 - start) ≤ POOL) × (start + (count + 1 - start) ≤ SMALL) × (m .clauses + 1 < STARTS) × (0 < count + 1 - start) × (r .variables ≤ length x)
-        × AllBelow (r .variables * 2) (part (count + 1 - start) start (region LEARNED w₂)) × (clean (part (count + 1 - start) start (region LEARNED w₂)) ≡ true)
+        × AllBelow (r .variables * 2) (part (count + 1 - start) start (region LEARNED w₂)) × Apart (part (count + 1 - start) start (region LEARNED w₂)) × (clean (part (count + 1 - start) start (region LEARNED w₂)) ≡ true)
     learn-asked =
         let k : clean (part (count + 1 - start) start (region LEARNED w₂)) ≡ true = rw clause-is (able .distinct) in (
           sound₂,
@@ -164,6 +166,7 @@ module _ (m : Store) (t : Trail) (w : List ℕ) (x : List Float) (asserting coun
           some-literal (count + 1 - start) _ k,
           omega (arith, able .scores, b .variables),
           rw (clause-is, b .variables) (able .range),
+          rw clause-is (ascending-apart (learnedClause asserting count w) (sort-ascending (asserting ∷ column count LEARNED w))),
           k,
         )
 

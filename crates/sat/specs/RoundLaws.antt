@@ -9,7 +9,7 @@ use native.Mathlib.Numerals.{add-one}
 use lib.ListN.{length}
 use lib.Seq.{length-take-le}
 use lib.Ieee.{Float}
-use Rattle.words.specs.Layout.{LEARNED, BLOCKS}
+use Rattle.words.specs.Layout.{SEEN, LEARNED, BLOCKS}
 use Rattle.words.specs.Region.{region, length-region}
 use Rattle.model.specs.Sat as Sat
 use Rattle.assignment.specs.State.{assignmentOf, assignmentRegions, column, enqueued, wordReason, Unchanged}
@@ -21,8 +21,9 @@ use Rattle.assignment.specs.KnownLaws.{cached-grown}
 use Rattle.clauses.specs.State.{solverOf, scored}
 use Rattle.clauses.specs.StepLaws.{assigned-clauses, assigned-queues}
 use Rattle.watches.specs.State.{UnitStep}
+use Rattle.analysis.specs.SeeLaws.{unmarked-kept}
 use Rattle.sat.specs.LearnLaws.{learnedClause, learnRegions, Learns, counted, learn-of}
-use Rattle.sat.specs.State.{baseOf, stateOf, Fits, solveRegions, Results, Assertable}
+use Rattle.sat.specs.State.{baseOf, stateOf, Fits, Marks, solveRegions, Results, Assertable}
 use Rattle.sat.specs.declared.state.Learned.{Learned}
 use Rattle.sat.specs.declared.state.State.{State}
 use Rattle.sat.specs.declared.state.Step.the-variants as Steps
@@ -33,7 +34,7 @@ use Rattle.sat.specs.declared.state.Step.the-variants as Steps
 pub solver-unit : (v : Sat.Solver) (s : State) (l : Learned) (r : Enqueued) (w w′ : List ℕ) → UnitStep (l .store) (l .trail) w r w′
     → solverOf v (l .store) (r .trail) w′ ≡ Sat.withAssignment (solverOf v (l .store) (l .trail) w) (assignmentOf (r .trail) w′)
 unfolding solverOf Sat.withAssignment watchesOf
-solver-unit v s l r w w′ u = rw (assigned-clauses (l .store .clauses) w w′ (u .frame), assigned-queues w w′ (u .frame), u .variables)
+solver-unit v s l r w w′ u = rw (assigned-clauses (l .store .clauses) w w′ (u .frame), u .variables, assigned-queues (l .trail .variables) w w′ (u .frame))
 
 module _ (limit : ℕ) (s : State) (w : List ℕ) (x : List Float) (asserting count : ℕ) (a : Assertable limit s w x asserting count) (l : Learned) (w₁ : List ℕ) (x₁ : List Float)
     (L : Learns (s .store) (s .trail) w x asserting count l w₁ x₁) (reason : ℕ) (reason-is : reason ≡ s .store .clauses + 1) (e : Enqueued) (w₂ : List ℕ)
@@ -109,13 +110,22 @@ module _ (limit : ℕ) (s : State) (w : List ℕ) (x : List Float) (asserting co
         cached = cached-grown (l .trail) w₁ (e .trail) w₂ (s .activity) x₁ (u .variables) (u .frame .same BLOCKS refl) (u .grows) (L .cached (s .activity) (a .fits .cached));
       }
 
+  -- the clause is counted, so that the marks of the analysis that taught it are not above the number of clauses
+  after-marks : Marks (l .store .clauses) after w₂
+  after-marks = λ v h.
+      omega (
+        arith,
+        L .clauses,
+        unmarked-kept (s .store .clauses + 1) (s .trail .variables) w w₂ (u .frame .same SEEN refl ∙ L .frame .same SEEN refl) (a .marks) v (omega (arith, u .variables, L .variables)),
+      )
+
   pub asserts : e .ok ≡ true → Results limit (s .trail .variables) w x
       (Sat.assertLearned (s .store .clauses) asserting (Sat.learn (stateOf s w x) (stateOf s w x .scores) asserting others)) (Steps.Searching after) w₂ x₁
   unfolding Sat.afterEnqueue enqueued
   asserts k =
       record {
         is = sym (goal-is ∙ ap (λ b. Sat.afterEnqueue (solverOf base₁ (l .store) (l .trail) w₁) (enqueued b (assignmentOf (e .trail) w₂))) k ∙ ap Sat.searching (sym after-is));
-        next = (after-fits (a .size), u .variables ∙ L .variables);
+        next = (after-fits (a .size), u .variables ∙ L .variables, after-marks);
         others = L .others;
         frame = frame-all;
       }

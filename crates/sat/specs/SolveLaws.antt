@@ -91,6 +91,7 @@ module _ (limit : ℕ) (s₀ : State) (w₀ : List ℕ) (x₀ : List Float) (rou
                   going =
                       record {
                         fits = z .next .0;
+                        marks = z .next .2;
                         graph = g .graph;
                         assumptions = g .assumptions;
                         size = g .size ∙ sym (z .next .1);

@@ -17,7 +17,7 @@ use Rattle.assignment.specs.declared.state.Trail.{Trail}
 use Rattle.clauses.specs.Queue.{queuesOf}
 use Rattle.clauses.specs.Clauses.{watchesOf, same-clauses, same-queues}
 use Rattle.clauses.specs.State.{solverOf, unassigned, Formed, SoundStore}
-use Rattle.clauses.specs.StepLaws.{one-fewer}
+use Rattle.clauses.specs.StepLaws.{one-fewer, watching-kept}
 use Rattle.clauses.specs.declared.state.Store.{Store}
 
 -- ---- the room of the trail
@@ -83,8 +83,8 @@ pub undoes-changes : (t : Trail) (w : List ℕ) (a : Sat.Assignment) (r : Trail)
 undoes-changes t w a r w′ b = record { is = b .is; frame = b .frame; ready = b .ready; variables = b .variables }
 
 -- the queues and the clauses are as they were
-queues-same : (w w′ : List ℕ) → Unchanged (BLOCKS ∷ assignmentRegions) w w′ → queuesOf w′ ≡ queuesOf w
-queues-same w w′ f = same-queues w′ w (f .same WATCH-HEADS refl) (f .same WATCH-TAILS refl) (f .same WATCH-COUNTS refl) (f .same LINKS refl)
+queues-same : (n : ℕ) (w w′ : List ℕ) → Unchanged (BLOCKS ∷ assignmentRegions) w w′ → queuesOf n w′ ≡ queuesOf n w
+queues-same n w w′ f = same-queues n w′ w (f .same WATCH-HEADS refl) (f .same WATCH-TAILS refl) (f .same WATCH-COUNTS refl) (f .same LINKS refl)
 
 -- another assignment that leaves as much room is sound
 sound-becomes : (m : Store) (t r : Trail) (w w′ : List ℕ) (a : Sat.Assignment) → SoundStore m t w [] → Changes t w a r w′
@@ -101,6 +101,7 @@ sound-becomes m t r w w′ a s b k =
             last = rw (b .frame .same CLAUSE-STARTS refl) (f .last);
             within = rw (b .frame .same CLAUSE-STARTS refl) (f .within);
             range = rw (b .frame .same LITERALS refl, b .variables) (f .range);
+            watching = watching-kept m w w′ (f .watching) (b .frame .same CLAUSE-STARTS refl) (b .frame .same WATCHED refl) (b .frame .same LITERALS refl);
             room =
                 omega (
                   arith,
@@ -113,7 +114,7 @@ sound-becomes m t r w w′ a s b k =
                   ap (λ (u : Sat.Assignment). length (u .trail)) (b .is),
                 );
           };
-      queues = rw (queues-same w w′ (b .frame)) (s .queues);
+      queues = rw (b .variables, queues-same (t .variables) w w′ (b .frame)) (s .queues);
     }
 
 -- after backtracking all is sound
@@ -126,9 +127,9 @@ unfolding solverOf Sat.withAssignment watchesOf
 solver-becomes s m t r w w′ a b =
     rw (
       same-clauses (m .clauses) w′ w (b .frame .same CLAUSE-STARTS refl) (b .frame .same WATCHED refl) (b .frame .same LITERALS refl),
-      queues-same w w′ (b .frame),
       b .is,
       b .variables,
+      queues-same (t .variables) w w′ (b .frame),
     )
 
 -- ---- a decision

@@ -1,15 +1,16 @@
 -- Laws of the whole search: from the encoding of a graph and its assumptions to the definition's answer. Assumes nothing.
 use mathlib.Core.Path.{_≡_, refl, ap, sym, _∙_}
 use mathlib.Core.Bool.{Bool, true, false}
-use mathlib.Core.List.{List}
+use mathlib.Core.List.{List, [], _∷_}
 use mathlib.Core.Option.{some}
 use Prim.Native.Nat.{ℕ, _+_, _*_, _<_, _≤_}
 use native.Mathlib.Omega.{arith}
 use native.Mathlib.Nat.{mul-le-mul}
-use lib.ListN.{length, take}
+use lib.ListN.{length, take, getD, getD-replicate}
 use lib.Seq.{getD-take, length-take-le}
 use lib.Ieee.{Float}
-use Rattle.words.specs.Layout.{MOST-NODES, MOST-LEARNED, BLOCKS}
+use Rattle.words.specs.Layout.{LENT, MOST-NODES, MOST-LEARNED, SEEN, BLOCKS}
+use Rattle.words.specs.Region.{region, cleared, length-cleared}
 use Rattle.model.specs.Aig.{Node}
 use Rattle.model.specs.Literal.{Literal, node}
 use Rattle.model.specs.Sat as Sat
@@ -18,21 +19,23 @@ use Rattle.laws.specs.Terms.{Reached, begun}
 use Rattle.laws.specs.Graph.Operations.{Formed}
 use Rattle.laws.specs.Search.Ending.{solve-not-out}
 use Rattle.laws.specs.Search.Reachable.{reached-idle}
-use Rattle.assignment.specs.State.{assignmentOf, assignmentRegions, enqueued, Unchanged}
+use Rattle.assignment.specs.State.{assignmentOf, assignmentRegions, enqueued, Unchanged, Cleared}
 use Rattle.assignment.specs.Scores.{scoresOf, Others, Starts}
 use Rattle.assignment.specs.StateLaws.{unchanged-both, unchanged-within}
 use Rattle.assignment.specs.declared.state.Activity.{Activity}
-use Rattle.assignment.specs.KnownLaws.{cached-grown}
+use Rattle.assignment.specs.DecideLaws.{clears}
+use Rattle.assignment.specs.KnownLaws.{cached-kept, cached-grown}
 use Rattle.assignment.specs.OrderLaws.{one-unsigned}
 use Rattle.assignment.specs.declared.state.Enqueued.{Enqueued}
 use Rattle.clauses.specs.Clauses.{clausesOf, watchesOf}
 use Rattle.clauses.specs.State.{solverOf, scored, flagged, encodedOf, Encodable, Encodes, Holds, encodeRegions}
+use Rattle.clauses.specs.KeptLaws.{sound-kept, solver-kept}
 use Rattle.clauses.specs.StepLaws.{assigned-clauses, assigned-queues}
 use Rattle.clauses.specs.declared.state.Encoded.{Encoded}
 use Rattle.watches.specs.State.{UnitStep}
 use Rattle.laws.specs.Search.Adding.{search-answered}
 use Rattle.assignment.specs.ScoreLaws.{others-both}
-use Rattle.sat.specs.State.{baseOf, stateOf, Fits, solveRegions}
+use Rattle.sat.specs.State.{baseOf, stateOf, Fits, Marks, solveRegions}
 use Rattle.sat.specs.SolveLaws.{searchAnswer, ranFrom, Searchable, Searches}
 use Rattle.sat.specs.declared.state.State.{State}
 use Rattle.sat.specs.declared.state.Answer.{Answer}
@@ -104,7 +107,14 @@ module _ (limit n : ℕ) (w : List ℕ) (x : List Float) (ls : List ℕ) (count 
           frame = frame₂;
         }
 
-    module _ (ok : u .ok ≡ true) (a : Activity) (A : Starts a) where
+    module _ (ok : u .ok ≡ true) (w₃ : List ℕ) (cleared-is : w₃ ≡ cleared SEEN w₂ n) (words : LENT ≤ length w₃) (a : Activity) (A : Starts a) where
+      -- the marks of the search before are cleared
+      C : Cleared SEEN n w₂ w₃
+      C = clears SEEN n w₂ w₃ (omega (arith, h .encodable .variables)) (omega (arith, U .sound .formed .ready .words)) cleared-is words
+
+      long : length w₃ ≡ length w₂
+      long = ap length cleared-is ∙ length-cleared SEEN w₂ n
+
       -- the state before the first round
       abbrev first : State
       first = record { store = r .encoding .store; trail = u .trail; activity = a; learned = 0 }
@@ -112,15 +122,20 @@ module _ (limit n : ℕ) (w : List ℕ) (x : List Float) (ls : List ℕ) (count 
       variables-are : u .trail .variables ≡ n
       variables-are = U .variables ∙ E .variables
 
-      first-is : stateOf first w₂ x₁ ≡ Sat.withAssignment Z (assignmentOf (u .trail) w₂)
+      units-are : stateOf first w₂ x₁ ≡ Sat.withAssignment Z (assignmentOf (u .trail) w₂)
       unfolding stateOf baseOf scoresOf solverOf encodedOf flagged scored Sat.new Sat.withAssignment watchesOf
-      first-is = rw (assigned-clauses (r .encoding .store .clauses) w₁ w₂ (U .frame), assigned-queues w₁ w₂ (U .frame), U .variables, A .increment, consistent)
+      units-are = rw (assigned-clauses (r .encoding .store .clauses) w₁ w₂ (U .frame), U .variables, assigned-queues (r .trail .variables) w₁ w₂ (U .frame), A .increment, consistent)
 
-      begins : Sat.start Z ≡ Sat.searching (stateOf first w₂ x₁)
+      -- the marks are no part of it
+      first-is : stateOf first w₃ x₁ ≡ Sat.withAssignment Z (assignmentOf (u .trail) w₂)
+      unfolding stateOf
+      first-is = solver-kept (SEEN ∷ []) refl (r .encoding .store) (u .trail) w₂ w₃ (C .frame) (baseOf first x₁) ∙ units-are
+
+      begins : Sat.start Z ≡ Sat.searching (stateOf first w₃ x₁)
       unfolding Sat.afterEnqueue enqueued
       begins = start-is ∙ ap (λ (b : Bool). Sat.afterEnqueue Z (enqueued b (assignmentOf (u .trail) w₂))) ok ∙ ap Sat.searching (sym first-is)
 
-      reached : Reached limit (h .graph) given (stateOf first w₂ x₁)
+      reached : Reached limit (h .graph) given (stateOf first w₃ x₁)
       reached = begun (ap Sat.start (sym (E .is (h .graph) (h .holds))) ∙ begins)
 
       -- the assumptions are literals of the graph
@@ -132,41 +147,50 @@ module _ (limit n : ℕ) (w : List ℕ) (x : List Float) (ls : List ℕ) (count 
           let m : i < count = omega (arith, length-take-le count ls (h .encodable .listed)) in
           rw (getD-take count ls i 0 m, h .holds .size) (omega (arith, h .encodable .range i m)))
 
-      first-fits : Fits limit first w₂ x₁
+      first-fits : Fits limit first w₃ x₁
       first-fits =
           record {
-            sound = U .sound;
+            sound = sound-kept (SEEN ∷ []) refl (r .encoding .store) (u .trail) w₂ w₃ (C .frame) [] long (U .sound);
             scores = omega (arith, variables-are, h .encodable .scores, E .others .long);
             fixed = A .fixed;
             limited = h .limited;
             total = omega arith;
             clauses = omega (arith, E .clauses, h .encodable .variables, h .few);
             literals = omega (arith, E .literals, h .encodable .variables, h .few);
-            cached = cached-grown (r .trail) w₁ (u .trail) w₂ a x₁ (U .variables) (U .frame .same BLOCKS refl) (U .grows) (E .cached a (rw (A .increment) one-unsigned));
+            cached =
+                cached-kept (SEEN ∷ []) (u .trail) a x₁ refl (C .frame)
+                (cached-grown (r .trail) w₁ (u .trail) w₂ a x₁ (U .variables) (U .frame .same BLOCKS refl) (U .grows) (E .cached a (rw (A .increment) one-unsigned)));
           }
 
-      same-run : (g : List Node) → Holds n w g → Sat.solve limit g given ≡ ranFrom limit ((limit + 2) * (n + 2)) first w₂ x₁
+      -- nothing is marked
+      first-marks : Marks (r .encoding .store .clauses) first w₃
+      first-marks = λ v k.
+          let m : v < n = omega (arith, variables-are) in
+          omega (arith, sym (getD-take n (region SEEN w₃) v 0 m) ∙ ap (λ (xs : List ℕ). getD xs v 0) (C .zeros) ∙ getD-replicate n v 0 0 m)
+
+      same-run : (g : List Node) → Holds n w g → Sat.solve limit g given ≡ ranFrom limit ((limit + 2) * (n + 2)) first w₃ x₁
       same-run g k = solve-is g k ∙ ap (Sat.searchRounds limit ((limit + 2) * (n + 2))) begins
 
       -- what `search` asks
-      pub search-asked : Searchable limit first w₂ x₁ ((limit + 2) * (n + 2))
+      pub search-asked : Searchable limit first w₃ x₁ ((limit + 2) * (n + 2))
       search-asked =
           record {
             going =
                 record {
                   fits = first-fits;
+                  marks = first-marks;
                   graph = h .graph;
                   assumptions = given;
                   size = h .holds .size ∙ sym variables-are;
-                  idle = reached-idle limit (h .graph) (h .formed) given inside (stateOf first w₂ x₁) reached .0;
+                  idle = reached-idle limit (h .graph) (h .formed) given inside (stateOf first w₃ x₁) reached .0;
                 };
             ends = λ k e. solve-not-out limit (h .graph) (h .formed) given inside k (same-run (h .graph) (h .holds) ∙ e);
           }
 
-      pub solved : (z : Answer) (w′ : List ℕ) (x′ : List Float) → Searches limit first w₂ x₁ ((limit + 2) * (n + 2)) z w′ x′ → Solves limit n w x ls count z w′ x′
+      pub solved : (z : Answer) (w′ : List ℕ) (x′ : List Float) → Searches limit first w₃ x₁ ((limit + 2) * (n + 2)) z w′ x′ → Solves limit n w x ls count z w′ x′
       solved z w′ x′ s =
           record {
             is = λ g k. ap (λ (m : ℕ). searchAnswer m z w′) (sym variables-are) ∙ s .is ∙ sym (same-run g k);
             others = others-both n (E .others) (rw variables-are at (s .others));
-            frame = unchanged-both solveRegions frame₂ (s .frame);
+            frame = unchanged-both solveRegions frame₂ (unchanged-both solveRegions (unchanged-within (SEEN ∷ []) solveRegions refl (C .frame)) (s .frame));
           }

@@ -14,6 +14,7 @@ use Rattle.assignment.specs.State.{modelOf, Unchanged}
 use Rattle.assignment.specs.Scores.{scoresOf, Fixed, Others}
 use Rattle.assignment.specs.Blocks.{Cached}
 use Rattle.clauses.specs.State.{solverOf, SoundStore, encodeRegions}
+use Rattle.analysis.specs.Analysis.{Unmarked}
 use Rattle.sat.specs.LearnLaws.{learnedClause, Learnable}
 use Rattle.sat.specs.declared.state.State.{State}
 use Rattle.sat.specs.declared.state.Step.{Step}
@@ -57,9 +58,14 @@ pub record Fits (limit : ℕ) (s : State) (w : List ℕ) (x : List Float) : Type
   pub literals : s .store .literals ≤ 8 * MOST-NODES + s .learned
   pub cached : Cached (s .trail) w (s .activity) x
 
+-- no mark of an analysis is above k: with as many clauses, the next conflict's stamp is above all
+abbrev pub Marks : ℕ → State → List ℕ → Type 0
+Marks k s w = Unmarked k (s .trail .variables) w
+
 -- between rounds: the invariant of the search of a graph and its assumptions
 pub record Going (limit : ℕ) (s : State) (w : List ℕ) (x : List Float) : Type 0 where
   pub fits : Fits limit s w x
+  pub marks : Marks (s .store .clauses) s w
   pub graph : Aig
   pub assumptions : List Literal
   pub size : length graph ≡ s .trail .variables
@@ -68,6 +74,7 @@ pub record Going (limit : ℕ) (s : State) (w : List ℕ) (x : List Float) : Typ
 -- at a conflict
 pub record Stopped (limit : ℕ) (s : State) (w : List ℕ) (x : List Float) (id : ℕ) : Type 0 where
   pub fits : Fits limit s w x
+  pub marks : Marks (s .store .clauses) s w
   pub original : List Sat.Clause
   pub stuck : Stuck (s .trail .variables) original (stateOf s w x)
   pub conflicting : Conflicting (stateOf s w x) id (stuck .place)
@@ -80,7 +87,7 @@ solveRegions = SEEN ∷ LEARNED ∷ encodeRegions
 
 -- a search that goes on is sound, with the same variables
 abbrev pub Next : ℕ → ℕ → Step → List ℕ → List Float → Type 0
-Next limit n (Steps.Searching s) w x = Fits limit s w x × (s .trail .variables ≡ n)
+Next limit n (Steps.Searching s) w x = Fits limit s w x × (s .trail .variables ≡ n) × Marks (s .store .clauses) s w
 Next limit n (Steps.Model k) w x = Unit {0}
 Next limit n (Steps.NoModel k) w x = Unit {0}
 Next limit n (Steps.GaveUp k) w x = Unit {0}
@@ -92,9 +99,10 @@ pub record Results (limit n : ℕ) (w : List ℕ) (x : List Float) (goal : Sat.S
   pub others : Others n x x′
   pub frame : Unchanged solveRegions w w′
 
--- what `assert_learned` asks: the clause can be learned, within the limit
+-- what `assert_learned` asks: the clause can be learned, within the limit; the analysis has marked with the number that the clauses will have
 pub record Assertable (limit : ℕ) (s : State) (w : List ℕ) (x : List Float) (asserting count : ℕ) : Type 0 where
   pub fits : Fits limit s w x
+  pub marks : Marks (s .store .clauses + 1) s w
   pub able : Learnable (s .store) (s .trail) w x asserting count
   pub range : asserting < s .trail .variables * 2
   pub within : s .learned + (count + 1) ≤ limit

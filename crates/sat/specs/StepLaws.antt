@@ -5,7 +5,7 @@ use Prim.Native.Nat.{ℕ, _<_, _≤_}
 use native.Mathlib.Omega.{arith}
 use lib.ListN.{length, take}
 use lib.Ieee.{Float}
-use Rattle.words.specs.Layout.{SMALL, BLOCKS}
+use Rattle.words.specs.Layout.{SMALL, SEEN, BLOCKS}
 use Rattle.model.specs.Sat as Sat
 use Rattle.laws.specs.Search.State.{Done, RoundOk}
 use Rattle.laws.specs.Search.Propagation.{propagate-keeps}
@@ -18,12 +18,13 @@ use Rattle.assignment.specs.declared.state.Trail.{Trail}
 use Rattle.assignment.specs.Blocks.{Unsigned, KnownIn}
 use Rattle.assignment.specs.KnownLaws.{cached-grown}
 use Rattle.clauses.specs.State.{solverOf, scored, SoundStore, searchRegions}
+use Rattle.analysis.specs.SeeLaws.{unmarked-kept}
 use Rattle.watches.specs.declared.state.Propagation.{Propagation}
 use Rattle.watches.specs.declared.state.Propagation.the-variants as Propagations
 use Rattle.watches.specs.State.{trailOf, propagationOf, Propagates}
 use Rattle.assignment.specs.ScoreLaws.{others-none}
 use Rattle.sat.specs.DecideLaws.{Decides}
-use Rattle.sat.specs.State.{baseOf, stateOf, Fits, Going, Stopped, solveRegions, Results}
+use Rattle.sat.specs.State.{baseOf, stateOf, Fits, Marks, Going, Stopped, solveRegions, Results}
 use Rattle.sat.specs.ConflictLaws.{results-after}
 use Rattle.sat.specs.declared.state.Decided.the-variants as Outcomes
 use Rattle.sat.specs.declared.state.State.{State}
@@ -91,6 +92,10 @@ module _ (limit : ℕ) (s : State) (w : List ℕ) (x : List Float) (g : Going li
               cached-grown (s .trail) w t w₁ (s .activity) x same-variables (q .frame .same BLOCKS refl) (q .grows) (f .cached);
         }
 
+    -- a propagation writes no mark
+    moved-marks : Marks (s .store .clauses) (moved s t) w₁
+    moved-marks = λ v h. unmarked-kept (s .store .clauses) (s .trail .variables) w w₁ (P .frame .same SEEN refl) (g .marks) v (omega (arith, same-variables))
+
   -- ---- a conflict
 
   module _ (id : ℕ) (t : Trail) (e : p ≡ Propagations.Conflict id t) where
@@ -103,7 +108,7 @@ module _ (limit : ℕ) (s : State) (w : List ℕ) (x : List Float) (g : Going li
         (subst (λ (u : Sat.Solver). RoundOk (length (g .graph)) C (Sat.conflict id u)) (sym (moved-is s t w₁ x (same-variables t trail-conflict))) (rw e at round-ok))
 
     pub conflict-asked : Stopped limit (moved s t) w₁ x id
-    conflict-asked = record { fits = moved-fits t trail-conflict; original = C; stuck = at-conflict .0; conflicting = at-conflict .1 }
+    conflict-asked = record { fits = moved-fits t trail-conflict; marks = moved-marks t trail-conflict; original = C; stuck = at-conflict .0; conflicting = at-conflict .1 }
 
     conflict-goal : Sat.afterConflict limit (stateOf (moved s t) w₁ x) id (Sat.decisionLevel (stateOf (moved s t) w₁ x .assignment)) ≡ Sat.step limit S
     unfolding Sat.afterPropagation
@@ -198,6 +203,7 @@ module _ (limit : ℕ) (s : State) (w : List ℕ) (x : List Float) (g : Going li
               cached = d .cached (s .activity) (fits .cached);
             },
             same,
+            λ v h. unmarked-kept (s .store .clauses) (t .variables) w₁ w₂ (d .frame .same SEEN refl) (moved-marks t trail-complete) v (omega (arith, d .variables)),
           );
           others = others-none (s .trail .variables) x;
           frame = unchanged-both solveRegions frame₁ (unchanged-within (BLOCKS ∷ assignmentRegions) solveRegions refl (d .frame));

@@ -12,7 +12,7 @@ use Rattle.assignment.specs.Scores.{scoresOf}
 use Rattle.assignment.specs.declared.state.Trail.{Trail}
 use Rattle.assignment.specs.declared.state.Activity.{Activity}
 use Rattle.clauses.specs.Tabulate.{getD-tabulate, getD-past}
-use Rattle.clauses.specs.Clauses.{clauseAt, clausesOf}
+use Rattle.clauses.specs.Clauses.{clauseAt, literalsOf, clausesOf}
 use Rattle.clauses.specs.State.{solverOf}
 use Rattle.clauses.specs.declared.state.Store.{Store}
 use Rattle.analysis.specs.Analysis.{literalsAt, viewOf}
@@ -20,7 +20,7 @@ use Rattle.analysis.specs.AnalyzeLaws.{view-alike, analyze-same}
 
 -- the literals of a clause are those that the words hold
 clause-literals : (count : ℕ) (w : List ℕ) (id : ℕ) → getD (clausesOf count w) id Sat.emptyClause .literals ≡ literalsAt count w id
-unfolding clausesOf clauseAt literalsAt Sat.emptyClause
+unfolding clausesOf clauseAt literalsOf literalsAt Sat.emptyClause
 clause-literals count w id =
     ⊎-elim (λ (h : id < count). rw (lt-ltb id count h) (ap (λ (c : Sat.Clause). c .literals) (getD-tabulate count (clauseAt w) id Sat.emptyClause h)))
     (λ (h : count ≤ id). rw (le-ltb id count h) (ap (λ (c : Sat.Clause). c .literals) (getD-past count (clauseAt w) id Sat.emptyClause h)))

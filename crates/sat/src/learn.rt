@@ -6,6 +6,7 @@ ghost use Prim.Native.Nat.{_+_, _*_, _<_, _≤_};
 ghost use lib.ListN.{length};
 ghost use Rattle.words.specs.Layout.{SMALL, STARTS, POOL, LEARNED};
 ghost use Rattle.words.specs.Region.{region};
+ghost use Rattle.laws.specs.Search.State.{Apart};
 ghost use Rattle.clauses.specs.State.{SoundStore, AllBelow, AddedList, clean};
 ghost use Rattle.analysis.specs.SortLaws.{part};
 ghost use Rattle.sat.specs.LearnLaws.{Pushes, Learnable, Learns};
@@ -19,8 +20,7 @@ use clauses::encode::push_literal;
 use clauses::state::Store;
 use literals::Literal;
 use words::LEARNED;
-use words::SMALL;
-use words::fetch;
+use words::load;
 
 // `count` learned literals, from `start` on, put into the pool after those of the clauses.
 fn push_learned(words: &mut [u32], store: Store, t: Trail, start: usize, count: usize)
@@ -29,7 +29,7 @@ fn push_learned(words: &mut [u32], store: Store, t: Trail, start: usize, count: 
 {
     let mut i: usize = 0;
     while i < count {
-        let literal = Literal(fetch(words, LEARNED, SMALL, start + i));
+        let literal = Literal(load(words, LEARNED, start + i));
         push_literal(words, store, t, i, literal);
         i += 1;
     }
@@ -45,7 +45,7 @@ pub fn add_learned(
     count: usize,
 ) -> Store
     requires { ⌜ SoundStore store t (now words) [] × (store .literals + count ≤ POOL) × (start + count ≤ SMALL) × (store .clauses + 1 < STARTS) × (0 < count) × (t .variables ≤ length (now scores))
-        × AllBelow (t .variables * 2) (part count start (region LEARNED (now words))) × (clean (part count start (region LEARNED (now words))) ≡ true) ⌝ }
+        × AllBelow (t .variables * 2) (part count start (region LEARNED (now words))) × Apart (part count start (region LEARNED (now words))) × (clean (part count start (region LEARNED (now words))) ≡ true) ⌝ }
     ensures { λ r. ⌜ AddedList store t (now (words .entry)) (now (scores .entry)) (part count start (region LEARNED (now (words .entry)))) r (now (words .exit)) (now (scores .exit)) ⌝ }
 {
     push_learned(words, store, t, start, count);

@@ -8,6 +8,9 @@ use crate::state::Step;
 use assignment::scores::start;
 use clauses::start::encode;
 use watches::units::initialize_units;
+use words::SEEN;
+use words::SMALL;
+use words::clear;
 
 // Rounds until an answer; there are fewer than `rounds`.
 fn search(
@@ -64,6 +67,7 @@ pub fn solve(
     if !units.ok {
         return Answer::NoModel(0);
     }
+    clear(words, SEEN, SMALL, variables);
     let trail = units.trail;
     let activity = start();
     let first = State {

@@ -10,7 +10,7 @@ use lib.ListN.{set, getD, length, getElem?}
 use lib.Seq.{set-set, set-out, set-getD, getD-set-same, getD-take}
 use Rattle.facts.specs.Numbers.{below}
 use Rattle.facts.specs.Lists.{getElem-in, getElem-out}
-use Rattle.words.specs.Layout.{DOUBLE, TRAIL, WATCH-HEADS, WATCH-COUNTS, CLAUSE-STARTS, WATCHED, LINKS, LITERALS}
+use Rattle.words.specs.Layout.{TRAIL, WATCH-HEADS, WATCH-COUNTS, CLAUSE-STARTS, WATCHED, LINKS, LITERALS}
 use Rattle.words.specs.Region.{region, stored, stored-out, length-stored}
 use Rattle.model.specs.Literal as Literals
 use Rattle.model.specs.Lists.{snoc, member}
@@ -67,15 +67,16 @@ step-none m t w p s = record { frame = unchanged-none searchRegions w; sound = s
 -- while they are restored: what is left of them is to be appended
 pub record Restoring (m : Store) (t : Trail) (f : ℕ) (w₀ : List ℕ) (d₀ : Pending) (w : List ℕ) (d : Pending) : Type 0 where
   pub step : Step m t w₀ t w (pendingOf d w)
+  pub literal : 0 < d .left → f < t .variables * 2
   pub left : (s : Solver) → appended f (map half (pendingOf d w)) (solverOf s m t w) ≡ appended f (map half (pendingOf d₀ w₀)) (solverOf s m t w₀)
 
 module _ (m : Store) (t : Trail) (f : ℕ) (w₀ : List ℕ) (d₀ : Pending) where
-  pub restore-start : SoundStore m t w₀ (pendingOf d₀ w₀) → Restoring m t f w₀ d₀ w₀ d₀
-  restore-start s = record { step = step-none m t w₀ (pendingOf d₀ w₀) s; left = λ s. refl }
+  pub restore-start : SoundStore m t w₀ (pendingOf d₀ w₀) → (0 < d₀ .left → f < t .variables * 2) → Restoring m t f w₀ d₀ w₀ d₀
+  restore-start s b = record { step = step-none m t w₀ (pendingOf d₀ w₀) s; literal = b; left = λ s. refl }
 
   module _ (w : List ℕ) (d : Pending) (i : Restoring m t f w₀ d₀ w d) where
-    pub restore-visiting : 0 < d .left → Visiting m t w d
-    restore-visiting h = record { sound = i .step .sound; some = h }
+    pub restore-visiting : 0 < d .left → Visiting m t w d × (f < t .variables * 2)
+    restore-visiting h = (record { sound = i .step .sound; some = h }, i .literal h)
 
     pub restore-more : 0 < d .left → (w′ : List ℕ) → Visits m t w d t w′ → ((s : Solver) → solverOf s m t w′ ≡ Sat.keepWatch f (half (d .cell)) (solverOf s m t w))
         → (r : Pending) → r .cell ≡ getD (region LINKS w) (d .cell) 0 → r .left ≡ d .left - 1 → Restoring m t f w₀ d₀ w′ r
@@ -83,6 +84,7 @@ module _ (m : Store) (t : Trail) (f : ℕ) (w₀ : List ℕ) (d₀ : Pending) wh
         let e : pendingOf r w′ ≡ restOf d w w = next-pending d r w w′ a b ∙ v .same in
         record {
           step = rw e (step-both m t w₀ t w t w′ _ _ (i .step) (v .step));
+          literal = λ z. i .literal h;
           left = λ s. rw (e, k s) (appended-cons f (half (d .cell)) (map half (restOf d w w)) (solverOf s m t w) ∙ rw (pending-cons d w h) at (i .left s));
         }
 
@@ -103,18 +105,19 @@ unfolding Sat.visitPending
 pending-complete f [] s = refl
 pending-complete f (id ∷ ids) s = refl
 
-drop-all : (m : Store) (w : List ℕ) (p : List ℕ) → SoundQueues (queuesOf w) (m .clauses * 2) p → SoundQueues (queuesOf w) (m .clauses * 2) []
-drop-all m w [] s = s
-drop-all m w (x ∷ p) s = drop-all m w p (drop-sound (queuesOf w) (m .clauses * 2) x p s)
+drop-all : (m : Store) (n : ℕ) (w : List ℕ) (p : List ℕ) → SoundQueues (queuesOf n w) (m .clauses * 2) p → SoundQueues (queuesOf n w) (m .clauses * 2) []
+drop-all m n w [] s = s
+drop-all m n w (x ∷ p) s = drop-all m n w p (drop-sound (queuesOf n w) (m .clauses * 2) x p s)
 
 -- while they are visited: what is left of them is to be visited
 pub record Pends (m : Store) (f : ℕ) (t₀ : Trail) (w₀ : List ℕ) (d₀ : Pending) (t : Trail) (w : List ℕ) (d : Pending) : Type 0 where
   pub step : Step m t₀ w₀ t w (pendingOf d w)
+  pub literal : 0 < d .left → f < t₀ .variables * 2
   pub left : (s : Solver) → Sat.visitPending f (map half (pendingOf d w)) (Sat.propagating (solverOf s m t w)) ≡ Sat.visitPending f (map half (pendingOf d₀ w₀)) (Sat.propagating (solverOf s m t₀ w₀))
 
 module _ (m : Store) (f : ℕ) (t₀ : Trail) (w₀ : List ℕ) (d₀ : Pending) where
-  pub pends-start : SoundStore m t₀ w₀ (pendingOf d₀ w₀) → Pends m f t₀ w₀ d₀ t₀ w₀ d₀
-  pends-start s = record { step = step-none m t₀ w₀ (pendingOf d₀ w₀) s; left = λ s. refl }
+  pub pends-start : SoundStore m t₀ w₀ (pendingOf d₀ w₀) → (0 < d₀ .left → f < t₀ .variables * 2) → Pends m f t₀ w₀ d₀ t₀ w₀ d₀
+  pends-start s b = record { step = step-none m t₀ w₀ (pendingOf d₀ w₀) s; literal = b; left = λ s. refl }
 
   module _ (t : Trail) (w : List ℕ) (d : Pending) (i : Pends m f t₀ w₀ d₀ t w d) where
     pub pends-visiting : 0 < d .left → Visiting m t w d
@@ -138,19 +141,19 @@ module _ (m : Store) (f : ℕ) (t₀ : Trail) (w₀ : List ℕ) (d₀ : Pending)
       visited s = rw (k s) (rw (pending-cons d w h) at (i .left s))
 
       pub pends-more : (u : Trail) → q ≡ Propagations.Propagating u → Pends m f t₀ w₀ d₀ u w′ r
-      pends-more u e = record { step = rw rest-is (rw e at steps); left = λ s. rw rest-is (rw e at (visited s)) }
+      pends-more u e = record { step = rw rest-is (rw e at steps); literal = λ z. i .literal h; left = λ s. rw rest-is (rw e at (visited s)) }
 
       pub pends-complete : (u : Trail) → q ≡ Propagations.Complete u
           → Step m t₀ w₀ u w′ [] × ((s : Solver) → Sat.complete (solverOf s m u w′) ≡ Sat.visitPending f (map half (pendingOf d₀ w₀)) (Sat.propagating (solverOf s m t₀ w₀)))
       pends-complete u e =
           let z : Step m t₀ w₀ u w′ (restOf d w w) = rw e at steps in (
-            record { frame = z .frame; sound = record { formed = z .sound .formed; queues = drop-all m w′ (restOf d w w) (z .sound .queues) }; variables = z .variables; level = z .level; head = z .head; grows = z .grows },
+            record { frame = z .frame; sound = record { formed = z .sound .formed; queues = drop-all m (u .variables) w′ (restOf d w w) (z .sound .queues) }; variables = z .variables; level = z .level; head = z .head; grows = z .grows },
             λ s. sym (pending-complete f (map half (restOf d w w)) (solverOf s m u w′)) ∙ rw e at (visited s),
           )
 
       module _ (id : ℕ) (u : Trail) (e : q ≡ Propagations.Conflict id u) where
-        pub conflict-sound : SoundStore m u w′ (pendingOf r w′)
-        conflict-sound = rw rest-is (rw e at steps .sound)
+        pub conflict-sound : SoundStore m u w′ (pendingOf r w′) × (0 < r .left → f < u .variables * 2)
+        conflict-sound = let z : Step m t₀ w₀ u w′ (restOf d w w) = rw e at steps in (rw rest-is (z .sound), λ y. omega (arith, i .literal h, z .variables))
 
         pub pends-conflict : (w″ : List ℕ) → Step m u w′ u w″ [] → ((s : Solver) → solverOf s m u w″ ≡ appended f (map half (pendingOf r w′)) (solverOf s m u w′))
             → Step m t₀ w₀ u w″ [] × ((s : Solver) → Sat.conflict id (solverOf s m u w″) ≡ Sat.visitPending f (map half (pendingOf d₀ w₀)) (Sat.propagating (solverOf s m t₀ w₀)))
@@ -167,6 +170,7 @@ module _ (m : Store) (t : Trail) (w : List ℕ) (f : ℕ) (s : SoundStore m t w 
   unfolding pendingOf walk
   take-none h = record {
     step = step-none m t w [] s;
+    literal = λ k. absurd (omega arith);
     cells = sym (no-watch-list (t .variables) w f h);
     watches = sym (set-out (watchesOf (t .variables) w) f [] (omega (arith, length-watches (t .variables) w)));
     clauses = refl;
@@ -174,32 +178,30 @@ module _ (m : Store) (t : Trail) (w : List ℕ) (f : ℕ) (s : SoundStore m t w 
   }
 
   module _ (h : f < t .variables * 2) (u : List ℕ) (e : u ≡ stored WATCH-COUNTS w f 0) where
-    near : f < DOUBLE
-    near = omega (arith, s .formed .ready .variables)
-
     taken-unchanged : Unchanged watchRegions w u
     unfolding member
     taken-unchanged = unchanged-stored watchRegions WATCH-COUNTS f 0 refl (unchanged-none watchRegions w) e
 
     taken-formed : Formed m t u
-    taken-formed = formed-kept m t w u (s .formed) (rw e (stored-out CLAUSE-STARTS w WATCH-COUNTS f 0 refl)) (rw e (stored-out LITERALS w WATCH-COUNTS f 0 refl)) (same-assignment t w u taken-unchanged) (rw e (length-stored WATCH-COUNTS w f 0))
+    taken-formed = formed-kept m t w u (s .formed) (rw e (stored-out CLAUSE-STARTS w WATCH-COUNTS f 0 refl)) (rw e (stored-out WATCHED w WATCH-COUNTS f 0 refl)) (rw e (stored-out LITERALS w WATCH-COUNTS f 0 refl)) (same-assignment t w u taken-unchanged) (rw e (length-stored WATCH-COUNTS w f 0))
 
-    taken-pending : (d : Pending) → d .cell ≡ getD (region WATCH-HEADS w) f 0 → d .left ≡ getD (region WATCH-COUNTS w) f 0 → pendingOf d u ≡ queue (queuesOf w) f
+    taken-pending : (d : Pending) → d .cell ≡ getD (region WATCH-HEADS w) f 0 → d .left ≡ getD (region WATCH-COUNTS w) f 0 → pendingOf d u ≡ queue (queuesOf (t .variables) w) f
     unfolding pendingOf queue queuesOf
-    taken-pending d a b = rw (e, stored-out LINKS w WATCH-COUNTS f 0 refl, a, b)
+    taken-pending d a b = rw (e, stored-out LINKS w WATCH-COUNTS f 0 refl, a, b, getD-take (t .variables * 2) (region WATCH-COUNTS w) f 0 h)
 
     pub take-some : (d : Pending) → d .cell ≡ getD (region WATCH-HEADS w) f 0 → d .left ≡ getD (region WATCH-COUNTS w) f 0 → Taken m t w f d u
     take-some d a b = record {
       step = record {
         frame = watches-only w u taken-unchanged;
-        sound = record { formed = taken-formed; queues = rw (taken-pending d a b, e) (taken-sound w (s .formed .ready .words) (m .clauses * 2) (omega (arith, s .formed .clauses)) f (s .queues) near) };
+        sound = record { formed = taken-formed; queues = rw (taken-pending d a b, e) (taken-sound (t .variables) w (s .formed .ready .words) (s .formed .ready .variables) (m .clauses * 2) (omega (arith, s .formed .clauses)) f (s .queues) h) };
         variables = refl;
         level = refl;
         head = refl;
         grows = λ y f. rw (same-assignment t w u taken-unchanged) at f;
       };
+      literal = λ k. h;
       cells = rw (taken-pending d a b) (sym (watch-list (t .variables) w f h));
-      watches = rw e (taken-watches w (s .formed .ready .words) (m .clauses * 2) (omega (arith, s .formed .clauses)) f (s .queues) near (t .variables));
+      watches = rw e (taken-watches (t .variables) w (s .formed .ready .words) (s .formed .ready .variables) (m .clauses * 2) (omega (arith, s .formed .clauses)) f (s .queues) h);
       clauses = rw e (same-clauses (m .clauses) (stored WATCH-COUNTS w f 0) w (stored-out CLAUSE-STARTS w WATCH-COUNTS f 0 refl) (stored-out WATCHED w WATCH-COUNTS f 0 refl) (stored-out LITERALS w WATCH-COUNTS f 0 refl));
       assignment = same-assignment t w u taken-unchanged;
     }
@@ -226,6 +228,7 @@ advanced-sound m t w p s = record {
     last = s .formed .last;
     within = s .formed .within;
     range = s .formed .range;
+    watching = s .formed .watching;
     room = s .formed .room;
   };
   queues = s .queues;

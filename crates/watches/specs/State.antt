@@ -1,7 +1,9 @@
 -- What a propagation and its pending cells stand for, and what the functions over them promise. Definitions only.
 use mathlib.Core.Path.{_≡_}
 use mathlib.Core.List.{List, [], _++_, map}
-use Prim.Native.Nat.{ℕ, _+_, _-_, _<_}
+use mathlib.Core.Bool.{cond}
+use Prim.Native.Nat.{ℕ, zero, suc, _+_, _-_, _*_, _<_}
+use lib.Dec.{eqb}
 use lib.ListN.{getD, set}
 use Rattle.words.specs.Layout.{LINKS}
 use Rattle.words.specs.Region.{region}
@@ -39,6 +41,15 @@ pendingOf d w = walk (region LINKS w) (d .left) (d .cell)
 
 -- ---- visits of pending cells
 
+-- the slot of f among two watched literals
+unfoldable pub slotBy : ℕ → ℕ → ℕ → Sat.Slot
+slotBy a b f = cond (eqb a f) Sat.slot0 (cond (eqb b f) Sat.slot1 Sat.neither)
+
+-- of two watched literals the one that is not in slot k
+unfoldable pub otherBy : ℕ → ℕ → ℕ → ℕ
+otherBy zero a b = b
+otherBy (suc k) a b = a
+
 -- the pending cells after the first, whose link is read in the words w
 unfoldable pub restOf : Pending → List ℕ → List ℕ → List ℕ
 restOf d w w′ = walk (region LINKS w′) (d .left - 1) (getD (region LINKS w) (d .cell) 0)
@@ -59,9 +70,10 @@ pub record Visits (m : Store) (t : Trail) (w : List ℕ) (d : Pending) (r : Trai
 unfoldable pub appended : ℕ → List ℕ → Solver → Solver
 appended f ids s = Sat.withWatches s (set (s .watches) f (getD (s .watches) f [] ++ ids))
 
--- a queue taken: its cells are pending, and nothing else is changed
+-- a queue taken: its cells are pending, none where f is no literal of the variables, and nothing else is changed
 pub record Taken (m : Store) (t : Trail) (w : List ℕ) (f : ℕ) (d : Pending) (w′ : List ℕ) : Type 0 where
   pub step : Step m t w t w′ (pendingOf d w′)
+  pub literal : 0 < d .left → f < t .variables * 2
   pub cells : map half (pendingOf d w′) ≡ getD (watchesOf (t .variables) w) f []
   pub watches : watchesOf (t .variables) w′ ≡ set (watchesOf (t .variables) w) f []
   pub clauses : clausesOf (m .clauses) w′ ≡ clausesOf (m .clauses) w

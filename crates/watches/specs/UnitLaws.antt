@@ -8,7 +8,7 @@ use native.Mathlib.Omega.{arith}
 use native.Mathlib.Numerals.{add-one}
 use lib.ListN.{getD, length, drop, drop-of-length-le}
 use lib.Seq.{drop-cons}
-use Rattle.words.specs.Layout.{SMALL, CLAUSE-STARTS, WATCHED, LITERALS}
+use Rattle.words.specs.Layout.{SMALL, POOL, CLAUSE-STARTS, LITERALS}
 use Rattle.words.specs.Region.{region}
 use Rattle.model.specs.Sat as Sat
 use Rattle.model.specs.Sat.{Assignment}
@@ -20,10 +20,10 @@ use Rattle.assignment.specs.declared.state.Value.{Value}
 use Rattle.assignment.specs.declared.state.Value.the-variants as Values
 use Rattle.clauses.specs.declared.state.Store.{Store}
 use Rattle.clauses.specs.declared.state.Clause.{Clause}
-use Rattle.clauses.specs.Clauses.{clauseAt, clausesOf, clause-is, length-clauses}
-use Rattle.clauses.specs.State.{clauseOf, SoundStore}
+use Rattle.clauses.specs.Clauses.{clauseAt, literalsOf, clausesOf, clause-is, same-literals, length-clauses}
+use Rattle.clauses.specs.State.{spanOf, SoundStore}
 use Rattle.clauses.specs.StepLaws.{has-room, assign-step, literal-range}
-use Rattle.clauses.specs.ClauseLaws.{length-literals}
+use Rattle.clauses.specs.ClauseLaws.{length-span, span-in}
 use Rattle.watches.specs.State.{UnitStep}
 
 -- ---- a literal
@@ -64,31 +64,36 @@ unit-not t id [] n = refl
 unit-not t id (x ∷ []) n = absurd (n refl)
 unit-not t id (x ∷ y ∷ ys) n = refl
 
-module _ (m : Store) (t : Trail) (w : List ℕ) (id : ℕ) (s : SoundStore m t w []) (h : id < m .clauses) (c : Clause) (e : clauseOf c w ≡ clauseAt w id) (g : c .end ≡ getD (region CLAUSE-STARTS w) (id + 1) 0) where
-  size : length (clauseAt w id .literals) ≡ c .end - c .start
-  size = rw e at (length-literals c w (s .formed .ready .words) (omega (arith, s .formed .within (id + 1) (omega arith), s .formed .literals)))
+module _ (m : Store) (t : Trail) (w : List ℕ) (id : ℕ) (s : SoundStore m t w []) (h : id < m .clauses) (c : Clause) (e : spanOf c w ≡ literalsOf w id) (g : c .end ≡ getD (region CLAUSE-STARTS w) (id + 1) 0) where
+  pub unit-inside : c .end ≤ POOL
+  unit-inside = omega (arith, s .formed .within (id + 1) (omega arith), s .formed .literals)
 
-  module _ (l : ℕ) (k : l ≡ getD (clauseOf c w .literals) 0 0) where
-    first-is : l ≡ getD (clauseAt w id .literals) 0 0
-    first-is = rw e at k
+  size : length (literalsOf w id) ≡ c .end - c .start
+  size = rw e at (length-span c w (s .formed .ready .words) unit-inside)
+
+  module _ (z : c .start + 1 ≡ c .end) (l : ℕ) (k : l ≡ getD (region LITERALS w) (c .start) 0) where
+    first-is : l ≡ getD (literalsOf w id) 0 0
+    first-is =
+        let n : c .start - c .start ≡ 0 = omega arith in
+        rw (e, n) at (k ∙ sym (span-in c w (c .start) (omega arith) (omega arith)))
 
     pub unit-range : l < t .variables * 2
     unit-range = rw first-is (literal-range m t w (s .formed) id h 0)
 
     -- one literal
-    pub unit-clause : c .start + 1 ≡ c .end → (r : Enqueued) (w′ : List ℕ) (reason : ℕ) → reason ≡ id + 1
+    pub unit-clause : (r : Enqueued) (w′ : List ℕ) (reason : ℕ) → reason ≡ id + 1
         → UnitStep m t w r w′ × (enqueued (r .ok) (assignmentOf (r .trail) w′) ≡ Sat.enqueue (assignmentOf t w) l (wordReason reason))
-        → UnitStep m t w r w′ × (enqueued (r .ok) (assignmentOf (r .trail) w′) ≡ Sat.initializeUnit (assignmentOf t w) id (clauseAt w id .literals))
+        → UnitStep m t w r w′ × (enqueued (r .ok) (assignmentOf (r .trail) w′) ≡ Sat.initializeUnit (assignmentOf t w) id (literalsOf w id))
     unfolding wordReason
-    unit-clause z r w′ reason q a =
-        (a .0, rw (unit-is (assignmentOf t w) id (clauseAt w id .literals) (omega (arith, size)), ← first-is) (rw (q, add-one) at (a .1)))
+    unit-clause r w′ reason q a =
+        (a .0, rw (unit-is (assignmentOf t w) id (literalsOf w id) (omega (arith, size)), ← first-is) (rw (q, add-one) at (a .1)))
 
   -- not one
-  pub unit-skipped : (c .start + 1 ≡ c .end → ⊥) → UnitStep m t w (record { ok = true; trail = t }) w × (enqueued true (assignmentOf t w) ≡ Sat.initializeUnit (assignmentOf t w) id (clauseAt w id .literals))
+  pub unit-skipped : (c .start + 1 ≡ c .end → ⊥) → UnitStep m t w (record { ok = true; trail = t }) w × (enqueued true (assignmentOf t w) ≡ Sat.initializeUnit (assignmentOf t w) id (literalsOf w id))
   unfolding enqueued
   unit-skipped n = (
     record { frame = unchanged-none assignmentRegions w; sound = s; variables = refl; level = refl; head = refl; grows = λ y f. f },
-    sym (unit-not (assignmentOf t w) id (clauseAt w id .literals) (λ z. n (omega (arith, size)))),
+    sym (unit-not (assignmentOf t w) id (literalsOf w id) (λ z. n (omega (arith, size)))),
   )
 
 -- ---- all clauses
@@ -123,10 +128,10 @@ module _ (m : Store) (t₀ : Trail) (w₀ : List ℕ) where
     units-done h = (u .step, sym (units-end id (clausesOf (m .clauses) w₀) (some (assignmentOf t w)) (omega (arith, length-clauses (m .clauses) w₀))) ∙ u .left)
 
     module _ (h : id < m .clauses) (r : Enqueued) (w′ : List ℕ) (a : UnitStep m t w r w′)
-        (k : enqueued (r .ok) (assignmentOf (r .trail) w′) ≡ Sat.initializeUnit (assignmentOf t w) id (clauseAt w id .literals)) where
-      same-clause : getD (clausesOf (m .clauses) w₀) id Sat.emptyClause ≡ clauseAt w id
+        (k : enqueued (r .ok) (assignmentOf (r .trail) w′) ≡ Sat.initializeUnit (assignmentOf t w) id (literalsOf w id)) where
+      same-clause : getD (clausesOf (m .clauses) w₀) id Sat.emptyClause .literals ≡ literalsOf w id
       unfolding clauseAt
-      same-clause = clause-is (m .clauses) w₀ id Sat.emptyClause h ∙ rw (u .step .frame .same CLAUSE-STARTS refl, u .step .frame .same WATCHED refl, u .step .frame .same LITERALS refl)
+      same-clause = ap (λ (c : Sat.Clause). c .literals) (clause-is (m .clauses) w₀ id Sat.emptyClause h) ∙ sym (same-literals w w₀ (u .step .frame .same CLAUSE-STARTS refl) (u .step .frame .same LITERALS refl) id)
 
       left : Sat.initializeUnits (id + 1) (drop (id + 1) (clausesOf (m .clauses) w₀)) (enqueued (r .ok) (assignmentOf (r .trail) w′)) ≡ Sat.initializeUnits 0 (clausesOf (m .clauses) w₀) (some (assignmentOf t₀ w₀))
       left = rw (k, ← same-clause) (sym (units-more id (clausesOf (m .clauses) w₀) (assignmentOf t w) (omega (arith, length-clauses (m .clauses) w₀))) ∙ u .left)

@@ -1,15 +1,16 @@
 -- What each outcome of a visit makes of the solver that the words stand for. Assumes nothing.
 use mathlib.Core.Path.{_≡_, refl, ap, sym, _∙_}
-use mathlib.Core.Bool.{true, false}
+use mathlib.Core.Bool.{Bool, true, false}
 use mathlib.Core.List.{List, _∷_}
 use mathlib.Core.Logic.{inl}
 use mathlib.Core.Option.{none, some}
 use Prim.Native.Nat.{ℕ, zero, suc, _+_, _-_, _*_, _<_, _≤_}
 use native.Mathlib.Omega.{arith}
 use native.Mathlib.Numerals.{add-one}
-use borrow.Author.Tests.{eq-eqb, ne-eqb}
+use lib.Dec.{eqb}
+use borrow.Author.Tests.{eqb-true}
 use lib.ListN.{getD, length}
-use Rattle.words.specs.Layout.{SMALL, CELLS, POOL, WATCH-COUNTS, CLAUSE-STARTS, WATCHED, LINKS}
+use Rattle.words.specs.Layout.{SMALL, CELLS, WATCH-TAILS, WATCH-COUNTS, CLAUSE-STARTS, WATCHED, LINKS}
 use Rattle.words.specs.Region.{region, stored, stored-out}
 use Rattle.model.specs.Sat as Sat
 use Rattle.model.specs.Sat.{Solver}
@@ -22,12 +23,13 @@ use Rattle.clauses.specs.declared.state.Store.{Store}
 use Rattle.clauses.specs.declared.state.Clause.{Clause}
 use Rattle.watches.specs.declared.state.Pending.{Pending}
 use Rattle.watches.specs.declared.state.Propagation.{Propagation}
-use Rattle.clauses.specs.Queue.{queuesOf, pushedWords, walk}
+use Rattle.clauses.specs.Queue.{HasRoom, queuesOf, pushedWords, walk}
 use Rattle.clauses.specs.Sound.{lists, drop-sound}
-use Rattle.clauses.specs.Clauses.{clauseAt, half, count-fits, clause-is}
-use Rattle.clauses.specs.State.{solverOf, clauseOf, Formed, SoundStore, slotOf, searchRegions}
+use Rattle.clauses.specs.Clauses.{clauseAt, literalsOf, placeIn, Stands, half, queue-fits, clause-is}
+use Rattle.clauses.specs.ClauseLaws.{read-clause}
+use Rattle.clauses.specs.State.{solverOf, spanOf, clauseOf, Formed, SoundStore, Watchable, slotOf, searchRegions}
 use Rattle.clauses.specs.StepLaws.{push-step, push-solver, push-pending, replacedWords, replace-step, replace-pending, replace-solver, has-room, assign-step, assign-solver, step-both, same-assignment, pushed-unchanged, literal-range}
-use Rattle.watches.specs.State.{pendingOf, restOf, Visiting, Visits}
+use Rattle.watches.specs.State.{pendingOf, restOf, slotBy, otherBy, Visiting, Visits}
 
 walk-cons : (ls : List ℕ) (n c : ℕ) → 0 < n → walk ls n c ≡ c ∷ walk ls (n - 1) (getD ls c 0)
 unfolding walk
@@ -48,25 +50,36 @@ module _ (m : Store) (t : Trail) (w : List ℕ) (d : Pending) (v : Visiting m t 
   unfolding lists
   clause-there = omega (arith, visit-sound .queues .below 0 (d .cell) (inl refl))
 
+  -- and its cell one of the cells
+  pub cell-there : d .cell < CELLS
+  unfolding lists
+  cell-there = omega (arith, visit-sound .queues .below 0 (d .cell) (inl refl), v .sound .formed .clauses)
+
   -- any queue has room for one cell more
-  pub queue-room : (l : ℕ) → getD (region WATCH-COUNTS w) l 0 < CELLS + 1
-  queue-room l = count-fits w (v .sound .formed .ready .words) (m .clauses * 2) (omega (arith, v .sound .formed .clauses)) _ (visit-sound .queues) l
+  pub queue-room : (l : ℕ) → l < t .variables * 2 → HasRoom w l
+  queue-room l b = queue-fits (t .variables) w (v .sound .formed .ready .words) (v .sound .formed .ready .variables) (m .clauses * 2) (omega (arith, v .sound .formed .clauses)) _ (visit-sound .queues) l b
 
-  -- also after a change of a watched place
-  pub moved-room : (u : List ℕ) (j i : ℕ) → u ≡ stored WATCHED w j i → (l : ℕ) → getD (region WATCH-COUNTS u) l 0 < CELLS + 1
-  moved-room u j i e l = rw (e, stored-out WATCH-COUNTS w WATCHED j i refl) (queue-room l)
+  -- also after a change of a watched literal
+  pub moved-room : (u : List ℕ) (j i : ℕ) → u ≡ stored WATCHED w j i → (l : ℕ) → l < t .variables * 2 → HasRoom u l
+  moved-room u j i e l b =
+      let q = queue-room l b in
+      record {
+        near = q .near;
+        more = rw (e, stored-out WATCH-COUNTS w WATCHED j i refl) (q .more);
+        tail = rw (e, stored-out WATCH-COUNTS w WATCHED j i refl, stored-out WATCH-TAILS w WATCHED j i refl) (q .tail);
+      }
 
-  module _ (f : ℕ) where
+  module _ (f : ℕ) (in-range : f < t .variables * 2) where
     pub kept-visits : Visits m t w d t (pushedWords w f (d .cell))
     unfolding restOf
     kept-visits = record {
-      step = push-step m t w f (d .cell) (restOf d w w) visit-sound;
-      same = push-pending m t w f (d .cell) (restOf d w w) visit-sound (d .left - 1) (getD (region LINKS w) (d .cell) 0) refl;
+      step = push-step m t w f (d .cell) (restOf d w w) visit-sound in-range;
+      same = push-pending m t w f (d .cell) (restOf d w w) visit-sound in-range (d .left - 1) (getD (region LINKS w) (d .cell) 0) refl;
     }
 
     -- the clause kept
     pub kept : (s : Solver) → solverOf s m t (pushedWords w f (d .cell)) ≡ Sat.keepWatch f (half (d .cell)) (solverOf s m t w)
-    kept s = push-solver m t w f (d .cell) (restOf d w w) visit-sound s
+    kept s = push-solver m t w f (d .cell) (restOf d w w) visit-sound in-range s
 
     module _ (o : ℕ) (u : List ℕ) (e : u ≡ pushedWords w f (d .cell)) where
       assignment-kept : assignmentOf t u ≡ assignmentOf t w
@@ -116,17 +129,38 @@ module _ (m : Store) (t : Trail) (w : List ℕ) (d : Pending) (v : Visiting m t 
             )
 
   -- the clause of the first pending cell given to another literal
-  module _ (c : Clause) (k i l : ℕ) (e : clauseOf c w ≡ clauseAt w (half (d .cell))) (b : k < 2) (g : l ≡ getD (clauseOf c w .literals) i 0) where
-    pub replaced : Visits m t w d t (replacedWords w (d .cell) k i l)
-        × ((s : Solver) → solverOf s m t (replacedWords w (d .cell) k i l) ≡ Sat.replaceWatch (half (d .cell)) (solverOf s m t w) (clauseOf c w) (slotOf k) i)
+  module _ (k l : ℕ) (b : k < 2) (there : Stands l (literalsOf w (half (d .cell)))) where
+    pub replaced-range : l < t .variables * 2
+    replaced-range = rw (← there) (literal-range m t w (v .sound .formed) (half (d .cell)) clause-there (placeIn l (literalsOf w (half (d .cell)))))
+
+    pub replaced : Visits m t w d t (replacedWords w (d .cell) k l)
+        × ((s : Solver) → solverOf s m t (replacedWords w (d .cell) k l) ≡ Sat.replaceWatch (half (d .cell)) (solverOf s m t w) (clauseAt w (half (d .cell))) (slotOf k) (placeIn l (literalsOf w (half (d .cell)))))
     unfolding restOf
     replaced = (
       record {
-        step = replace-step m t w (d .cell) k i l (restOf d w w) visit-sound;
-        same = replace-pending m t w (d .cell) k i l (restOf d w w) visit-sound (d .left - 1) (getD (region LINKS w) (d .cell) 0) refl;
+        step = replace-step m t w (d .cell) k l b there (restOf d w w) visit-sound replaced-range;
+        same = replace-pending m t w (d .cell) k l b there (restOf d w w) visit-sound replaced-range (d .left - 1) (getD (region LINKS w) (d .cell) 0) refl;
       },
-      λ s. replace-solver m t w (d .cell) k i l (restOf d w w) visit-sound (clauseOf c w) b clause-there e g s,
+      λ s. replace-solver m t w (d .cell) k l b there (restOf d w w) visit-sound replaced-range clause-there s,
     )
+
+  -- its clause as it is read: what is asked where its spare literal is looked for
+  module _ (c : Clause) (e : spanOf c w ≡ literalsOf w (half (d .cell))) (ea : c .first .0 ≡ getD (region WATCHED w) (half (d .cell) * 2) 0) (eb : c .second .0 ≡ getD (region WATCHED w) (half (d .cell) * 2 + 1) 0) where
+    pub is-clause : clauseOf c w ≡ clauseAt w (half (d .cell))
+    is-clause = read-clause c w (half (d .cell)) e ea eb
+
+    pub watchable : c .end ≡ getD (region CLAUSE-STARTS w) (half (d .cell) + 1) 0 → Watchable t w c
+    watchable g =
+        let f = v .sound .formed in
+        let h = clause-there in
+        record {
+          ready = f .ready;
+          inside = omega (arith, f .within (half (d .cell) + 1) (omega arith), f .literals);
+          apart = rw e (f .watching .apart (half (d .cell)) h);
+          first = rw (e, ea) (f .watching .first (half (d .cell)) h);
+          second = rw (e, eb) (f .watching .second (half (d .cell)) h);
+          range = rw e (literal-range m t w f (half (d .cell)) h);
+        }
 
 -- ---- by the other literal's value
 
@@ -145,91 +179,132 @@ untrue-other f id s c k Sat.True e = absurd (let z : _≡_ {A = ℕ} 0 1 = cc e 
 untrue-other f id s c k Sat.False e = refl
 untrue-other f id s c k Sat.Unassigned e = refl
 
-module _ (m : Store) (t : Trail) (w : List ℕ) (d : Pending) (v : Visiting m t w d) (f : ℕ) (c : Clause) (k o : ℕ) where
-  -- the clause is kept since the other literal is true
-  pub other-true : true ≡ Sat.isTrue (Sat.value (assignmentOf t w) o) → (u : List ℕ) → u ≡ pushedWords w f (d .cell)
-      → Visits m t w d t u × ((s : Solver) → Sat.propagating (solverOf s m t u) ≡ Sat.visitOther f (half (d .cell)) (solverOf s m t w) (clauseOf c w) (slotOf k) (Sat.value (assignmentOf t w) o))
-  other-true e u g = (
-    rw g (kept-visits m t w d v f),
-    λ s. rw g (ap (λ (q : Solver). Sat.propagating q) (kept m t w d v f s) ∙ sym (true-other f (half (d .cell)) (solverOf s m t w) (clauseOf c w) (slotOf k) _ e)),
-  )
+-- ---- by the replacement
 
-  module _ (e : false ≡ Sat.isTrue (Sat.value (assignmentOf t w) o)) where
-    replacing : (s : Solver) → Sat.visitOther f (half (d .cell)) (solverOf s m t w) (clauseOf c w) (slotOf k) (Sat.value (assignmentOf t w) o)
-        ≡ Sat.visitReplacing f (half (d .cell)) (solverOf s m t w) (clauseOf c w) (slotOf k) (Sat.replacement (assignmentOf t w) (clauseOf c w))
-    unfolding solverOf
-    replacing s = untrue-other f (half (d .cell)) (solverOf s m t w) (clauseOf c w) (slotOf k) (Sat.value (assignmentOf t w) o) e
+module _ (m : Store) (t : Trail) (w : List ℕ) (d : Pending) (f k : ℕ) where
+  -- the clause goes over to another literal
+  pub untrue-found : (i : ℕ) → some i ≡ Sat.replacement (assignmentOf t w) (clauseAt w (half (d .cell))) → (s : Solver) (q : Solver)
+      → q ≡ Sat.replaceWatch (half (d .cell)) (solverOf s m t w) (clauseAt w (half (d .cell))) (slotOf k) i
+      → Sat.propagating q ≡ Sat.visitReplacing f (half (d .cell)) (solverOf s m t w) (clauseAt w (half (d .cell))) (slotOf k) (Sat.replacement (assignmentOf t w) (clauseAt w (half (d .cell))))
+  unfolding Sat.visitReplacing
+  untrue-found i h s q g = rw (← h) (ap (λ (x : Solver). Sat.propagating x) g)
 
-    -- it goes over to another literal
-    pub other-replaced : (i : ℕ) → some i ≡ Sat.replacement (assignmentOf t w) (clauseOf c w) → (s : Solver) (q : Solver)
-        → q ≡ Sat.replaceWatch (half (d .cell)) (solverOf s m t w) (clauseOf c w) (slotOf k) i
-        → Sat.propagating q ≡ Sat.visitOther f (half (d .cell)) (solverOf s m t w) (clauseOf c w) (slotOf k) (Sat.value (assignmentOf t w) o)
-    unfolding Sat.visitReplacing
-    other-replaced i h s q g = rw (replacing s, ← h) (ap (λ (x : Solver). Sat.propagating x) g)
+  -- there is none
+  pub untrue-none : none ≡ Sat.replacement (assignmentOf t w) (clauseAt w (half (d .cell))) → (o : ℕ) → o ≡ Sat.otherLiteral (clauseAt w (half (d .cell))) (slotOf k) → (s : Solver) (q : Sat.Propagation)
+      → q ≡ Sat.visitEnqueued (half (d .cell)) (Sat.keepWatch f (half (d .cell)) (solverOf s m t w)) (Sat.enqueue (assignmentOf t w) o (some (half (d .cell))))
+      → q ≡ Sat.visitReplacing f (half (d .cell)) (solverOf s m t w) (clauseAt w (half (d .cell))) (slotOf k) (Sat.replacement (assignmentOf t w) (clauseAt w (half (d .cell))))
+  unfolding Sat.visitReplacing solverOf
+  untrue-none h o j s q g = rw (← h, ← j) g
 
-    -- there is none
-    pub other-enqueued : none ≡ Sat.replacement (assignmentOf t w) (clauseOf c w) → o ≡ Sat.otherLiteral (clauseOf c w) (slotOf k) → (s : Solver) (q : Sat.Propagation)
-        → q ≡ Sat.visitEnqueued (half (d .cell)) (Sat.keepWatch f (half (d .cell)) (solverOf s m t w)) (Sat.enqueue (assignmentOf t w) o (some (half (d .cell))))
-        → q ≡ Sat.visitOther f (half (d .cell)) (solverOf s m t w) (clauseOf c w) (slotOf k) (Sat.value (assignmentOf t w) o)
-    unfolding Sat.visitReplacing solverOf
-    other-enqueued h j s q g = rw (replacing s, ← h, ← j) g
+-- ---- by the watched literals
 
--- ---- by the false slot
+module _ (m : Store) (t : Trail) (w : List ℕ) (d : Pending) (v : Visiting m t w d) (f a b : ℕ) (ea : a ≡ getD (region WATCHED w) (half (d .cell) * 2) 0) (eb : b ≡ getD (region WATCHED w) (half (d .cell) * 2 + 1) 0) where
+  first-stands : Stands a (literalsOf w (half (d .cell)))
+  first-stands = rw ea (v .sound .formed .watching .first (half (d .cell)) (clause-there m t w d v))
 
-module _ (m : Store) (t : Trail) (w : List ℕ) (d : Pending) (v : Visiting m t w d) (f : ℕ) (c : Clause) (e : clauseOf c w ≡ clauseAt w (half (d .cell))) where
-  visited : (s : Solver) → Sat.visit f (half (d .cell)) (solverOf s m t w) ≡ Sat.visitSlot f (half (d .cell)) (solverOf s m t w) (clauseOf c w) (Sat.falseSlot f (clauseOf c w))
+  second-stands : Stands b (literalsOf w (half (d .cell)))
+  second-stands = rw eb (v .sound .formed .watching .second (half (d .cell)) (clause-there m t w d v))
+
+  -- a literal that stands in the clause is one of the variables'
+  stands-range : (l : ℕ) → Stands l (literalsOf w (half (d .cell))) → l < t .variables * 2
+  stands-range l z = rw (← z) (literal-range m t w (v .sound .formed) (half (d .cell)) (clause-there m t w d v) (placeIn l (literalsOf w (half (d .cell)))))
+
+  first-is : Sat.watched0 (clauseAt w (half (d .cell))) ≡ a
+  unfolding Sat.watched0 clauseAt
+  first-is = rw (← ea) first-stands
+
+  second-is : Sat.watched1 (clauseAt w (half (d .cell))) ≡ b
+  unfolding Sat.watched1 clauseAt
+  second-is = rw (← eb) second-stands
+
+  slot-is : Sat.falseSlot f (clauseAt w (half (d .cell))) ≡ slotBy a b f
+  unfolding Sat.falseSlot slotBy
+  slot-is = rw (first-is, second-is)
+
+  visited : (s : Solver) → Sat.visit f (half (d .cell)) (solverOf s m t w) ≡ Sat.visitSlot f (half (d .cell)) (solverOf s m t w) (clauseAt w (half (d .cell))) (slotBy a b f)
   unfolding Sat.visit Sat.visitClause solverOf
-  visited s = rw (clause-is (m .clauses) w (half (d .cell)) Sat.emptyClause (clause-there m t w d v), e)
+  visited s = rw (clause-is (m .clauses) w (half (d .cell)) Sat.emptyClause (clause-there m t w d v), slot-is)
 
-  module _ (a b : ℕ) (ea : a ≡ getD (clauseOf c w .literals) (c .first) 0) (eb : b ≡ getD (clauseOf c w .literals) (c .second) 0) where
-    first-is : Sat.watched0 (clauseOf c w) ≡ a
-    unfolding Sat.watched0 clauseOf
-    first-is = sym ea
+  module _ (n : ℕ) (e : slotOf n ≡ slotBy a b f) where
+    -- neither is the false literal: nothing is changed
+    pub slot-neither : 1 < n → (s : Solver) → Sat.propagating (solverOf s m t w) ≡ Sat.visit f (half (d .cell)) (solverOf s m t w)
+    unfolding Sat.visitSlot slotOf
+    slot-neither h s = rw (visited s, ← e, past n h)
+      where
+        past : (n : ℕ) → 1 < n → slotOf n ≡ Sat.neither
+        past zero h = absurd (omega arith)
+        past (suc zero) h = absurd (omega arith)
+        past (suc (suc k)) h = refl
 
-    second-is : Sat.watched1 (clauseOf c w) ≡ b
-    unfolding Sat.watched1 clauseOf
-    second-is = sym eb
+    -- one of them is the false literal, which is of the variables
+    pub false-range : n ≤ 1 → f < t .variables * 2
+    unfolding slotBy slotOf
+    false-range low = go (eqb a f) (eqb b f) refl refl
+      where
+        some-slot : (k : ℕ) → k ≤ 1 → slotOf k ≡ Sat.neither → ⊥
+        some-slot zero h z = let y : _≡_ {A = ℕ} 0 1 = cc z in omega arith
+        some-slot (suc zero) h z = let y : _≡_ {A = ℕ} 0 1 = cc z in omega arith
+        some-slot (suc (suc k)) h z = omega arith
 
-    pub other-of-first : b ≡ Sat.otherLiteral (clauseOf c w) (slotOf 0)
-    unfolding Sat.otherLiteral slotOf
-    other-of-first = sym second-is
+        go : (p q : Bool) → eqb a f ≡ p → eqb b f ≡ q → f < t .variables * 2
+        go true q g h = rw (← eqb-true a f g) (stands-range a first-stands)
+        go false true g h = rw (← eqb-true b f h) (stands-range b second-stands)
+        go false false g h = absurd (some-slot n low (rw (g, h) at e))
 
-    pub other-of-second : a ≡ Sat.otherLiteral (clauseOf c w) (slotOf 1)
-    unfolding Sat.otherLiteral slotOf
-    other-of-second = sym first-is
+    module _ (low : n ≤ 1) (o : ℕ) (eo : o ≡ otherBy n a b) where
+      pub other-is : o ≡ Sat.otherLiteral (clauseAt w (half (d .cell))) (slotOf n)
+      unfolding otherBy Sat.otherLiteral slotOf
+      other-is = eo ∙ go n low
+        where
+          go : (k : ℕ) → k ≤ 1 → otherBy k a b ≡ Sat.otherLiteral (clauseAt w (half (d .cell))) (slotOf k)
+          go zero h = sym second-is
+          go (suc zero) h = sym first-is
+          go (suc (suc k)) h = absurd (omega arith)
 
-    pub slot-first : a ≡ f → (s : Solver) (q : Sat.Propagation) → q ≡ Sat.visitOther f (half (d .cell)) (solverOf s m t w) (clauseOf c w) (slotOf 0) (Sat.value (assignmentOf t w) b)
-        → q ≡ Sat.visit f (half (d .cell)) (solverOf s m t w)
-    unfolding Sat.falseSlot Sat.visitSlot solverOf slotOf Sat.otherLiteral
-    slot-first h s q g = rw (visited s, first-is, eq-eqb a f h, second-is) g
+      -- the other literal is one of the variables'
+      pub other-range : o < t .variables * 2
+      unfolding otherBy
+      other-range = rw eo (go n)
+        where
+          go : (k : ℕ) → otherBy k a b < t .variables * 2
+          go zero = stands-range b second-stands
+          go (suc k) = stands-range a first-stands
 
-    pub slot-second : (a ≡ f → ⊥) → b ≡ f → (s : Solver) (q : Sat.Propagation) → q ≡ Sat.visitOther f (half (d .cell)) (solverOf s m t w) (clauseOf c w) (slotOf 1) (Sat.value (assignmentOf t w) a)
-        → q ≡ Sat.visit f (half (d .cell)) (solverOf s m t w)
-    unfolding Sat.falseSlot Sat.visitSlot solverOf slotOf Sat.otherLiteral
-    slot-second n h s q g = rw (visited s, first-is, ne-eqb a f n, second-is, eq-eqb b f h, first-is) g
+      by-other : (s : Solver) → Sat.visit f (half (d .cell)) (solverOf s m t w) ≡ Sat.visitOther f (half (d .cell)) (solverOf s m t w) (clauseAt w (half (d .cell))) (slotOf n) (Sat.value (assignmentOf t w) o)
+      unfolding solverOf Sat.visitSlot slotOf
+      by-other s = visited s ∙ rw (← e, other-is) (go n low)
+        where
+          go : (k : ℕ) → k ≤ 1 → Sat.visitSlot f (half (d .cell)) (solverOf s m t w) (clauseAt w (half (d .cell))) (slotOf k)
+              ≡ Sat.visitOther f (half (d .cell)) (solverOf s m t w) (clauseAt w (half (d .cell))) (slotOf k) (Sat.value (solverOf s m t w .assignment) (Sat.otherLiteral (clauseAt w (half (d .cell))) (slotOf k)))
+          go zero h = refl
+          go (suc zero) h = refl
+          go (suc (suc k)) h = absurd (omega arith)
 
-    pub slot-neither : (a ≡ f → ⊥) → (b ≡ f → ⊥) → (s : Solver) → Sat.propagating (solverOf s m t w) ≡ Sat.visit f (half (d .cell)) (solverOf s m t w)
-    unfolding Sat.falseSlot Sat.visitSlot
-    slot-neither n k s = rw (visited s, first-is, ne-eqb a f n, second-is, ne-eqb b f k)
+      -- the clause is kept since the other literal is true
+      pub visit-true : true ≡ Sat.isTrue (Sat.value (assignmentOf t w) o) → (u : List ℕ) → u ≡ pushedWords w f (d .cell)
+          → Visits m t w d t u × ((s : Solver) → Sat.propagating (solverOf s m t u) ≡ Sat.visit f (half (d .cell)) (solverOf s m t w))
+      visit-true z u g = (
+        rw g (kept-visits m t w d v f (false-range low)),
+        λ s. rw g (ap (λ (q : Solver). Sat.propagating q) (kept m t w d v f (false-range low) s) ∙ sym (true-other f (half (d .cell)) (solverOf s m t w) (clauseAt w (half (d .cell))) (slotOf n) _ z) ∙ sym (by-other s)),
+      )
 
-  -- nothing is changed: the cell is dropped
-  pub dropped-visits : Visits m t w d t w
-  dropped-visits = record {
-    step = record {
-      frame = unchanged-none searchRegions w;
-      sound = record { formed = v .sound .formed; queues = drop-sound (queuesOf w) (m .clauses * 2) (d .cell) (restOf d w w) (visit-sound m t w d v .queues) };
-      variables = refl;
-      level = refl;
-      head = refl;
-      grows = λ y f. f;
-    };
-    same = refl;
-  }
+      -- it is not true
+      pub visit-untrue : false ≡ Sat.isTrue (Sat.value (assignmentOf t w) o) → (s : Solver) (q : Sat.Propagation)
+          → q ≡ Sat.visitReplacing f (half (d .cell)) (solverOf s m t w) (clauseAt w (half (d .cell))) (slotOf n) (Sat.replacement (assignmentOf t w) (clauseAt w (half (d .cell))))
+          → q ≡ Sat.visit f (half (d .cell)) (solverOf s m t w)
+      unfolding solverOf
+      visit-untrue z s q g = g ∙ sym (untrue-other f (half (d .cell)) (solverOf s m t w) (clauseAt w (half (d .cell))) (slotOf n) (Sat.value (assignmentOf t w) o) z) ∙ sym (by-other s)
 
-  -- its end is within the pool
-  pub end-fits : c .end ≡ getD (region CLAUSE-STARTS w) (half (d .cell) + 1) 0 → c .end ≤ POOL
-  end-fits g = let h = clause-there m t w d v in omega (arith, v .sound .formed .within (half (d .cell) + 1) (omega arith), v .sound .formed .literals)
-
-  -- a literal of it is one of the variables'
-  pub literal-fits : (p a : ℕ) → a ≡ getD (clauseOf c w .literals) p 0 → a < t .variables * 2
-  literal-fits p a g = rw (g, e) (literal-range m t w (v .sound .formed) (half (d .cell)) (clause-there m t w d v) p)
+-- nothing is changed: the cell is dropped
+pub dropped-visits : (m : Store) (t : Trail) (w : List ℕ) (d : Pending) → Visiting m t w d → Visits m t w d t w
+dropped-visits m t w d v = record {
+  step = record {
+    frame = unchanged-none searchRegions w;
+    sound = record { formed = v .sound .formed; queues = drop-sound (queuesOf (t .variables) w) (m .clauses * 2) (d .cell) (restOf d w w) (visit-sound m t w d v .queues) };
+    variables = refl;
+    level = refl;
+    head = refl;
+    grows = λ y f. f;
+  };
+  same = refl;
+}

@@ -1,9 +1,9 @@
 // Propagation: the pending clauses of a literal that has become false, and the literals of the trail in turn.
 ghost use mathlib.Core.Path.{_≡_};
 ghost use mathlib.Core.List.{[], map};
-ghost use Prim.Native.Nat.{_+_, _-_, _<_, _≤_};
+ghost use Prim.Native.Nat.{_+_, _-_, _*_, _<_, _≤_};
 ghost use lib.ListN.{length, getD};
-ghost use Rattle.words.specs.Layout.{LENT, LINKS};
+ghost use Rattle.words.specs.Layout.{LENT, CELLS, LINKS};
 ghost use Rattle.words.specs.Region.{region};
 ghost use Rattle.model.specs.Sat as Sat;
 ghost use Rattle.clauses.specs.Clauses.{half};
@@ -16,23 +16,20 @@ use assignment::state::Trail;
 use clauses::queue::push_back;
 use clauses::state::Store;
 use literals::Literal;
-use words::CELLS;
-use words::DOUBLE;
 use words::LINKS;
-use words::SMALL;
 use words::TRAIL;
 use words::WATCH_COUNTS;
 use words::WATCH_HEADS;
-use words::fetch;
-use words::stash;
+use words::load;
+use words::put;
 use words::wide;
 
 // The pending cells after the first.
 fn rest(words: &[u32], d: Pending) -> Pending
-    requires { ⌜ (LENT ≤ length (now words)) × (0 < d .left) ⌝ }
+    requires { ⌜ (LENT ≤ length (now words)) × (0 < d .left) × (d .cell < CELLS) ⌝ }
     ensures { λ r. ⌜ (r .cell ≡ getD (region LINKS (now (words .entry))) (d .cell) 0) × (r .left ≡ d .left - 1) ⌝ }
 {
-    let cell = fetch(words, LINKS, CELLS, wide(d.cell));
+    let cell = load(words, LINKS, wide(d.cell));
     Pending {
         cell,
         left: d.left - 1,
@@ -41,7 +38,7 @@ fn rest(words: &[u32], d: Pending) -> Pending
 
 // The first pending clause stays with f.
 fn keep(words: &mut [u32], store: Store, t: Trail, f: Literal, d: Pending)
-    requires { ⌜ Visiting store t (now words) d ⌝ }
+    requires { ⌜ Visiting store t (now words) d × (f .0 < t .variables * 2) ⌝ }
     ensures { λ _. ⌜ Visits store t (now (words .entry)) d t (now (words .exit))
         × ((s : Sat.Solver) → solverOf s store t (now (words .exit)) ≡ Sat.keepWatch (f .0) (half (d .cell)) (solverOf s store t (now (words .entry)))) ⌝ }
 {
@@ -50,7 +47,7 @@ fn keep(words: &mut [u32], store: Store, t: Trail, f: Literal, d: Pending)
 
 // The pending clauses go back to the queue of f, in order.
 fn restore(words: &mut [u32], store: Store, t: Trail, f: Literal, first: Pending)
-    requires { ⌜ SoundStore store t (now words) (pendingOf first (now words)) ⌝ }
+    requires { ⌜ SoundStore store t (now words) (pendingOf first (now words)) × (0 < first .left → f .0 < t .variables * 2) ⌝ }
     ensures { λ _. ⌜ Step store t (now (words .entry)) t (now (words .exit)) []
         × ((s : Sat.Solver) → solverOf s store t (now (words .exit)) ≡ appended (f .0) (map half (pendingOf first (now (words .entry)))) (solverOf s store t (now (words .entry)))) ⌝ }
 {
@@ -70,7 +67,7 @@ fn visit_pending(
     f: Literal,
     first: Pending,
 ) -> Propagation
-    requires { ⌜ SoundStore store start (now words) (pendingOf first (now words)) ⌝ }
+    requires { ⌜ SoundStore store start (now words) (pendingOf first (now words)) × (0 < first .left → f .0 < start .variables * 2) ⌝ }
     ensures { λ r. ⌜ Step store start (now (words .entry)) (trailOf r) (now (words .exit)) []
         × ((s : Sat.Solver) → propagationOf s store (now (words .exit)) r ≡ Sat.visitPending (f .0) (map half (pendingOf first (now (words .entry)))) (Sat.propagating (solverOf s store start (now (words .entry))))) ⌝ }
 {
@@ -104,9 +101,9 @@ fn take_watches(words: &mut [u32], store: Store, t: Trail, f: Literal) -> Pendin
     if t.variables * 2 <= l {
         return Pending { cell: 0, left: 0 };
     }
-    let cell = fetch(words, WATCH_HEADS, DOUBLE, l);
-    let left = wide(fetch(words, WATCH_COUNTS, DOUBLE, l));
-    stash(words, WATCH_COUNTS, DOUBLE, l, 0);
+    let cell = load(words, WATCH_HEADS, l);
+    let left = wide(load(words, WATCH_COUNTS, l));
+    put(words, WATCH_COUNTS, l, 0);
     Pending { cell, left }
 }
 
@@ -117,7 +114,7 @@ fn propagate_round(words: &mut [u32], store: Store, t: Trail) -> Propagation
         × ((s : Sat.Solver) → propagationOf s store (now (words .exit)) r ≡ Sat.propagateRound (solverOf s store t (now (words .entry)))) ⌝ }
 {
     let head = t.head;
-    let literal = Literal(fetch(words, TRAIL, SMALL, head));
+    let literal = Literal(load(words, TRAIL, head));
     let f = literal.negate();
     let d = take_watches(words, store, t, f);
     let next = Trail {

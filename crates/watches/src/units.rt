@@ -5,7 +5,7 @@ ghost use mathlib.Core.Option.{some};
 ghost use Prim.Native.Nat.{_+_, _*_, _<_};
 ghost use Rattle.model.specs.Sat as Sat;
 ghost use Rattle.assignment.specs.State.{assignmentOf, enqueued, wordReason};
-ghost use Rattle.clauses.specs.Clauses.{clauseAt, clausesOf};
+ghost use Rattle.clauses.specs.Clauses.{literalsOf, clausesOf};
 ghost use Rattle.clauses.specs.State.{SoundStore};
 ghost use Rattle.watches.specs.State.{UnitStep};
 use assignment::state::Enqueued;
@@ -14,9 +14,10 @@ use assignment::state::Value;
 use assignment::trail::assign;
 use assignment::trail::value;
 use clauses::clause::clause;
-use clauses::clause::literal_at;
 use clauses::state::Store;
 use literals::Literal;
+use words::LITERALS;
+use words::load;
 use words::wide;
 
 // A literal of the variables made true with its reason; not ok where it is false.
@@ -45,11 +46,12 @@ pub fn enqueue(words: &mut [u32], store: Store, t: Trail, l: Literal, reason: u3
 fn initialize_unit(words: &mut [u32], store: Store, t: Trail, id: usize) -> Enqueued
     requires { ⌜ SoundStore store t (now words) [] × (id < store .clauses) ⌝ }
     ensures { λ r. ⌜ UnitStep store t (now (words .entry)) r (now (words .exit))
-        × (enqueued (r .ok) (assignmentOf (r .trail) (now (words .exit))) ≡ Sat.initializeUnit (assignmentOf t (now (words .entry))) id (clauseAt (now (words .entry)) id .literals)) ⌝ }
+        × (enqueued (r .ok) (assignmentOf (r .trail) (now (words .exit))) ≡ Sat.initializeUnit (assignmentOf t (now (words .entry))) id (literalsOf (now (words .entry)) id)) ⌝ }
 {
     let c = clause(words, id);
-    if wide(c.start) + 1 == wide(c.end) {
-        let l = literal_at(words, c, 0);
+    let start = wide(c.start);
+    if start + 1 == wide(c.end) {
+        let l = Literal(load(words, LITERALS, start));
         return enqueue(words, store, t, l, (id + 1) as u32);
     }
     Enqueued { ok: true, trail: t }

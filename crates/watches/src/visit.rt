@@ -1,14 +1,12 @@
 // A visit of the first pending clause of a literal that has become false: kept, given another watched literal, its other literal enqueued, or a conflict.
 ghost use mathlib.Core.Path.{_≡_};
 ghost use mathlib.Core.Option.{some};
-ghost use Prim.Native.Nat.{_+_, _*_, _/_, _<_, _≤_};
-ghost use lib.ListN.{length};
-ghost use Rattle.words.specs.Layout.{LENT, POOL};
+ghost use Prim.Native.Nat.{_*_, _<_};
 ghost use Rattle.model.specs.Sat as Sat;
-ghost use Rattle.assignment.specs.State.{assignmentOf};
-ghost use Rattle.clauses.specs.Clauses.{clauseAt, half};
-ghost use Rattle.clauses.specs.State.{solverOf, clauseOf, slotOf};
-ghost use Rattle.watches.specs.State.{trailOf, propagationOf, Visiting, Visits};
+ghost use Rattle.assignment.specs.State.{assignmentOf, TrailReady};
+ghost use Rattle.clauses.specs.Clauses.{clauseAt, literalsOf, placeIn, Stands, half};
+ghost use Rattle.clauses.specs.State.{solverOf, slotOf};
+ghost use Rattle.watches.specs.State.{trailOf, propagationOf, slotBy, otherBy, Visiting, Visits};
 use crate::state::Pending;
 use crate::state::Propagation;
 use assignment::state::Trail;
@@ -16,16 +14,14 @@ use assignment::state::Value;
 use assignment::trail::assign;
 use assignment::trail::value;
 use clauses::clause::clause;
-use clauses::clause::literal_at;
 use clauses::clause::replacement;
 use clauses::queue::push_back;
-use clauses::state::Clause;
-use clauses::state::Place;
+use clauses::state::Spare;
 use clauses::state::Store;
 use literals::Literal;
-use words::CELLS;
 use words::WATCHED;
-use words::stash;
+use words::load;
+use words::put;
 use words::wide;
 
 // The clause stays with the false literal f, and its other literal is enqueued; a conflict where that one is false.
@@ -37,7 +33,7 @@ fn visit_enqueued(
     d: Pending,
     other: Literal,
 ) -> Propagation
-    requires { ⌜ Visiting store t (now words) d × (other .0 < t .variables * 2) ⌝ }
+    requires { ⌜ Visiting store t (now words) d × (other .0 < t .variables * 2) × (f .0 < t .variables * 2) ⌝ }
     ensures { λ r. ⌜ Visits store t (now (words .entry)) d (trailOf r) (now (words .exit))
         × ((s : Sat.Solver) → propagationOf s store (now (words .exit)) r ≡ Sat.visitEnqueued (half (d .cell)) (Sat.keepWatch (f .0) (half (d .cell)) (solverOf s store t (now (words .entry)))) (Sat.enqueue (assignmentOf t (now (words .entry))) (other .0) (some (half (d .cell))))) ⌝ }
 {
@@ -54,29 +50,44 @@ fn visit_enqueued(
     }
 }
 
-// The clause goes over to the literal at place i.
-fn replace_watch(
-    words: &mut [u32],
-    store: Store,
-    t: Trail,
-    d: Pending,
-    c: Clause,
-    slot: u32,
-    i: u32,
-)
-    requires { ⌜ Visiting store t (now words) d × (clauseOf c (now words) ≡ clauseAt (now words) (half (d .cell))) × (slot < 2) ⌝ }
+// The clause goes over to the literal l of it.
+fn replace_watch(words: &mut [u32], store: Store, t: Trail, d: Pending, slot: u32, l: Literal)
+    requires { ⌜ Visiting store t (now words) d × (slot < 2) × Stands (l .0) (literalsOf (now words) (half (d .cell))) ⌝ }
     ensures { λ _. ⌜ Visits store t (now (words .entry)) d t (now (words .exit))
-        × ((s : Sat.Solver) → solverOf s store t (now (words .exit)) ≡ Sat.replaceWatch (half (d .cell)) (solverOf s store t (now (words .entry))) (clauseOf c (now (words .entry))) (slotOf slot) i) ⌝ }
+        × ((s : Sat.Solver) → solverOf s store t (now (words .exit)) ≡ Sat.replaceWatch (half (d .cell)) (solverOf s store t (now (words .entry))) (clauseAt (now (words .entry)) (half (d .cell))) (slotOf slot) (placeIn (l .0) (literalsOf (now (words .entry)) (half (d .cell))))) ⌝ }
 {
     let cell = d.cell;
-    let l = literal_at(words, c, i);
-    stash(words, WATCHED, CELLS, wide(cell / 2) * 2 + wide(slot), i);
+    put(words, WATCHED, wide(cell / 2) * 2 + wide(slot), l.0);
     push_back(words, wide(l.0), cell);
 }
 
-// Whether a literal is true.
+// A visit whose other watched literal is not true: the clause goes over to another literal where one is not false.
+fn visit_untrue(
+    words: &mut [u32],
+    store: Store,
+    t: Trail,
+    f: Literal,
+    d: Pending,
+    slot: u32,
+    other: Literal,
+) -> Propagation
+    requires { ⌜ Visiting store t (now words) d × (slot < 2) × (other .0 < t .variables * 2) × (other .0 ≡ Sat.otherLiteral (clauseAt (now words) (half (d .cell))) (slotOf slot)) × (f .0 < t .variables * 2) ⌝ }
+    ensures { λ r. ⌜ Visits store t (now (words .entry)) d (trailOf r) (now (words .exit))
+        × ((s : Sat.Solver) → propagationOf s store (now (words .exit)) r ≡ Sat.visitReplacing (f .0) (half (d .cell)) (solverOf s store t (now (words .entry))) (clauseAt (now (words .entry)) (half (d .cell))) (slotOf slot) (Sat.replacement (assignmentOf t (now (words .entry))) (clauseAt (now (words .entry)) (half (d .cell))))) ⌝ }
+{
+    let c = clause(words, wide(d.cell / 2));
+    match replacement(words, t, c) {
+        Spare::Found(l) => {
+            replace_watch(words, store, t, d, slot, l);
+            Propagation::Propagating(t)
+        }
+        Spare::Nothing => visit_enqueued(words, store, t, f, d, other),
+    }
+}
+
+// Whether a literal of the variables is true.
 pub fn is_true(words: &[u32], t: Trail, l: Literal) -> bool
-    requires { ⌜ LENT ≤ length (now words) ⌝ }
+    requires { ⌜ TrailReady t (now words) × (l .0 < t .variables * 2) ⌝ }
     ensures { λ r. ⌜ r ≡ Sat.isTrue (Sat.value (assignmentOf t (now (words .entry))) (l .0)) ⌝ }
 {
     match value(words, t, l) {
@@ -86,49 +97,40 @@ pub fn is_true(words: &[u32], t: Trail, l: Literal) -> bool
     }
 }
 
-// A visit by the other watched literal: the clause is kept where it is true, and goes over to another literal where one is not false.
-fn visit_other(
-    words: &mut [u32],
-    store: Store,
-    t: Trail,
-    f: Literal,
-    d: Pending,
-    c: Clause,
-    slot: u32,
-    other: Literal,
-) -> Propagation
-    requires { ⌜ Visiting store t (now words) d × (clauseOf c (now words) ≡ clauseAt (now words) (half (d .cell))) × (slot < 2) × (other .0 < t .variables * 2) × (c .end ≤ POOL) ⌝ }
-    requires { ⌜ other .0 ≡ Sat.otherLiteral (clauseOf c (now words)) (slotOf slot) ⌝ }
-    ensures { λ r. ⌜ Visits store t (now (words .entry)) d (trailOf r) (now (words .exit))
-        × ((s : Sat.Solver) → propagationOf s store (now (words .exit)) r ≡ Sat.visitOther (f .0) (half (d .cell)) (solverOf s store t (now (words .entry))) (clauseOf c (now (words .entry))) (slotOf slot) (Sat.value (assignmentOf t (now (words .entry))) (other .0))) ⌝ }
+// The slot of f among the two watched literals of a clause: 0 or 1, and 2 where it is neither.
+fn false_slot(a: Literal, b: Literal, f: Literal) -> u32
+    ensures { λ r. ⌜ slotOf r ≡ slotBy (a .0) (b .0) (f .0) ⌝ }
 {
-    if is_true(words, t, other) {
-        push_back(words, wide(f.0), d.cell);
-        return Propagation::Propagating(t);
+    if a.0 == f.0 {
+        return 0;
     }
-    match replacement(words, t, c) {
-        Place::At(i) => {
-            replace_watch(words, store, t, d, c, slot, i);
-            Propagation::Propagating(t)
-        }
-        Place::Nothing => visit_enqueued(words, store, t, f, d, other),
-    }
+    if b.0 == f.0 { 1 } else { 2 }
 }
 
-// One clause of the queue of f, which has become false.
+// Of the two watched literals the one that is not in the slot.
+fn other_literal(slot: u32, a: Literal, b: Literal) -> Literal
+    ensures { λ r. ⌜ r .0 ≡ otherBy slot (a .0) (b .0) ⌝ }
+{
+    if slot == 0 { b } else { a }
+}
+
+// One clause of the queue of f, which has become false: kept where its other watched literal is true. Its literals are read only where that one is not.
 pub fn visit(words: &mut [u32], store: Store, t: Trail, f: Literal, d: Pending) -> Propagation
     requires { ⌜ Visiting store t (now words) d ⌝ }
     ensures { λ r. ⌜ Visits store t (now (words .entry)) d (trailOf r) (now (words .exit))
         × ((s : Sat.Solver) → propagationOf s store (now (words .exit)) r ≡ Sat.visit (f .0) (half (d .cell)) (solverOf s store t (now (words .entry)))) ⌝ }
 {
-    let c = clause(words, wide(d.cell / 2));
-    let a = literal_at(words, c, c.first);
-    let b = literal_at(words, c, c.second);
-    if a.0 == f.0 {
-        return visit_other(words, store, t, f, d, c, 0, b);
+    let id = wide(d.cell / 2);
+    let a = Literal(load(words, WATCHED, id * 2));
+    let b = Literal(load(words, WATCHED, id * 2 + 1));
+    let slot = false_slot(a, b, f);
+    if 1 < slot {
+        return Propagation::Propagating(t);
     }
-    if b.0 == f.0 {
-        return visit_other(words, store, t, f, d, c, 1, a);
+    let other = other_literal(slot, a, b);
+    if is_true(words, t, other) {
+        push_back(words, wide(f.0), d.cell);
+        return Propagation::Propagating(t);
     }
-    Propagation::Propagating(t)
+    visit_untrue(words, store, t, f, d, slot, other)
 }

@@ -119,7 +119,7 @@ REASONS = 786432
 abbrev pub PHASES : ℕ
 PHASES = 851968
 
--- whether each variable is seen
+-- the stamp of the last conflict that saw each variable
 abbrev pub SEEN : ℕ
 SEEN = 917504
 
@@ -177,7 +177,7 @@ WATCH-COUNTS = 1966080
 abbrev pub CLAUSE-STARTS : ℕ
 CLAUSE-STARTS = 2097152
 
--- the two watched places of each clause
+-- the two watched literals of each clause
 abbrev pub WATCHED : ℕ
 WATCHED = 2621440
 

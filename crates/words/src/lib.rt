@@ -59,7 +59,7 @@ pub const BLOCKS: usize = 589824;
 
 // How many variables a block has.
 pub const BLOCK: usize = 64;
-// The search, by variable: value, level, reason, phase and whether it is seen.
+// The search, by variable: value, level, reason, phase and the stamp of the last conflict that saw it.
 pub const VALUES: usize = 655360;
 
 pub const LEVELS: usize = 720896;
@@ -106,7 +106,7 @@ pub const WATCH_COUNTS: usize = 1966080;
 pub const CLAUSE_STARTS: usize = 2097152;
 
 pub const STARTS: usize = 524288;
-// The two watched places of a clause, and the next cell of the queue that a slot is in; a cell is twice the clause plus the slot.
+// The two watched literals of a clause, and the next cell of the queue that a slot is in; a cell is twice the clause plus the slot.
 pub const WATCHED: usize = 2621440;
 
 pub const LINKS: usize = 3670016;

@@ -1,3 +1,4 @@
+-- `highest_level` meets its contract. The invariant: the highest so far and the literals that are left decide. Assumes nothing.
 use Prim.Native.Nat.{_-_}
 use Rattle.analysis.specs.LearnedLaws.{Rising, rising-start, rising-step, risen}
 use borrow.Author.Needs.{needs}
@@ -18,7 +19,7 @@ loop-again c =
     let f = c .before .before in
     let l = f .before .before in
     let s = l .before .before in
-    rising-step _ _ _ _ _ _ _ _ (s .pre .0 .words) (s .pre .1) (l .loop .inv) (f .before .loop-test .taken) (f .fetch .ensures) (c .before .level-of .ensures) (c .higher .ensures)
+    rising-step _ _ _ _ _ _ _ _ (s .pre .0 .words) (s .pre .1) (l .loop .inv) (f .before .loop-test .taken) (f .load .ensures) (c .before .level-of .ensures) (c .higher .ensures)
 
 returns : tie.Need-returns Inv-loop μ-loop
 returns c =

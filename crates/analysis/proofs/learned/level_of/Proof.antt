@@ -1,3 +1,4 @@
+-- `level_of` meets its contract: the level is the word of the literal's variable. Assumes nothing.
 use borrow.Author.Needs.{needs}
 use Rattle.analysis.proofs.learned.level_of.Statement.{statement}
 use Rattle.analysis.proofs.learned.level_of.Tie as tie

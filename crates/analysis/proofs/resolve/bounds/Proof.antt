@@ -1,3 +1,4 @@
+-- `bounds` meets its contract: by whether there is such a clause. Assumes nothing.
 use mathlib.Core.Path.{_∙_}
 use Rattle.analysis.specs.RoundLaws.{spans-not, spans}
 use borrow.Author.Needs.{needs}

@@ -1,3 +1,4 @@
+-- `see_clause` meets its contract: its literals lie within the bounds that were found. Assumes nothing.
 use Rattle.analysis.specs.RoundLaws.{sees-clause}
 use borrow.Author.Needs.{needs}
 use Rattle.analysis.proofs.resolve.see_clause.Statement.{statement}
@@ -7,7 +8,7 @@ see-literals-requires : tie.Need-see-literals-requires
 see-literals-requires c κs =
     let b = c .before .before in
     let s = b .before .before .before .before in
-    (s .pre .0, b .bounds .ensures .inside, s .pre .1, rw (b .bounds .ensures .is) (s .pre .2))
+    (s .pre .0, b .bounds .ensures .inside, b .bounds .ensures .below _ (s .pre .1), s .pre .2, rw (b .bounds .ensures .is) (s .pre .3))
 
 returns : tie.Need-returns
 returns c =

@@ -1,3 +1,4 @@
+-- `see_literal` meets its contract: by whether the literal is skipped. Assumes nothing.
 use mathlib.Core.Path.{sym, _∙_}
 use Rattle.analysis.specs.SeeLaws.{sees-not, sees-it, seen-of}
 use borrow.Author.Needs.{needs}
@@ -8,7 +9,7 @@ returns : tie.Need-returns
 returns c =
     let k = c .before in
     let s = k .before .before .before .before in
-    sees-not _ _ _ _ _ _ (s .pre) (sym (c .if1 .taken) ∙ k .skipped .ensures _ (seen-of _ _ _ _))
+    sees-not _ _ _ _ _ _ (s .pre .0) (sym (c .if1 .taken) ∙ k .skipped .ensures _ (seen-of _ _ _ _))
 
 returns-2 : tie.Need-returns-2
 returns-2 c =

@@ -16,16 +16,16 @@ returns c =
     let i = c .before in
     let f = i .before .before .before in
     let s = f .before .before .before .before in
-    chosen-known _ _ _ _ _ _ (s .pre .0) (s .pre .2) (f .fetch .ensures) (ap (λ (x : ℕ). x - 1) (c .wide .ensures)) (i .before .is-current .ensures (i .if1 .taken)) (s .pre .4)
+    chosen-known _ _ _ _ _ _ (s .pre .0) (s .pre .2) (f .load .ensures) (ap (λ (x : ℕ). x - 1) (c .wide .ensures)) (i .before .is-current .ensures (i .if1 .taken)) (s .pre .4)
 
-add-stash : tie.Need-add-stash
-add-stash c =
+add-put : tie.Need-add-put
+add-put c =
     let b = c .before in
     let s = b .before .before .before .before .before .before .before .before .before in
     omega (arith, leads-below _ _ _ _ _ (s .pre .2) (b .scan-block .ensures), s .pre .0 .variables)
 
-cast-stash : tie.Need-cast-stash
-cast-stash c =
+cast-put : tie.Need-cast-put
+cast-put c =
     let b = c .before in
     let s = b .before .before .before .before .before .before .before .before .before in
     omega (arith, leads-below _ _ _ _ _ (s .pre .2) (b .scan-block .ensures), s .pre .0 .variables)
@@ -35,9 +35,9 @@ returns-2 c =
     let t = c .before .before in
     let b = t .before .before in
     let s = b .before .before .before .before .before .before .before .before .before in
-    chosen-anew _ _ _ _ _ _ (s .pre .0) (s .pre .2) (t .stash .ensures .0) (t .stash .ensures .1) (b .scan-block .ensures) (s .pre .4)
+    chosen-anew _ _ _ _ _ _ (s .pre .0) (s .pre .2) (t .put .ensures .0) (t .put .ensures .1) (b .scan-block .ensures) (s .pre .4)
 
 pub block-choice-spec : {M : Type 1} → statement M
 block-choice-spec =
     tie.close
-    (tie.spec (λ c κs. search needs) (λ c κs. search needs) (λ c κs. search needs) sub-result (λ c. search needs) returns (λ c κs. search needs) add-stash cast-stash (λ c κs. search needs) (λ c. search needs) returns-2)
+    (tie.spec (λ c κs. search needs) (λ c κs. search needs) (λ c κs. search needs) sub-result (λ c. search needs) returns (λ c κs. search needs) add-put cast-put (λ c κs. search needs) (λ c. search needs) returns-2)

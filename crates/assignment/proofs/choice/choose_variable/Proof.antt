@@ -2,7 +2,6 @@ use Prim.Native.Nat.{_-_, _*_}
 use native.Mathlib.Omega.{arith}
 use Rattle.words.specs.Layout.{BLOCK}
 use Rattle.assignment.specs.ChooseLaws.{leads-below, Choosing, choosing-start, choosing-step, chooses-none, chooses-one}
-use borrow.Author.Needs.{needs}
 use Rattle.assignment.proofs.choice.choose_variable.Statement.{statement}
 use Rattle.assignment.proofs.choice.choose_variable.Tie as tie
 

@@ -35,7 +35,7 @@ loop-again c =
     let s = l .before .before .before in
     let w = s .args .words .now in
     let k : s .args .end ≤ length (region LITERALS w) = omega (arith, length-region LITERALS w (omega (arith, s .pre .0 .words))) in
-    let e : v .wide .result ≡ Literals.node (getD (region LITERALS (l .loop .words)) (l .loop .i) 0) = v .wide .ensures ∙ v .before .node .ensures ∙ ap Literals.node (f .fetch .ensures) in
+    let e : v .wide .result ≡ Literals.node (getD (region LITERALS (l .loop .words)) (l .loop .i) 0) = v .wide .ensures ∙ v .before .node .ensures ∙ ap Literals.node (f .load .ensures) in
     (adding-step _ _ _ _ _ _ _ _ _ _ _ k (l .loop .inv .0) (f .before .before .loop-test .taken) e (d .add-score .ensures) (g .forget .ensures), g .forget .kept .0 ∙ l .loop .inv .1)
 
 same-length : tie.Need-same-length Inv-loop μ-loop

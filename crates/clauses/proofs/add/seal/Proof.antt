@@ -12,12 +12,12 @@ use Rattle.clauses.proofs.add.seal.Tie as tie
 returns : tie.Need-returns
 unfolding sealedWords
 returns c =
-    let last = c .before .before in
-    let zero = last .before .before .before .before in
-    let start = zero .before .before .before .before in
+    let second = c .before .before in
+    let first = second .before .before .before .before in
+    let start = first .before .before .before .before in
     let a = start .before .before .before .args in
-    let x = zero .stash2 .ensures .0 ∙ ap (λ (w : List ℕ). stored WATCHED w (a .id * 2) 0) (start .stash .ensures .0) in
-    (last .stash3 .ensures .0 ∙ ap (λ (w : List ℕ). stored WATCHED w (a .id * 2 + 1) (a .place)) x, search needs)
+    let x = first .put2 .ensures .0 ∙ ap (λ (w : List ℕ). stored WATCHED w (a .id * 2) (a .first .0)) (start .put .ensures .0) in
+    (second .put3 .ensures .0 ∙ ap (λ (w : List ℕ). stored WATCHED w (a .id * 2 + 1) (a .second .0)) x, search needs)
 
 pub seal-spec : {M : Type 1} → statement M
 seal-spec =

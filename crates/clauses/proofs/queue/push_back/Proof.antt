@@ -17,8 +17,8 @@ returns c =
     let first = tail .before .before .before .before in
     let read = first .before .before in
     let a = read .before .before .before .args in
-    let x = tail .stash .ensures .0 ∙ ap (λ (w : List ℕ). stored WATCH-TAILS w (a .l) (a .cell)) (first .link .ensures .0) in
-    (count .stash2 .ensures .0 ∙ ap₂ (λ (w : List ℕ) (n : ℕ). stored WATCH-COUNTS w (a .l) (n + 1)) x (read .fetch .ensures), search needs)
+    let x = tail .put .ensures .0 ∙ ap (λ (w : List ℕ). stored WATCH-TAILS w (a .l) (a .cell)) (first .link .ensures .0) in
+    (count .put2 .ensures .0 ∙ ap₂ (λ (w : List ℕ) (n : ℕ). stored WATCH-COUNTS w (a .l) (n + 1)) x (read .load .ensures), search needs)
 
 pub push-back-spec : {M : Type 1} → statement M
 push-back-spec =

@@ -8,7 +8,7 @@ add-clause-requires : tie.Need-add-clause-requires
 add-clause-requires c κs =
     let p = c .before .before .before .before in
     let s = p .before .before .before .before in
-    learned-asked _ _ _ _ _ _ (s .args .scores .now) (p .push-learned .ensures) (s .pre .1) (s .pre .3) (s .pre .4) (s .pre .5) (s .pre .6) (s .pre .7)
+    learned-asked _ _ _ _ _ _ (s .args .scores .now) (p .push-learned .ensures) (s .pre .1) (s .pre .3) (s .pre .4) (s .pre .5) (s .pre .6) (s .pre .7) (s .pre .8)
 
 returns : tie.Need-returns
 returns c =

@@ -20,7 +20,7 @@ loop-again c =
     let f = p .before .before in
     let l = f .before .before .before in
     let s = l .before .before in
-    pushing-step _ _ _ _ _ _ _ _ _ (s .pre .2) (l .loop .inv) (f .before .before .loop-test .taken) (f .fetch .ensures) (p .push-literal .ensures) (p .push-literal .kept .0)
+    pushing-step _ _ _ _ _ _ _ _ _ (s .pre .2) (l .loop .inv) (f .before .before .loop-test .taken) (f .load .ensures) (p .push-literal .ensures) (p .push-literal .kept .0)
 
 same-length : tie.Need-same-length Inv-loop μ-loop
 same-length c = c .before .loop .inv .long

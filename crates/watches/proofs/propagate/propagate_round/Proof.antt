@@ -10,7 +10,7 @@ visit-pending-requires : tie.Need-visit-pending-requires
 visit-pending-requires c κs =
     let k = c .before .before .before in
     let a = k .before .before .before .before .before .before .args in
-    advanced-sound (a .store) (a .t) _ _ (k .take-watches .ensures .step .sound)
+    (advanced-sound (a .store) (a .t) _ _ (k .take-watches .ensures .step .sound), k .take-watches .ensures .literal)
 
 returns : tie.Need-returns
 returns c =
@@ -19,7 +19,7 @@ returns c =
     let n = k .before .before in
     let s = n .before .before .before .before in
     let a = s .args in
-    round-done (a .store) (a .t) (a .words .now) (n .negate .result .0) (k .take-watches .result) _ (k .take-watches .ensures) (s .pre .0 .formed .ready) (s .pre .1) (n .negate .ensures ∙ ap Literals.negate (n .before .fetch .ensures)) (v .visit-pending .result) _ (v .visit-pending .ensures .0) (v .visit-pending .ensures .1)
+    round-done (a .store) (a .t) (a .words .now) (n .negate .result .0) (k .take-watches .result) _ (k .take-watches .ensures) (s .pre .0 .formed .ready) (s .pre .1) (n .negate .ensures ∙ ap Literals.negate (n .before .load .ensures)) (v .visit-pending .result) _ (v .visit-pending .ensures .0) (v .visit-pending .ensures .1)
 
 pub propagate-round-spec : {M : Type 1} → statement M
 propagate-round-spec =

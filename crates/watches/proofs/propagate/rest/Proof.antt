@@ -12,7 +12,7 @@ returns : tie.Need-returns
 returns c =
     let f = c .before in
     let a = f .before .before .before .args in
-    (f .fetch .ensures ∙ ap (λ (i : ℕ). getD (region LINKS (a .words .now)) i 0) (f .before .wide .ensures), refl)
+    (f .load .ensures ∙ ap (λ (i : ℕ). getD (region LINKS (a .words .now)) i 0) (f .before .wide .ensures), refl)
 
 pub rest-spec : {M : Type 1} → statement M
 rest-spec = tie.close (tie.spec (λ c κs. search needs) (λ c κs. search needs) (λ c. search needs) returns)

@@ -26,8 +26,8 @@ returns-2 c =
     let s = l .before .before in
     let a = s .args in
     let h : a .f .0 < a .t .variables * 2 = omega (arith, i .if1 .left, l .wide .ensures) in
-    let e : k .stash .last .0 ≡ stored WATCH-COUNTS (a .words .now) (a .f .0) 0 = k .stash .ensures .0 ∙ ap (λ (x : ℕ). stored WATCH-COUNTS (a .words .now) x 0) (l .wide .ensures) in
-    take-some (a .store) (a .t) (a .words .now) (a .f .0) (s .pre) h _ e _ (n .before .before .before .fetch .ensures ∙ ap (λ (x : ℕ). getD (region WATCH-HEADS (a .words .now)) x 0) (l .wide .ensures)) (n .wide2 .ensures ∙ n .before .fetch2 .ensures ∙ ap (λ (x : ℕ). getD (region WATCH-COUNTS (a .words .now)) x 0) (l .wide .ensures))
+    let e : k .put .last .0 ≡ stored WATCH-COUNTS (a .words .now) (a .f .0) 0 = k .put .ensures .0 ∙ ap (λ (x : ℕ). stored WATCH-COUNTS (a .words .now) x 0) (l .wide .ensures) in
+    take-some (a .store) (a .t) (a .words .now) (a .f .0) (s .pre) h _ e _ (n .before .before .before .load .ensures ∙ ap (λ (x : ℕ). getD (region WATCH-HEADS (a .words .now)) x 0) (l .wide .ensures)) (n .wide2 .ensures ∙ n .before .load2 .ensures ∙ ap (λ (x : ℕ). getD (region WATCH-COUNTS (a .words .now)) x 0) (l .wide .ensures))
 
 pub take-watches-spec : {M : Type 1} → statement M
 take-watches-spec =

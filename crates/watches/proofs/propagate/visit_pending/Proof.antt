@@ -2,6 +2,7 @@
 use mathlib.Core.Path.{_≡_}
 use lib.ListN.{length}
 use Rattle.watches.specs.PropagateLaws.{Pends, pends-start, pends-visiting, pends-end, pends-more, pends-complete, conflict-sound, pends-conflict}
+use Rattle.watches.specs.VisitLaws.{cell-there}
 use borrow.Author.Needs.{needs}
 use Rattle.watches.proofs.propagate.visit_pending.Statement.{statement}
 use Rattle.watches.proofs.propagate.visit_pending.Tie as tie
@@ -16,12 +17,15 @@ loop-holds : tie.Need-loop-holds Inv-loop μ-loop
 loop-holds c =
     let s = c .before in
     let a = s .args in
-    (search needs, pends-start (a .store) (a .f .0) (a .start) (a .words .now) (a .first) (s .pre))
+    (search needs, pends-start (a .store) (a .f .0) (a .start) (a .words .now) (a .first) (s .pre .0) (s .pre .1))
 
 rest-requires : tie.Need-rest-requires Inv-loop μ-loop
 rest-requires c κs =
-    let l = c .before .before .before .loop in
-    (l .inv .1 .step .sound .formed .ready .words, c .before .if1 .taken)
+    let p = c .before .before .before in
+    let l = p .loop in
+    let a = p .before .before .args in
+    let v = pends-visiting (a .store) (a .f .0) (a .start) (a .words .now) (a .first) (l .t) (l .words) (l .d) (l .inv .1) (c .before .if1 .taken) in
+    (l .inv .1 .step .sound .formed .ready .words, c .before .if1 .taken, cell-there (a .store) (l .t) (l .words) (l .d) v)
 
 visit-requires : tie.Need-visit-requires Inv-loop μ-loop
 visit-requires c κs =

@@ -1,4 +1,5 @@
 -- `enqueue` meets its contract: by the literal's value. Assumes nothing.
+use native.Mathlib.Omega.{arith}
 use Rattle.watches.specs.UnitLaws.{unit-true, unit-false, unit-room, unit-assigned}
 use borrow.Author.Needs.{needs}
 use Rattle.watches.proofs.units.enqueue.Statement.{statement}
@@ -9,7 +10,7 @@ assign-requires c κs =
     let v = c .before .before .before in
     let s = v .before .before .before in
     let a = s .args in
-    (s .pre .0 .formed .ready, unit-room (a .store) (a .t) (a .words .now) (a .l .0) (a .reason) (s .pre .0) (v .value .ensures) (c .before .enum-told3 .given .1) (s .pre .1))
+    (s .pre .0 .formed .ready, unit-room (a .store) (a .t) (a .words .now) (a .l .0) (a .reason) (s .pre .0) (v .value .ensures) (c .before .enum-told3 .given .1) (s .pre .1), omega (arith, s .pre .1, s .pre .0 .formed .ready .variables))
 
 returns : tie.Need-returns
 returns c =

@@ -1,6 +1,7 @@
 -- `visit_enqueued` meets its contract: by the other literal's value after the push. Assumes nothing.
 use Prim.Native.Nat.{ℕ}
 use mathlib.Core.Path.{_≡_, ap, _∙_}
+use native.Mathlib.Omega.{arith}
 use Rattle.clauses.specs.Queue.{pushedWords}
 use Rattle.watches.specs.VisitLaws.{queue-room, enqueued-true, enqueued-false, enqueued-assigned, assign-room, kept-visits}
 use borrow.Author.Needs.{needs}
@@ -11,7 +12,7 @@ push-back-requires : tie.Need-push-back-requires
 push-back-requires c κs =
     let s = c .before .before .before in
     let a = s .args in
-    (s .pre .0 .sound .formed .ready .words, queue-room (a .store) (a .t) (a .words .now) (a .d) (s .pre .0) (c .wide .result))
+    (s .pre .0 .sound .formed .ready .words, queue-room (a .store) (a .t) (a .words .now) (a .d) (s .pre .0) (c .wide .result) (omega (arith, c .wide .ensures, s .pre .2)))
 
 assign-requires : tie.Need-assign-requires
 assign-requires c κs =
@@ -20,8 +21,9 @@ assign-requires c κs =
     let s = b .before .before .before .before in
     let a = s .args in
     let e : b .push-back .last .0 ≡ pushedWords (a .words .now) (a .f .0) (a .d .cell) = b .push-back .ensures .0 ∙ ap (λ (l : ℕ). pushedWords (a .words .now) l (a .d .cell)) (b .before .wide .ensures) in (
-      rw e (kept-visits (a .store) (a .t) (a .words .now) (a .d) (s .pre .0) (a .f .0) .step .sound .formed .ready),
-      assign-room (a .store) (a .t) (a .words .now) (a .d) (s .pre .0) (a .f .0) (a .other .0) _ e (v .value .ensures) (c .before .enum-told3 .given .1) (s .pre .1),
+      rw e (kept-visits (a .store) (a .t) (a .words .now) (a .d) (s .pre .0) (a .f .0) (s .pre .2) .step .sound .formed .ready),
+      assign-room (a .store) (a .t) (a .words .now) (a .d) (s .pre .0) (a .f .0) (s .pre .2) (a .other .0) _ e (v .value .ensures) (c .before .enum-told3 .given .1) (s .pre .1),
+      omega (arith, s .pre .1, s .pre .0 .sound .formed .ready .variables),
     )
 
 returns : tie.Need-returns
@@ -31,7 +33,7 @@ returns c =
     let s = b .before .before .before .before in
     let a = s .args in
     let e : b .push-back .last .0 ≡ pushedWords (a .words .now) (a .f .0) (a .d .cell) = b .push-back .ensures .0 ∙ ap (λ (l : ℕ). pushedWords (a .words .now) l (a .d .cell)) (b .before .wide .ensures) in
-    enqueued-true (a .store) (a .t) (a .words .now) (a .d) (s .pre .0) (a .f .0) (a .other .0) _ e (v .value .ensures) (c .enum-told .given .1)
+    enqueued-true (a .store) (a .t) (a .words .now) (a .d) (s .pre .0) (a .f .0) (s .pre .2) (a .other .0) _ e (v .value .ensures) (c .enum-told .given .1)
 
 returns-2 : tie.Need-returns-2
 returns-2 c =
@@ -40,7 +42,7 @@ returns-2 c =
     let s = b .before .before .before .before in
     let a = s .args in
     let e : b .push-back .last .0 ≡ pushedWords (a .words .now) (a .f .0) (a .d .cell) = b .push-back .ensures .0 ∙ ap (λ (l : ℕ). pushedWords (a .words .now) l (a .d .cell)) (b .before .wide .ensures) in
-    enqueued-false (a .store) (a .t) (a .words .now) (a .d) (s .pre .0) (a .f .0) (a .other .0) _ e (v .value .ensures) (c .before .enum-told2 .given .1) (c .wide2 .ensures)
+    enqueued-false (a .store) (a .t) (a .words .now) (a .d) (s .pre .0) (a .f .0) (s .pre .2) (a .other .0) _ e (v .value .ensures) (c .before .enum-told2 .given .1) (c .wide2 .ensures)
 
 returns-3 : tie.Need-returns-3
 returns-3 c =
@@ -50,7 +52,7 @@ returns-3 c =
     let s = b .before .before .before .before in
     let a = s .args in
     let e : b .push-back .last .0 ≡ pushedWords (a .words .now) (a .f .0) (a .d .cell) = b .push-back .ensures .0 ∙ ap (λ (l : ℕ). pushedWords (a .words .now) l (a .d .cell)) (b .before .wide .ensures) in
-    enqueued-assigned (a .store) (a .t) (a .words .now) (a .d) (s .pre .0) (a .f .0) (a .other .0) _ e (v .value .ensures) (n .before .before .enum-told3 .given .1) (s .pre .1) _ _ (n .assign .ensures)
+    enqueued-assigned (a .store) (a .t) (a .words .now) (a .d) (s .pre .0) (a .f .0) (s .pre .2) (a .other .0) _ e (v .value .ensures) (n .before .before .enum-told3 .given .1) (s .pre .1) _ _ (n .assign .ensures)
 
 pub visit-enqueued-spec : {M : Type 1} → statement M
 visit-enqueued-spec =
