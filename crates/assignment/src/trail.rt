@@ -63,6 +63,21 @@ pub fn value(words: &[u32], t: Trail, literal: Literal) -> Value
     }
 }
 
+// Whether a literal of the variables is not false.
+pub fn not_false(words: &[u32], t: Trail, literal: Literal) -> bool
+    requires { ⌜ TrailReady t (now words) × (literal .0 < t .variables * 2) ⌝ }
+    ensures { λ r. ⌜ r ≡ Sat.notFalse (Sat.value (assignmentOf t (now (words .entry))) (literal .0)) ⌝ }
+{
+    let word = load(words, VALUES, wide(literal.node()));
+    if word == 0 {
+        return true;
+    }
+    if (word % 2 == 1) == literal.inverted() {
+        return false;
+    }
+    true
+}
+
 // An unassigned literal made true; a reason is 0 for none, and one more than the number of its clause.
 pub fn assign(words: &mut [u32], t: Trail, literal: Literal, reason: u32) -> Trail
     requires { ⌜ TrailReady t (now words) × (t .length < SMALL) × (literal .0 < DOUBLE) ⌝ }

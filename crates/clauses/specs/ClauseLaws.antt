@@ -15,10 +15,8 @@ use Rattle.words.specs.Region.{region, length-region}
 use Rattle.model.specs.Sat as Sat
 use Rattle.model.specs.Sat.{Assignment}
 use Rattle.laws.specs.Search.State.{Apart}
-use Rattle.assignment.specs.State.{assignmentOf, valueOf}
+use Rattle.assignment.specs.State.{assignmentOf}
 use Rattle.assignment.specs.declared.state.Trail.{Trail}
-use Rattle.assignment.specs.declared.state.Value.{Value}
-use Rattle.assignment.specs.declared.state.Value.the-variants as Values
 use Rattle.clauses.specs.declared.state.Clause.{Clause}
 use Rattle.clauses.specs.Clauses.{clauseAt, literalsOf, placeIn, Stands, stands-at, place-at}
 use Rattle.clauses.specs.State.{spanOf, clauseOf, isSpare, canWatch, Watchable}
@@ -64,16 +62,15 @@ module _ (c : Clause) (l : ℕ) where
   unfolding isSpare
   is-second n {b} e = rw (ne-eqb l (c .first .0) n) e
 
-  module _ (t : Assignment) {v : Value} (e : valueOf v ≡ Sat.value t l) where
-    -- a false one cannot
-    pub watch-false : v ≡ Values.False → false ≡ canWatch t c l
-    unfolding canWatch Sat.notFalse
-    watch-false g = rw (← e, g, and-false)
+  -- a literal that is not false can be watched where it is none of them
+  pub watch-other : (t : Assignment) → true ≡ Sat.notFalse (Sat.value t l) → {b : Bool} → b ≡ isSpare c l → b ≡ canWatch t c l
+  unfolding canWatch isSpare
+  watch-other t e {b} k = rw (← e, and-true) k
 
-    -- another one can where it is not watched
-    pub watch-other : {u : Value} → v ≡ u → Sat.notFalse (valueOf u) ≡ true → {b : Bool} → b ≡ isSpare c l → b ≡ canWatch t c l
-    unfolding canWatch isSpare
-    watch-other {u} g h {b} k = rw (← e, g, h, and-true) k
+  -- a false one cannot
+  pub watch-false : (t : Assignment) → false ≡ Sat.notFalse (Sat.value t l) → false ≡ canWatch t c l
+  unfolding canWatch
+  watch-false t e = rw (← e, and-false)
 
 -- among distinct literals, the place of one that stands there is told by the literal
 same-place : (ls : List ℕ) (f i : ℕ) → Apart ls → Stands f ls → i < length ls → eqb i (placeIn f ls) ≡ eqb (getD ls i 0) f

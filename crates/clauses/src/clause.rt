@@ -10,8 +10,7 @@ ghost use Rattle.clauses.specs.State.{spanOf, isSpare, canWatch, Watchab
 use crate::state::Clause;
 use crate::state::Spare;
 use assignment::state::Trail;
-use assignment::state::Value;
-use assignment::trail::value;
+use assignment::trail::not_false;
 use literals::Literal;
 use words::CLAUSE_STARTS;
 use words::LITERALS;
@@ -54,11 +53,10 @@ fn can_watch(words: &[u32], t: Trail, c: Clause, l: Literal) -> bool
     requires { ⌜ TrailReady t (now words) × (l .0 < t .variables * 2) ⌝ }
     ensures { λ r. ⌜ r ≡ canWatch (assignmentOf t (now (words .entry))) c (l .0) ⌝ }
 {
-    match value(words, t, l) {
-        Value::False => false,
-        Value::Unassigned => is_spare(c, l),
-        Value::True => is_spare(c, l),
+    if not_false(words, t, l) {
+        return is_spare(c, l);
     }
+    false
 }
 
 // The first literal of a clause that is neither watched nor false.
