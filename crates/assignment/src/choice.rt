@@ -8,11 +8,9 @@ ghost use Rattle.assignment.specs.State.{TrailReady};
 ghost use Rattle.assignment.specs.Blocks.{Unsigned, KnownIn, LeadsIn, higherOf, Betters, firstOf, endOf, Current, BlockChosen, Chooses};
 use crate::state::Choice;
 use crate::state::Trail;
-use crate::trail::fetch_below;
 use crate::trail::load_below;
 use words::BLOCK;
 use words::BLOCKS;
-use words::SMALL;
 use words::VALUES;
 use words::load;
 use words::lower;
@@ -42,7 +40,14 @@ fn better(words: &[u32], scores: &[f64], t: Trail, best: usize, variable: usize)
     if load_below(words, VALUES, n, variable) != 0 {
         return best;
     }
-    higher(scores, best, variable)
+    if best == 0 {
+        return variable;
+    }
+    if scores[best] < scores[variable] {
+        variable
+    } else {
+        best
+    }
 }
 
 // The first variable of a block; variable 0 is never chosen.
@@ -70,7 +75,7 @@ fn scan_block(words: &[u32], scores: &[f64], t: Trail, block: usize) -> usize
 
 // Whether what a block's word says is so: it says something, and the variable that it names, if it names one, is unassigned.
 fn is_current(words: &[u32], t: Trail, known: u32) -> bool
-    requires { ⌜ TrailReady t (now words) ⌝ }
+    requires { ⌜ TrailReady t (now words) × (1 < known → known ≤ t .variables) ⌝ }
     ensures { λ r. ⌜ (r ≡ true → Current t (now (words .entry)) known) ⌝ }
 {
     if known == 0 {
@@ -81,7 +86,7 @@ fn is_current(words: &[u32], t: Trail, known: u32) -> bool
         return true;
     }
     let n = t.variables;
-    fetch_below(words, VALUES, SMALL, n, variable) == 0
+    load_below(words, VALUES, n, variable) == 0
 }
 
 // The choice of a block: by its word where that is so, else found anew and kept in its word.

@@ -6,6 +6,12 @@ use borrow.Author.Needs.{needs}
 use Rattle.assignment.proofs.choice.block_choice.Statement.{statement}
 use Rattle.assignment.proofs.choice.block_choice.Tie as tie
 
+is-current-requires : tie.Need-is-current-requires
+is-current-requires c κs =
+    let f = c .before in
+    let s = f .before .before .before .before in
+    (s .pre .0, λ h. rw (f .load .ensures) (s .pre .4 .inside (s .args .block) (s .pre .2) (rw (f .load .ensures) at h) .1))
+
 sub-result : tie.Need-sub-result
 sub-result c =
     let i = c .before in
@@ -40,4 +46,4 @@ returns-2 c =
 pub block-choice-spec : {M : Type 1} → statement M
 block-choice-spec =
     tie.close
-    (tie.spec (λ c κs. search needs) (λ c κs. search needs) (λ c κs. search needs) sub-result (λ c. search needs) returns (λ c κs. search needs) add-put cast-put (λ c κs. search needs) (λ c. search needs) returns-2)
+    (tie.spec (λ c κs. search needs) is-current-requires (λ c κs. search needs) sub-result (λ c. search needs) returns (λ c κs. search needs) add-put cast-put (λ c κs. search needs) (λ c. search needs) returns-2)
