@@ -3,13 +3,13 @@ use mathlib.Core.Path.{_≡_, refl, ap, sym, _∙_}
 use mathlib.Core.Bool.{Bool, true, false, not, cond, Bool·beq}
 use mathlib.Core.List.{List, [], _∷_, _++_, map}
 use mathlib.Core.Logic.{⊎-elim}
-use Prim.Native.Nat.{ℕ, zero, suc, _+_, _-_, _%_, _<_, _≤_}
+use Prim.Native.Nat.{ℕ, zero, suc, _+_, _-_, _*_, _%_, _<_, _≤_}
 use native.Mathlib.Omega.{arith}
 use lib.Dec.{eqb}
 use borrow.Author.Tests.{eqb-true}
 use mir.Val.{boolByte}
 use lib.ListN.{length, take, set, getD, length-take, length-map, List·getD-map, List·getD-eq-default}
-use lib.Seq.{take-set-lt, take-set-le, set-out, length-take-le}
+use lib.Seq.{take-set-lt, take-set-le, set-out, getD-take, length-take-le}
 use Rattle.facts.specs.Bools.{and-left, and-right, both-and}
 use Rattle.facts.specs.Numbers.{below}
 use Rattle.words.specs.Layout.{LENT, SMALL, VALUES, LEVELS, REASONS, PHASES, TRAIL, LIMITS}
@@ -97,10 +97,14 @@ unfolding wordBit
 bit-true zero n = absurd (n refl)
 bit-true (suc p) n = refl
 
--- the value of a literal, from the word of its variable
-pub value-is : (t : Trail) (w : List ℕ) (l : ℕ) → Sat.value (assignmentOf t w) l ≡ Sat.literalValue (Literals.inverted l) (wordValue (getD (column (t .variables) VALUES w) (Literals.node l) 0))
-unfolding Sat.value assignmentOf wordValue
-value-is t w l = ap (λ (v : Sat.Value). Sat.literalValue (Literals.inverted l) v) (List·getD-map wordValue (column (t .variables) VALUES w) (Literals.node l) 0)
+-- the value of a literal of the variables, from the word of its variable
+pub value-is : (t : Trail) (w : List ℕ) (l v x : ℕ) → l < t .variables * 2 → v ≡ Literals.node l → x ≡ getD (region VALUES w) v 0
+    → Sat.value (assignmentOf t w) l ≡ Sat.literalValue (Literals.inverted l) (wordValue x)
+unfolding Sat.value assignmentOf wordValue Literals.node
+value-is t w l v x b e r =
+    ap (λ (y : Sat.Value). Sat.literalValue (Literals.inverted l) y) (List·getD-map wordValue (column (t .variables) VALUES w) (Literals.node l) 0)
+    ∙ ap (λ (y : ℕ). Sat.literalValue (Literals.inverted l) (wordValue y))
+    (getD-take (t .variables) (region VALUES w) (Literals.node l) 0 (omega (arith, b)) ∙ ap (λ (i : ℕ). getD (region VALUES w) i 0) (sym e) ∙ sym r)
 
 -- ---- the frame
 

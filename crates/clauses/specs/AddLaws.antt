@@ -11,7 +11,7 @@ use borrow.Author.Tests.{not-true, eq-eqb, ne-eqb}
 use lib.ListN.{set, getD, length, length-set}
 use lib.Seq.{slice, slice-cons, slice-empty, length-slice, getD-set-same, getD-set-other}
 use Rattle.facts.specs.Numbers.{below}
-use Rattle.words.specs.Layout.{LENT, STARTS, CELLS, POOL, BLOCKS, WATCH-COUNTS, CLAUSE-STARTS, WATCHED, LITERALS}
+use Rattle.words.specs.Layout.{LENT, STARTS, POOL, BLOCKS, CLAUSE-STARTS, WATCHED, LITERALS}
 use Rattle.words.specs.Region.{region, stores, length-stored, length-region}
 use Rattle.model.specs.Lists.{snoc, member}
 use Rattle.model.specs.Sat as Sat
@@ -257,11 +257,13 @@ module _ (m : Store) (t : Trail) (w : List ℕ) where
 
   -- the literals of a clause to come
   module _ (count : ℕ) (a : Attachable m t w count) (x : ℕ) (ex : x ≡ getD (region LITERALS w) (m .literals) 0) where
-    first-stands : Stands x (poolLiterals m count w)
-    first-stands =
+    is-first : getD (poolLiterals m count w) 0 0 ≡ x
+    is-first =
         let e : m .literals + 0 ≡ m .literals = omega arith in
-        let z : getD (poolLiterals m count w) 0 0 ≡ x = slice-in (m .literals) (m .literals + count) 0 (region LITERALS w) (omega (arith, a .some)) ∙ ap (λ (i : ℕ). getD (region LITERALS w) i 0) e ∙ sym ex in
-        rw z at (stands-at (poolLiterals m count w) 0 (omega (arith, pool-count m w count (a .sound .formed .ready .words) (a .literals), a .some)))
+        slice-in (m .literals) (m .literals + count) 0 (region LITERALS w) (omega (arith, a .some)) ∙ ap (λ (i : ℕ). getD (region LITERALS w) i 0) e ∙ sym ex
+
+    first-stands : Stands x (poolLiterals m count w)
+    first-stands = rw is-first at (stands-at (poolLiterals m count w) 0 (omega (arith, pool-count m w count (a .sound .formed .ready .words) (a .literals), a .some)))
 
     module _ (b : 1 < count) (y : ℕ) (ey : y ≡ getD (region LITERALS w) (m .literals + 1) 0) where
       is-second : getD (poolLiterals m count w) 1 0 ≡ y
@@ -274,10 +276,7 @@ module _ (m : Store) (t : Trail) (w : List ℕ) where
       second-stands = rw is-second at (stands-at (poolLiterals m count w) 1 long)
 
       two-differ : x ≡ y → ⊥
-      two-differ z =
-          let e : m .literals + 0 ≡ m .literals = omega arith in
-          let f : getD (poolLiterals m count w) 0 0 ≡ x = slice-in (m .literals) (m .literals + count) 0 (region LITERALS w) (omega (arith, a .some)) ∙ ap (λ (i : ℕ). getD (region LITERALS w) i 0) e ∙ sym ex in
-          a .apart 0 1 (λ o. omega arith) (omega (arith, long)) long (f ∙ z ∙ sym is-second)
+      two-differ z = a .apart 0 1 (λ o. omega arith) (omega (arith, long)) long (is-first ∙ z ∙ sym is-second)
 
   pub attach-unit : (a : Attachable m t w 1) → (x : ℕ) → x ≡ getD (region LITERALS w) (m .literals) 0 → (u : List ℕ)
       → u ≡ pushedWords (sealedWords w (m .clauses) (m .literals + 1) x x) x (m .clauses * 2) → Attached m t w 1 (grown m 1) u

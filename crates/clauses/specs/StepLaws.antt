@@ -24,7 +24,6 @@ use Rattle.assignment.specs.KnownLaws.{assign-grows}
 use Rattle.assignment.specs.declared.state.Trail.{Trail}
 use Rattle.laws.specs.Search.Values.{unset-literal}
 use Rattle.clauses.specs.declared.state.Store.{Store}
-use Rattle.clauses.specs.declared.state.Clause.{Clause}
 use Rattle.clauses.specs.Tabulate.{tabulate-set}
 use Rattle.clauses.specs.Queue.{queuesOf, linked, pushedWords, walk}
 use Rattle.clauses.specs.Sound.{SoundQueues}

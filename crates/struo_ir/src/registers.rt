@@ -8,7 +8,7 @@ use fields::read_code_below;
 use fields::read_name;
 use fields::read_number;
 ghost use mathlib.Core.Path.{_≡_};
-ghost use Prim.Native.Nat.{_+_, _≤_};
+ghost use Prim.Native.Nat.{_≤_};
 ghost use mathlib.Core.List.{[], _∷_};
 ghost use lib.ListN.{length};
 ghost use Rattle.struo_ir.specs.Registers.{registerStep, fixed, enabled, resettable, registerAt, registerEdge, registerEnable, registerReset, resetFields, RegistersRead};

@@ -128,20 +128,21 @@ module _ (m : Store) (t : Trail) (w : List ℕ) (d : Pending) (v : Visiting m t 
                   ∙ rw (assignment-kept, add-one, e) (ap (λ (q : Solver). Sat.withAssignment q (Sat.assign (assignmentOf t w) o (some (half (d .cell))))) (kept s)))),
             )
 
+  -- a literal that stands in the clause is one of the variables'
+  pub stands-range : (l : ℕ) → Stands l (literalsOf w (half (d .cell))) → l < t .variables * 2
+  stands-range l z = rw (← z) (literal-range m t w (v .sound .formed) (half (d .cell)) clause-there (placeIn l (literalsOf w (half (d .cell)))))
+
   -- the clause of the first pending cell given to another literal
   module _ (k l : ℕ) (b : k < 2) (there : Stands l (literalsOf w (half (d .cell)))) where
-    pub replaced-range : l < t .variables * 2
-    replaced-range = rw (← there) (literal-range m t w (v .sound .formed) (half (d .cell)) clause-there (placeIn l (literalsOf w (half (d .cell)))))
-
     pub replaced : Visits m t w d t (replacedWords w (d .cell) k l)
         × ((s : Solver) → solverOf s m t (replacedWords w (d .cell) k l) ≡ Sat.replaceWatch (half (d .cell)) (solverOf s m t w) (clauseAt w (half (d .cell))) (slotOf k) (placeIn l (literalsOf w (half (d .cell)))))
     unfolding restOf
     replaced = (
       record {
-        step = replace-step m t w (d .cell) k l b there (restOf d w w) visit-sound replaced-range;
-        same = replace-pending m t w (d .cell) k l b there (restOf d w w) visit-sound replaced-range (d .left - 1) (getD (region LINKS w) (d .cell) 0) refl;
+        step = replace-step m t w (d .cell) k l b there (restOf d w w) visit-sound (stands-range l there);
+        same = replace-pending m t w (d .cell) k l b there (restOf d w w) visit-sound (stands-range l there) (d .left - 1) (getD (region LINKS w) (d .cell) 0) refl;
       },
-      λ s. replace-solver m t w (d .cell) k l b there (restOf d w w) visit-sound replaced-range clause-there s,
+      λ s. replace-solver m t w (d .cell) k l b there (restOf d w w) visit-sound (stands-range l there) clause-there s,
     )
 
   -- its clause as it is read: what is asked where its spare literal is looked for
@@ -205,10 +206,6 @@ module _ (m : Store) (t : Trail) (w : List ℕ) (d : Pending) (v : Visiting m t 
   second-stands : Stands b (literalsOf w (half (d .cell)))
   second-stands = rw eb (v .sound .formed .watching .second (half (d .cell)) (clause-there m t w d v))
 
-  -- a literal that stands in the clause is one of the variables'
-  stands-range : (l : ℕ) → Stands l (literalsOf w (half (d .cell))) → l < t .variables * 2
-  stands-range l z = rw (← z) (literal-range m t w (v .sound .formed) (half (d .cell)) (clause-there m t w d v) (placeIn l (literalsOf w (half (d .cell)))))
-
   first-is : Sat.watched0 (clauseAt w (half (d .cell))) ≡ a
   unfolding Sat.watched0 clauseAt
   first-is = rw (← ea) first-stands
@@ -247,8 +244,8 @@ module _ (m : Store) (t : Trail) (w : List ℕ) (d : Pending) (v : Visiting m t 
         some-slot (suc (suc k)) h z = omega arith
 
         go : (p q : Bool) → eqb a f ≡ p → eqb b f ≡ q → f < t .variables * 2
-        go true q g h = rw (← eqb-true a f g) (stands-range a first-stands)
-        go false true g h = rw (← eqb-true b f h) (stands-range b second-stands)
+        go true q g h = rw (← eqb-true a f g) (stands-range m t w d v a first-stands)
+        go false true g h = rw (← eqb-true b f h) (stands-range m t w d v b second-stands)
         go false false g h = absurd (some-slot n low (rw (g, h) at e))
 
     module _ (low : n ≤ 1) (o : ℕ) (eo : o ≡ otherBy n a b) where
@@ -267,8 +264,8 @@ module _ (m : Store) (t : Trail) (w : List ℕ) (d : Pending) (v : Visiting m t 
       other-range = rw eo (go n)
         where
           go : (k : ℕ) → otherBy k a b < t .variables * 2
-          go zero = stands-range b second-stands
-          go (suc k) = stands-range a first-stands
+          go zero = stands-range m t w d v b second-stands
+          go (suc k) = stands-range m t w d v a first-stands
 
       by-other : (s : Solver) → Sat.visit f (half (d .cell)) (solverOf s m t w) ≡ Sat.visitOther f (half (d .cell)) (solverOf s m t w) (clauseAt w (half (d .cell))) (slotOf n) (Sat.value (assignmentOf t w) o)
       unfolding solverOf Sat.visitSlot slotOf

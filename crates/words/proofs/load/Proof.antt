@@ -1,3 +1,4 @@
+-- `load` meets its contract: the place is in the region. Assumes nothing.
 use native.Mathlib.Omega.{arith}
 use Rattle.words.specs.Region.{read}
 use borrow.Author.Needs.{needs}

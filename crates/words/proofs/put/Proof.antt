@@ -1,3 +1,4 @@
+-- `put` meets its contract: the place is in the region. Assumes nothing.
 use borrow.Author.Tests.{lt-ltb}
 use Rattle.words.specs.Region.{stored}
 use borrow.Author.Needs.{needs}

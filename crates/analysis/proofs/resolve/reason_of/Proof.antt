@@ -1,6 +1,5 @@
 -- `reason_of` meets its contract: the word of a reason, less one, is its clause. Assumes nothing.
 use mathlib.Core.Path.{_∙_}
-use Prim.Native.Nat.{_-_}
 use Rattle.analysis.specs.RoundLaws.{reason-is}
 use borrow.Author.Needs.{needs}
 use Rattle.analysis.proofs.resolve.reason_of.Statement.{statement}

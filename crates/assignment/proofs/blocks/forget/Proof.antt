@@ -1,3 +1,4 @@
+-- `forget` meets its contract: by whether the variable is unassigned. Assumes nothing.
 use Rattle.assignment.specs.KnownLaws.{forgets, forgets-not}
 use borrow.Author.Needs.{needs}
 use Rattle.assignment.proofs.blocks.forget.Statement.{statement}

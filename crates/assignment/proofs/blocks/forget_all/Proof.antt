@@ -1,3 +1,4 @@
+-- `forget_all` meets its contract: the words of all blocks are cleared. Assumes nothing.
 use Rattle.assignment.specs.KnownLaws.{forgets-all}
 use borrow.Author.Needs.{needs}
 use Rattle.assignment.proofs.blocks.forget_all.Statement.{statement}

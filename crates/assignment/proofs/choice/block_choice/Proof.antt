@@ -1,3 +1,4 @@
+-- `block_choice` meets its contract: by whether the block's word is current. Assumes nothing.
 use mathlib.Core.Path.{ap}
 use Prim.Native.Nat.{ℕ, _-_}
 use native.Mathlib.Omega.{arith}

@@ -1,3 +1,4 @@
+-- `choose_variable` meets its contract. The invariant: the best of the blocks so far, and what their words say holds. Assumes nothing.
 use Prim.Native.Nat.{_-_, _*_}
 use native.Mathlib.Omega.{arith}
 use Rattle.words.specs.Layout.{BLOCK}

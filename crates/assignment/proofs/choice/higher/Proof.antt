@@ -1,3 +1,4 @@
+-- `higher` meets its contract: by whether there is a variable on each side, then by the scores. Assumes nothing.
 use mathlib.Core.Bool.{true, false}
 use Rattle.assignment.specs.ChooseLaws.{higher-none, higher-first, higher-compared}
 use borrow.Author.Needs.{needs}

@@ -1,3 +1,4 @@
+-- `scan_block` meets its contract. The invariant: the best of the block's variables so far. Assumes nothing.
 use Prim.Native.Nat.{_-_}
 use native.Mathlib.Omega.{arith}
 use Rattle.assignment.specs.ChooseLaws.{Scanning, scanning-start, scanning-step, scanned}

@@ -1,3 +1,4 @@
+-- `add_ones` meets its contract. The invariant: the scores of the literals so far are raised by one, and their blocks forgotten. Assumes nothing.
 use mathlib.Core.Path.{_≡_, refl, ap, _∙_}
 use Prim.Native.Nat.{_≤_, _-_}
 use native.Mathlib.Omega.{arith}

@@ -1,3 +1,4 @@
+-- `add_score` meets its contract: by whether the variable has a score. Assumes nothing.
 use Rattle.assignment.specs.ScoreLaws.{raised, raised-not}
 use borrow.Author.Needs.{needs}
 use Rattle.assignment.proofs.scores.add_score.Statement.{statement}

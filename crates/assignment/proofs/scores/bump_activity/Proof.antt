@@ -1,3 +1,4 @@
+-- `bump_activity` meets its contract: by whether the variable has a score, and by the ceiling. Assumes nothing.
 use mathlib.Core.Path.{refl}
 use lib.ListN.{length-set}
 use Rattle.assignment.specs.ScoreLaws.{bumps-not, bumps-below, bumps-above}

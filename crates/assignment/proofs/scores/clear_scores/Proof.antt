@@ -1,3 +1,4 @@
+-- `clear_scores` meets its contract. The invariant: the scores so far are zero, the others as they were. Assumes nothing.
 use lib.Ieee as Ieee
 use mathlib.Core.Path.{refl}
 use Prim.Native.Nat.{_-_}

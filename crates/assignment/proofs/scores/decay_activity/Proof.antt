@@ -1,3 +1,4 @@
+-- `decay_activity` meets its contract: the division is that of the definition. Assumes nothing.
 use Rattle.model.specs.Sat as Sat
 use Rattle.assignment.specs.Scores.{scoresOf}
 use Rattle.assignment.proofs.scores.decay_activity.Statement.{statement}

@@ -1,3 +1,4 @@
+-- `rescale` meets its contract. The invariant: the scores so far are rescaled, the others as they were. Assumes nothing.
 use mathlib.Core.Path.{ap}
 use Prim.Native.Nat.{_-_}
 use lib.Ieee.{Float, binary64, nan}

@@ -1,3 +1,4 @@
+-- `rescale_factor` meets its contract: the bits of the number. Assumes nothing.
 use lib.Ieee as Ieee
 use mathlib.Core.Path.{refl}
 use Rattle.model.specs.Sat as Sat

@@ -1,3 +1,4 @@
+-- `start` meets its contract: the bits of the three numbers. Assumes nothing.
 use lib.Ieee as Ieee
 use mathlib.Core.Path.{refl}
 use Rattle.model.specs.Sat as Sat

@@ -1,3 +1,4 @@
+-- `assign` meets its contract: its five stores are those of the definition's assignment. Assumes nothing.
 use mathlib.Core.Path.{_≡_, ap, _∙_}
 use Prim.Native.Nat.{ℕ, _<_}
 use mir.Val.{boolByte}

@@ -1,3 +1,4 @@
+-- `backtrack` meets its contract: by whether there is a level above. Assumes nothing.
 use mathlib.Core.Path.{_∙_}
 use Rattle.assignment.specs.BacktrackLaws.{backtracks-not, backtracks}
 use borrow.Author.Needs.{needs}

@@ -1,3 +1,4 @@
+-- `decide` meets its contract: a level begins, then the literal is assigned. Assumes nothing.
 use mathlib.Core.Path.{sym, subst}
 use Prim.Native.Nat.{ℕ, _<_}
 use native.Mathlib.Omega.{arith}

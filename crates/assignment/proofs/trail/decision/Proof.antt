@@ -1,3 +1,4 @@
+-- `decision` meets its contract: by the variable's phase. Assumes nothing.
 use mathlib.Core.Path.{_≡_, ap, _∙_}
 use Rattle.model.specs.Literal as Literals
 use Rattle.words.specs.Layout.{PHASES}

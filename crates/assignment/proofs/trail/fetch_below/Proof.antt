@@ -1,3 +1,4 @@
+-- `fetch_below` meets its contract: by whether the place is below the count. Assumes nothing.
 use lib.Seq.{getD-take}
 use Rattle.assignment.specs.StateLaws.{getD-past}
 use borrow.Author.Needs.{needs}

@@ -1,3 +1,4 @@
+-- `new` meets its contract: the five regions that are cleared. Assumes nothing.
 use Rattle.assignment.specs.DecideLaws.{clears, news}
 use borrow.Author.Needs.{needs}
 use Rattle.assignment.proofs.trail.new.Statement.{statement}

@@ -1,3 +1,4 @@
+-- `push_limit` meets its contract: one store of the trail's length. Assumes nothing.
 use mathlib.Core.Path.{refl}
 use Rattle.assignment.specs.DecideLaws.{pushes-limit}
 use borrow.Author.Needs.{needs}

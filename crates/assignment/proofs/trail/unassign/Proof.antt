@@ -1,3 +1,4 @@
+-- `unassign` meets its contract: its four stores are those of the definition's step back. Assumes nothing.
 use mathlib.Core.Path.{_∙_}
 use Rattle.assignment.specs.BacktrackLaws.{unassigns}
 use borrow.Author.Needs.{needs}

@@ -1,3 +1,4 @@
+-- `unassign_from` meets its contract. The invariant: the literals of the trail up to here are unassigned. Assumes nothing.
 use Prim.Native.Nat.{_-_}
 use Rattle.assignment.specs.BacktrackLaws.{Undoing, undoing-start, undoing-step, undoing-end}
 use borrow.Author.Needs.{needs}

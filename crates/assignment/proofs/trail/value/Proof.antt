@@ -1,13 +1,9 @@
-use mathlib.Core.Path.{_≡_, ap, sym, _∙_}
-use Prim.Native.Nat.{ℕ}
+-- `value` meets its contract: by the word of the literal's variable. Assumes nothing.
+use mathlib.Core.Path.{_≡_, sym, _∙_}
 use native.Mathlib.Omega.{arith}
-use lib.ListN.{getD}
-use lib.Seq.{getD-take}
-use Rattle.words.specs.Region.{region}
-use Rattle.words.specs.Layout.{VALUES}
 use Rattle.model.specs.Sat as Sat
 use Rattle.model.specs.Literal as Literals
-use Rattle.assignment.specs.State.{assignmentOf, wordValue, column}
+use Rattle.assignment.specs.State.{assignmentOf, wordValue}
 use Rattle.assignment.specs.StateLaws.{value-is, word-unassigned, word-false, word-true}
 use borrow.Author.Needs.{needs}
 use Rattle.assignment.proofs.trail.value.Statement.{statement}
@@ -22,14 +18,9 @@ load-requires c κs =
 -- the word that was read decides the value
 read : (c : tie.After-load) → let a = c .before .before .before .before .args in
     Sat.value (assignmentOf (a .t) (a .words .now)) (a .literal .0) ≡ Sat.literalValue (Literals.inverted (a .literal .0)) (wordValue (c .load .result))
-unfolding Literals.node
 read c =
     let s = c .before .before .before .before in
-    let a = s .args in
-    let v : c .before .wide .result ≡ Literals.node (a .literal .0) = c .before .wide .ensures ∙ c .before .before .node .ensures in
-    let e : c .load .result ≡ getD (column (a .t .variables) VALUES (a .words .now)) (Literals.node (a .literal .0)) 0 =
-    c .load .ensures ∙ ap (λ (i : ℕ). getD (region VALUES (a .words .now)) i 0) v ∙ sym (getD-take (a .t .variables) (region VALUES (a .words .now)) (Literals.node (a .literal .0)) 0 (omega (arith, s .pre .1))) in
-    rw e (value-is (a .t) (a .words .now) (a .literal .0))
+    value-is (s .args .t) (s .args .words .now) (s .args .literal .0) _ _ (s .pre .1) (c .before .wide .ensures ∙ c .before .before .node .ensures) (c .load .ensures)
 
 returns : tie.Need-returns
 returns c = sym (read (c .before) ∙ word-unassigned _ _ (c .if1 .taken))

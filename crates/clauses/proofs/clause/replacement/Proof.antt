@@ -1,8 +1,7 @@
 -- `replacement` meets its contract. The invariant: the literals from here on decide. Assumes nothing.
-use Prim.Native.Nat.{_+_, _-_, _<_, _≤_}
-use mathlib.Core.Path.{_≡_, sym, _∙_}
+use Prim.Native.Nat.{_-_, _<_, _≤_}
+use mathlib.Core.Path.{sym, _∙_}
 use native.Mathlib.Omega.{arith}
-use Rattle.words.specs.Layout.{POOL}
 use Rattle.clauses.specs.ClauseLaws.{Left, spare-start, spare-range, spare-stands, spare-found, spare-next, spare-none}
 use Rattle.clauses.specs.State.{Watchable}
 use borrow.Author.Needs.{needs}

@@ -2,7 +2,6 @@
 use borrow.Author.Tests.{eq-eqb, ne-eqb}
 use Rattle.clauses.specs.State.{slotOf}
 use Rattle.watches.specs.State.{slotBy}
-use borrow.Author.Needs.{needs}
 use Rattle.watches.proofs.visit.false_slot.Statement.{statement}
 use Rattle.watches.proofs.visit.false_slot.Tie as tie
 

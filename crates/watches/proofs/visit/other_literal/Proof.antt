@@ -2,7 +2,6 @@
 use Prim.Native.Nat.{ℕ, zero, suc}
 use mathlib.Core.Path.{_≡_, refl}
 use Rattle.watches.specs.State.{otherBy}
-use borrow.Author.Needs.{needs}
 use Rattle.watches.proofs.visit.other_literal.Statement.{statement}
 use Rattle.watches.proofs.visit.other_literal.Tie as tie
 

@@ -8,7 +8,7 @@ use Rattle.words.specs.Region.{stored}
 use Rattle.clauses.specs.Queue.{pushedWords}
 use Rattle.clauses.specs.Clauses.{half}
 use Rattle.clauses.specs.StepLaws.{replacedWords}
-use Rattle.watches.specs.VisitLaws.{clause-there, moved-room, replaced-range, replaced}
+use Rattle.watches.specs.VisitLaws.{clause-there, moved-room, stands-range, replaced}
 use borrow.Author.Needs.{needs}
 use Rattle.watches.proofs.visit.replace_watch.Statement.{statement}
 use Rattle.watches.proofs.visit.replace_watch.Tie as tie
@@ -25,7 +25,7 @@ push-back-requires c κs =
     let k = c .before .before .before .before in
     let s = k .before .before .before .before .before in
     let a = s .args in
-    let r = replaced-range (a .store) (a .t) (a .words .now) (a .d) (s .pre .0) (a .slot) (a .l .0) (s .pre .1) (s .pre .2) in
+    let r = stands-range (a .store) (a .t) (a .words .now) (a .d) (s .pre .0) (a .l .0) (s .pre .2) in
     (k .put .ensures .1, moved-room (a .store) (a .t) (a .words .now) (a .d) (s .pre .0) _ _ _ (k .put .ensures .0) (c .wide3 .result) (rw (c .wide3 .ensures) r))
 
 returns : tie.Need-returns

@@ -1,16 +1,12 @@
 -- `visit_untrue` meets its contract: by the spare literal of the clause. Assumes nothing.
 use Prim.Native.Nat.{ℕ, _+_, _*_}
-use mathlib.Core.Path.{_≡_, ap, sym, _∙_}
+use mathlib.Core.Path.{_≡_, ap, _∙_}
 use native.Mathlib.Omega.{arith}
-use mathlib.Core.Option.{Option}
 use lib.ListN.{getD}
 use Rattle.words.specs.Layout.{CLAUSE-STARTS, WATCHED}
 use Rattle.words.specs.Region.{region}
-use Rattle.model.specs.Sat as Sat
-use Rattle.assignment.specs.State.{assignmentOf}
-use Rattle.clauses.specs.Clauses.{clauseAt, literalsOf, half, Stands, placeIn}
-use Rattle.clauses.specs.State.{spanOf, clauseOf, placeOf, SpareStands, Watchable}
-use Rattle.clauses.specs.declared.state.Spare.{Spare}
+use Rattle.clauses.specs.Clauses.{clauseAt, literalsOf, half}
+use Rattle.clauses.specs.State.{spanOf, clauseOf}
 use Rattle.watches.specs.VisitLaws.{clause-there, is-clause, watchable, untrue-found, untrue-none}
 use borrow.Author.Needs.{needs}
 use Rattle.watches.proofs.visit.visit_untrue.Statement.{statement}
