@@ -2,14 +2,15 @@
 use Prim.Native.Nat.{ℕ}
 use mathlib.Core.Path.{_≡_, refl}
 use mathlib.Core.Bool.{true, false}
-use mathlib.Core.List.{List, [], _∷_}
+use mathlib.Core.List.{List, [], _∷_, map}
 use mathlib.Core.Option.{some}
 use Rattle.model.specs.Netlist.{Input, RegisterOutput, Output, And, Xor, Low, Design}
 use Rattle.model.specs.Literal.{Literal}
 use Rattle.model.specs.Aig.{Constant, Variable, Aig, Built, and, or, xor, mux}
 use Rattle.model.specs.Aig as Graph
 use Rattle.model.specs.Run.{initialBits}
-use Rattle.model.specs.Equivalence.{Problem, Outcome, baseCounterexample, basePreservesNamedState, inductionCloses, largestLearned}
+use Rattle.model.specs.Sat.{outOfFuel}
+use Rattle.model.specs.Equivalence.{Problem, Outcome, OutOfFuel, decided, afterQuery1, afterQuery2, afterQuery3, afterQuery4, baseCounterexample, basePreservesNamedState, inductionCloses, largestLearned}
 use Rattle.model.specs.Check.{problemOf, checkDesigns, verdictAnswer}
 use Rattle.model.specs.Cases.{a, e, h, p, q, y, clk, rst, design, sync, reg, reset0, toggle, holding, conjunction}
 use Rattle.model.specs.Cases as Cases
@@ -107,3 +108,14 @@ most-learned = refl
 gives-up : verdictAnswer (outcome 0 (toggle q) (toggle p) .verdict) ≡ record { number = 0; side = 0; place = 0; status = 3; depth = 1; mismatch = 0; query = 3 }
 unfolding outcome Cases.all
 gives-up = refl
+
+-- a search without an end, which none is, would stand among the queries asked with its depth, number and total
+out-of-fuel : (p : Problem) → afterQuery1 9 p 5 [] [] (outOfFuel 7) ∷ afterQuery2 9 p 5 [] (outOfFuel 7) ∷ afterQuery3 9 p 5 [] (outOfFuel 7) ∷ afterQuery4 5 [] (outOfFuel 7) ∷ []
+    ≡ map (λ q. decided OutOfFuel (record { depth = 5; query = q; learned = 7 } ∷ [])) (1 ∷ 2 ∷ 3 ∷ 4 ∷ [])
+unfolding Cases.all
+out-of-fuel p = refl
+
+-- and would be answered with a status of its own
+no-end : verdictAnswer OutOfFuel ≡ record { number = 0; side = 0; place = 0; status = 4; depth = 0; mismatch = 0; query = 0 }
+unfolding Cases.all
+no-end = refl

@@ -233,6 +233,11 @@ reset-net : read (recordOf (design base (reg p 2 2 (sync 4 true) ∷ reg q 3 3 n
 unfolding all base
 reset-net = refl
 
+-- each input number of each kind is looked at: node 2 with one number that is its own
+late-inputs : map (λ n. read (recordOf (design (Input a ∷ Input e ∷ n ∷ []) []))) (Not 2 ∷ Output y 2 ∷ And 2 1 ∷ And 1 2 ∷ Or 2 1 ∷ Or 1 2 ∷ Xor 2 1 ∷ Xor 1 2 ∷ Mux 2 1 0 ∷ Mux 0 2 1 ∷ Mux 0 1 2 ∷ []) ≡ replicate 11 (refusal 7 2)
+unfolding all
+late-inputs = refl
+
 -- the clock's number and the enable's too
 clock-number : read (recordOf (design base (record { name = p; output = 2; «data» = 2; clock = 4; edge = Rising; enable = none; reset = none } ∷ reg q 3 3 none ∷ []))) ≡ refusal 12 0
 unfolding all base
@@ -260,6 +265,11 @@ unconnected = refl
 late-reset : read (recordOf (design base (reg p 2 2 (async 1 false) ∷ reg q 3 3 (async 3 false) ∷ []))) ≡ refusal 14 3
 unfolding all base
 late-reset = refl
+
+-- from a node behind it too
+later-reset : read (recordOf (design base (reg p 2 2 (async 3 false) ∷ reg q 3 3 none ∷ []))) ≡ refusal 14 2
+unfolding all base
+later-reset = refl
 
 -- an asynchronous reset from the node before is in time
 early-reset : readRecord (recordOf (design base (reg p 2 2 (async 1 false) ∷ reg q 3 3 (async 2 true) ∷ []))) ≡ parsed (design base (reg p 2 2 (async 1 false) ∷ reg q 3 3 (async 2 true) ∷ []))

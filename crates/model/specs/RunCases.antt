@@ -4,14 +4,19 @@ use mathlib.Core.Bool.{Bool, true, false, cond}
 use mathlib.Core.List.{List, [], _∷_, _++_, map}
 use mathlib.Core.Option.{some}
 use lib.ListN.{getD}
-use Rattle.model.specs.Names.{sameName}
-use Rattle.model.specs.Netlist.{Input, RegisterOutput, Not, Output, Rising, ActiveLevel, High, Low, Design}
+use Rattle.model.specs.Names.{sameName, rank}
+use Rattle.model.specs.Netlist.{Input, RegisterOutput, Not, Output, Rising, ActiveLevel, High, Low, Design, inputs}
 use Rattle.model.specs.Run.{InputSequence, initialBits, outputsAt}
 use Rattle.model.specs.Transition.{TransitionSystem, fromNetlist}
 use Rattle.model.specs.Literal.{Literal}
 use Rattle.model.specs.Aig.{Node, Constant, Variable, And}
-use Rattle.model.specs.Cases.{e, q, y, clk, rst, design, sync, toggling, toggle, unreset}
+use Rattle.model.specs.Cases.{a, e, q, y, clk, rst, design, sync, toggling, toggle, unreset}
 use Rattle.model.specs.Cases as Cases
+
+-- where names stand among the Inputs; one that is not there stands behind them
+ranks : map (λ n. rank n (inputs (toggle q))) (clk ∷ rst ∷ a ∷ []) ≡ 0 ∷ 1 ∷ 2 ∷ []
+unfolding Cases.all
+ranks = refl
 
 -- every input is 0 in every cycle
 unfoldable pub zeros : InputSequence
