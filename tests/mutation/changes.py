@@ -9,7 +9,7 @@ GROUPS = ["true:mathlib.Core.Bool.true false:mathlib.Core.Bool.false", "ltb:lib.
           "Equivalent NotEquivalent Inconclusive GaveUp", "noModel gaveUp outOfFuel", "And Or Xor", "Ordering·lt Ordering·eq Ordering·gt",
           "FALSE:@Literal.FALSE TRUE:@Literal.TRUE", "and:@Aig.and or:@Aig.or xor:@Aig.xor", "inputs:@Netlist.inputs outputs:@Netlist.outputs",
           "inputName:@Netlist.inputName outputName:@Netlist.outputName", "inputCount:@Netlist.inputCount outputCount:@Netlist.outputCount",
-          "scoreZero:@Sat.scoreZero scoreOne:@Sat.scoreOne", "Ieee.add Ieee.mul Ieee.div", "ceiling rescaleFactor decay"]
+          "scoreZero:@Sat.scoreZero scoreOne:@Sat.scoreOne", "≤ <", "Ieee.add Ieee.mul Ieee.div", "ceiling rescaleFactor decay"]
 OPERATORS = ["&&", "||", "+", "-", "*", "/", "%", "++", "∷", "otherwise", ">>=", "≡", "≤", "<", "→", "×", "⊎", "↔", "≢"]
 BREAKS = ["=", "in", "let", "λ", ".", "↦", "|", ";", ",", "←", "do", ":"]
 
@@ -76,7 +76,7 @@ def word_changes(before, n, typed, siblings):
 
 
 def application_changes(source, run, signatures):
-    """The changes of an application: arguments of one type exchanged, a truth value negated, `suc` and `not` dropped, none for some."""
+    """The changes of an application: arguments of one type exchanged, a truth value negated, `suc`, `not` and `¬` dropped, none for some."""
     head = run[0][0] if run else None
     args = run[1:]
     cut = next((i for i, a in enumerate(args) if src.is_word(a) and a[0].startswith(".") and len(a[0]) > 1), len(args))
@@ -89,6 +89,8 @@ def application_changes(source, run, signatures):
                 yield "arguments exchanged", exchanged(source, (x[1], x[2]), (y[1], y[2]))
     if head in ("suc", "not") and len(run) == 2:
         yield head + " dropped", [(run[0][1], run[1][2], source[run[1][1]:run[1][2]])]
+    if head == "¬":
+        yield "¬ dropped", [(run[0][1], run[1][1], "")]
     if head == "some" and len(run) == 2:
         yield "none for some", [(run[0][1], run[1][2], "none")]
 
@@ -151,10 +153,11 @@ def case_changes(source, cases):
 def changes(source, d, siblings, signatures):
     """The changes of a definition: the kind, and the pieces of the source to replace."""
     for lhs, start, end in d.clauses:
-        typed = src.parameters(d.signature, lhs, signatures)
+        typed = d.parameters(lhs, signatures)
         for level in levels(src.tree(src.tokens(source, start, end))):
             yield from level_changes(source, level, typed, siblings, signatures)
-    yield from case_changes(source, d.clauses)
+    if d.known is None:
+        yield from case_changes(source, d.clauses)
 
 
 def squeezed(text):

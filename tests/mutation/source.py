@@ -27,10 +27,15 @@ def sources():
 
 
 class Definition:
-    """A definition: its file, name, signature and whole text, and of each clause the left-hand side and where the right-hand side begins and ends."""
+    """A definition: its file, name, signature and whole text, and of each clause the left-hand side and where the right-hand side begins and ends.
+    A statement is a record or a type with parameters: its clauses are the types of its fields or constructors, each with what is known there."""
 
-    def __init__(self, file, name, signature, clauses, text):
-        self.file, self.name, self.signature, self.clauses, self.text = file, name, signature, clauses, text
+    def __init__(self, file, name, signature, clauses, text, known=None):
+        self.file, self.name, self.signature, self.clauses, self.text, self.known = file, name, signature, clauses, text, known
+
+    def parameters(self, lhs, signatures):
+        """The variables of a clause with their types."""
+        return parameters(self.signature, lhs, signatures) if self.known is None else self.known[lhs]
 
 
 def clauses(source, start, end):
@@ -46,15 +51,32 @@ def clauses(source, start, end):
     return [(source[a:a + cut.start()], a + cut.end(), b) for a, cut, b in cuts if cut]
 
 
+def statements(file, source):
+    """The records and types of a file that have parameters: what is known in a field are the parameters and the fields before it."""
+    found = []
+    for m in re.finditer(r"^pub (record|data) (\S+) ((?:[({][^)}]*[)}] ?)+): [^\n]*where\n((?:  [^\n]*\n)+)", source, re.M):
+        typed = {name: kind.strip() for names, kind in re.findall(r"\(([^:)]*):([^)]*)\)", m.group(3)) for name in names.split()}
+        clauses, known, at = [], {}, m.start(4)
+        for line in m.group(4).splitlines():
+            field, _, kind = re.sub(r"^  (?:pub )?", "", line).partition(" : ")
+            clauses.append((field, at + len(line) - len(kind), at + len(line)))
+            known[field] = dict(typed)
+            if m.group(1) == "record":
+                typed[field] = kind
+            at += len(line) + 1
+        found.append(Definition(file, m.group(2), "", clauses, m.group(0), known))
+    return found
+
+
 def definitions(file, source):
-    """The definitions of a file, in order; each ends with an empty line."""
+    """The definitions of a file, in order, each of which ends with an empty line; then its statements."""
     found = []
     for m in re.finditer(r"^(?:unfoldable |abbrev )?(?:pub )?(\S+) : (.*)$", source, re.M):
         end = source.find("\n\n", m.start())
         end = len(source) if end < 0 else end
         if m.group(1) != "all" and not m.group(0).startswith(" ") and m.end() < end:
             found.append(Definition(file, m.group(1), m.group(2), clauses(source, m.end() + 1, end), source[m.start():end]))
-    return found
+    return found + statements(file, source)
 
 
 def tokens(source, start, end):
