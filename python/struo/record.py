@@ -3,7 +3,7 @@ from __future__ import annotations
 
 from dataclasses import dataclass, field
 from enum import IntEnum
-from typing import Dict, List, Optional, Tuple
+from typing import List, Optional, Tuple
 
 VERSION = 1
 LONGEST_RECORD = 65_535
@@ -32,11 +32,10 @@ class Kind(IntEnum):
         """The kind as the documents write it."""
         return "".join(part.capitalize() for part in self.name.split("_"))
 
-
-# The number of input numbers of each kind.
-INPUT_COUNTS: Dict[Kind, int] = {
-    Kind.INPUT: 0, Kind.CONSTANT: 0, Kind.REGISTER_OUTPUT: 0, Kind.NOT: 1, Kind.OUTPUT: 1, Kind.AND: 2, Kind.OR: 2, Kind.XOR: 2, Kind.MUX: 3,
-}
+    @property
+    def input_count(self) -> int:
+        """How many nodes a node of this kind reads: the high four bits of its byte."""
+        return self.value // 16
 
 
 @dataclass(frozen=True)
@@ -161,7 +160,7 @@ class Decoder:
         where = f"node {number} ({kind.word})"
         name = self.name(f"the name of {where}") if kind in (Kind.INPUT, Kind.OUTPUT) else b""
         value = self.code(f"the value of {where}", 0, 1) if kind is Kind.CONSTANT else 0
-        inputs = tuple(self.number(f"input number {place} of {where}") for place in range(INPUT_COUNTS[kind]))
+        inputs = tuple(self.number(f"input number {place} of {where}") for place in range(kind.input_count))
         return Node(kind, name, value, inputs)
 
     def register(self, number: int) -> Register:

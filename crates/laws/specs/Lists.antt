@@ -1,13 +1,16 @@
--- What one more element at the end of a list leaves, by places. Assumes nothing.
+-- What one more element at the end of a list leaves, by places; a fact of a list's members. Assumes nothing.
 use Prim.Native.Nat.{ℕ, zero, suc, _<_}
 use native.Mathlib.Omega.{arith}
-use mathlib.Core.Path.{_≡_, sym, subst}
+use mathlib.Core.Path.{_≡_, refl, sym, subst}
+use mathlib.Core.Bool.{Bool, true, false, _||_}
 use mathlib.Core.List.{List, [], _∷_}
 use lib.ListN.{length, getD, List·getD-append, length-append}
 use lib.Seq.{getD-append-seam}
+use lib.Dec.{eqb}
+use borrow.Author.Tests.{eqb-true}
 use Rattle.facts.specs.Lists.{All}
 use Rattle.facts.specs.Numbers.{by-lt}
-use Rattle.model.specs.Lists.{snoc}
+use Rattle.model.specs.Lists.{snoc, member}
 
 -- one element more
 pub length-snoc : {A : Type 0} (xs : List A) (x : A) → length (snoc xs x) ≡ suc (length xs)
@@ -46,3 +49,13 @@ snoc-any P [] zero x d h q = q
 snoc-any P [] (suc j) x d h q = h
 snoc-any P (y ∷ xs) zero x d h q = h
 snoc-any P (y ∷ xs) (suc j) x d h q = snoc-any P xs j x d h q
+
+-- what holds of every number of a list holds of a member
+pub member-all : (P : ℕ → Type 0) (xs : List ℕ) (k : ℕ) → member k xs ≡ true → All P xs → P k
+unfolding member
+member-all P [] k h p = absurd (let z : _≡_ {A = ℕ} 0 1 = cc in omega arith)
+member-all P (x ∷ xs) k h p = go (eqb k x) refl h (λ g. member-all P xs k g (p .1))
+  where
+    go : (b : Bool) → eqb k x ≡ b → (b || member k xs) ≡ true → (member k xs ≡ true → P k) → P k
+    go true e g f = rw (eqb-true k x e) (p .0)
+    go false e g f = f g

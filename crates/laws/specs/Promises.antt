@@ -1,5 +1,5 @@
 -- What is promised of the check, of replay, of the stepping call and of read, on one page and with nothing assumed. Every word here is of `model`, or of `Terms` and `StepTerms`, which add a few definitions over `model` alone. `checked` is the definition of the check of two records under a caller's options (maximum depth and limit of learned literals), as a refusal or a status and a depth; `check` is the call, to a depth D under the specification's limit 262,144, with every number and every lent byte; `checkDesigns` is the check of two designs, each from its own start bits. Assumes nothing.
-use Prim.Native.Nat.{ℕ, suc, _≤_, _<_}
+use Prim.Native.Nat.{ℕ, suc, _/_, _≤_, _<_}
 use mathlib.Core.Path.{_≡_}
 use mathlib.Core.Logic.{_≢_, _⊎_, _↔_}
 use mathlib.Core.Bool.{Bool, true, false}
@@ -10,8 +10,8 @@ use lib.Ieee.{Float}
 use Rattle.model.specs.Answers.{Refusal, accepted, Status, Equivalent, NotEquivalent, GaveUp, statusNumber, acceptedAnswer}
 use Rattle.model.specs.Options.{Options, toDepth}
 use Rattle.model.specs.Names.{Name, memberName, namesOf}
-use Rattle.model.specs.Netlist.{Design, inputs, outputs}
-use Rattle.model.specs.Record.{parsed, parse}
+use Rattle.model.specs.Netlist.{Node, Design, inputs, outputs, inputNumbers}
+use Rattle.model.specs.Record.{got, listedKind, node, parsed, parse}
 use Rattle.model.specs.Validate.{validate, read}
 use Rattle.model.specs.Run.{StoredBits, InputSequence, initialBits}
 use Rattle.model.specs.Pair.{Lent, both, readPair, inputsDiffer, outputsDiffer, proofNodes, checkRefusal, replayFault}
@@ -25,8 +25,9 @@ use Rattle.model.specs.Equivalence.{Problem, Query, ask}
 use Rattle.model.specs.Equivalence as Search
 use Rattle.model.specs.Check.{problemOf, checkDesigns, acceptedCheck, checkOutcome, checkResult, lentOf, check, checked}
 use Rattle.laws.specs.Search.Limits.{give-up-needed}
-use Rattle.laws.specs.Terms.{Within, OfRecord, OfReplay, replayRefusal, RefusedWith, UnusedZero, Called, TraceLeft, CalledEquivalent, Comparable, checkedDesigns, LargerLimit, Linked, JoinedDesigns, TraceGood, Yes, Settled, answerTotal, literalCount, Reached, GivesUp, QueryOf, Asks, StopsAt}
+use Rattle.laws.specs.Terms.{Within, OfRecord, UpToKind, OfReplay, replayRefusal, RefusedWith, UnusedZero, Called, TraceLeft, CalledEquivalent, Comparable, checkedDesigns, LargerLimit, Linked, JoinedDesigns, TraceGood, Yes, Settled, answerTotal, literalCount, Reached, GivesUp, QueryOf, Asks, StopsAt}
 use Rattle.laws.specs.StepTerms.{beginRefusal, stepRefusal, OfBegin, OfStep, afterBegin, stepAnswer, afterSteps, runPosition, heldAt, movedFrom, BytesKept, SameBits}
+use Rattle.laws.specs.Record.KindBytes.{node-counted, unlisted-refused}
 use Rattle.laws.specs.Induction.Chain.{chain-outputs}
 use Rattle.laws.specs.Induction.Pairs.{comparable}
 use Rattle.laws.specs.Check.Call.{check-refuses, outcome-is, check-refused, check-cleared}
@@ -71,6 +72,14 @@ read-accepts-exactly = read-zero
 -- it answers three zeros, or a number from 1 to 15 on side 0
 pub read-numbered : (s : List ℕ) → (read s ≡ accepted) ⊎ OfRecord (read s)
 read-numbered = read-answers
+
+-- a node that is read has a listed kind, and as many inputs as its kind byte divided by 16
+pub kind-byte-counts : (ns : List Node) (n : Node) (s : List ℕ) (i j : ℕ) → node listedKind ns s i ≡ got n j → (listedKind (getD s i 0) ≡ true) × (length (inputNumbers n) ≡ getD s i 0 / 16)
+kind-byte-counts = node-counted
+
+-- where a record is in order up to the kind byte of a node and that byte is not listed, read answers 4 at that byte, whatever stands behind it
+pub unlisted-kind-refused : (s : List ℕ) (m place : ℕ) → UpToKind s m place → listedKind (getD s place 0) ≡ false → read s ≡ record { number = 4; side = 0; place = place }
+unlisted-kind-refused = unlisted-refused
 
 -- where read refuses gold's record, every check and every replay of the pair is refused with what it answers
 pub gold-refused-first : (a b : List ℕ) → read a .number ≢ 0 → RefusedWith a b (read a)

@@ -3,5 +3,6 @@ pub mod Kinds
 pub mod Reader
 pub mod Ports
 pub mod Limits
+pub mod KindBytes
 pub mod Accepted
 pub mod Valid

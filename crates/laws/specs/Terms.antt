@@ -5,13 +5,14 @@ use mathlib.Core.Logic.{_≢_, _⊎_}
 use mathlib.Core.Bool.{Bool, true, false, xor}
 use mathlib.Core.List.{List, [], _∷_, _++_}
 use mathlib.Core.Option.{Option, none, some}
-use lib.ListN.{length, drop}
+use lib.ListN.{length, getD, drop}
 use lib.Ieee.{Float}
 use Rattle.model.specs.Answers.{Refusal, accepted, Status, statusNumber, CheckAnswer}
 use Rattle.model.specs.Answers as Answers
 use Rattle.model.specs.Options.{Options}
-use Rattle.model.specs.Names.{namesOf}
-use Rattle.model.specs.Netlist.{Design, inputs, outputs, inputCount}
+use Rattle.model.specs.Names.{Name, namesOf}
+use Rattle.model.specs.Netlist.{Node, Design, inputs, outputs, inputCount}
+use Rattle.model.specs.Record.{got, number, name, listedKind, nodesFrom, lengthFits}
 use Rattle.model.specs.Validate.{validate}
 use Rattle.model.specs.Run.{StoredBits, bitAt, outputsAt, initialBits}
 use Rattle.model.specs.Pair.{traceLength, allBits, replayFault, ReadPair, both, refusedPair, readPair}
@@ -35,6 +36,21 @@ pub record OfRecord (r : Refusal) : Type 0 where
   pub low : 1 ≤ r .number
   pub high : r .number ≤ 15
   pub side : r .side ≡ 0
+
+-- the record's bytes up to the kind byte of node m, at the place: length, version, name and count are in order, and the m nodes before it are read
+pub record UpToKind (s : List ℕ) (m place : ℕ) : Type 0 where
+  pub sized : lengthFits s ≡ true
+  pub version : getD s 0 0 ≡ 1
+  pub designName : Name
+  pub countAt : ℕ
+  pub named : name s 5 ≡ got designName countAt
+  pub count : ℕ
+  pub counted : number s countAt ≡ got count (countAt + 2)
+  pub few : count ≤ 1024
+  pub declared : m < count
+  pub before : List Node
+  pub nodesBefore : nodesFrom listedKind m [] s (countAt + 2) ≡ got before place
+  pub within : place < length s
 
 -- a refusal of a replay: 1 to 15, 18 to 22, or 25
 pub data OfReplay (r : Refusal) : Type 0 where

@@ -1,5 +1,5 @@
 -- Closed theorems on records beside the cases of `Cases`: refusals 1 to 15, each by computation.
-use Prim.Native.Nat.{ℕ, zero, suc, _/_}
+use Prim.Native.Nat.{ℕ, zero, suc, _*_, _/_}
 use mathlib.Core.Path.{_≡_, refl}
 use mathlib.Core.Bool.{Bool, true, false}
 use mathlib.Core.List.{List, [], _∷_, _++_, map}
@@ -68,16 +68,17 @@ full-accepted : readRecord fullBytes ≡ parsed full
 unfolding all full fullBytes
 full-accepted = refl
 
--- ---- the table of input counts
+-- ---- the input counts
 
--- it is the number of inputs that a node of each kind has, and the high four bits of the kind byte
-table-nodes : map inputsPerKind kinds ≡ map (λ k. length (inputNumbers (nodeOf k [] 0 []))) kinds
+-- of each listed kind
+counts : map inputsPerKind kinds ≡ 0 ∷ 0 ∷ 0 ∷ 1 ∷ 1 ∷ 2 ∷ 2 ∷ 2 ∷ 3 ∷ []
 unfolding all
-table-nodes = refl
+counts = refl
 
-table-bits : map inputsPerKind kinds ≡ map (λ k. k / 16) kinds
+-- as many as a node of the kind has inputs
+counts-nodes : map inputsPerKind kinds ≡ map (λ k. length (inputNumbers (nodeOf k [] 0 []))) kinds
 unfolding all
-table-bits = refl
+counts-nodes = refl
 
 -- ---- fields
 
@@ -136,9 +137,22 @@ left-over : read (sized (1 ∷ 103 ∷ 0 ∷ 0 ∷ 0 ∷ 0 ∷ 7 ∷ 7 ∷ [])) 
 unfolding all
 left-over = refl
 
-kind-three : read (sized (1 ∷ 103 ∷ 0 ∷ 1 ∷ 0x03 ∷ [])) ≡ refusal 4 9
-unfolding all
-kind-three = refl
+-- kinds that are not listed, whatever their high four bits say
+unfoldable pub unlisted : List ℕ
+unlisted = 0x03 ∷ 0x0f ∷ 0x12 ∷ 0x1f ∷ 0x23 ∷ 0x2f ∷ 0x31 ∷ 0x40 ∷ 0xf0 ∷ 0xff ∷ []
+
+-- each is refused at its byte: at the end of the record, in the middle of its numbers, and with as many numbers as it would have
+unlisted-cut : map (λ k. read (sized (1 ∷ 103 ∷ 0 ∷ 1 ∷ k ∷ []))) unlisted ≡ replicate 10 (refusal 4 9)
+unfolding all unlisted
+unlisted-cut = refl
+
+unlisted-short : map (λ k. read (sized (1 ∷ 103 ∷ 0 ∷ 1 ∷ k ∷ 0 ∷ []))) unlisted ≡ replicate 10 (refusal 4 9)
+unfolding all unlisted
+unlisted-short = refl
+
+unlisted-whole : map (λ k. read (sized ((1 ∷ 103 ∷ 0 ∷ 2 ∷ 0 ∷ 1 ∷ 97 ∷ k ∷ replicate (2 * (k / 16)) 0) ++ (0 ∷ 0 ∷ [])))) unlisted ≡ replicate 10 (refusal 4 12)
+unfolding all unlisted
+unlisted-whole = refl
 
 constant-two : read (sized (1 ∷ 103 ∷ 0 ∷ 1 ∷ 0x01 ∷ 2 ∷ [])) ≡ refusal 4 10
 unfolding all

@@ -1,9 +1,9 @@
 -- The record: from its bytes to a design, or the first refusal of 1 to 6. Fields are read in file order. Definitions only.
-use Prim.Native.Nat.{ℕ, zero, suc, _+_, _*_}
+use Prim.Native.Nat.{ℕ, zero, suc, _+_, _*_, _/_}
 use mathlib.Core.Bool.{Bool, true, false, not, cond, _&&_, _||_}
 use mathlib.Core.List.{List, [], _∷_, _++_}
 use mathlib.Core.Option.{Option, none, some}
-use lib.ListN.{length, getD, take, drop, replicate}
+use lib.ListN.{length, getD, take, drop}
 use lib.Dec.{eqb, leb, ltb}
 use Rattle.model.specs.Answers.{Refusal}
 use Rattle.model.specs.Lists.{member}
@@ -97,13 +97,9 @@ kinds = inputKind ∷ constantKind ∷ registerOutputKind ∷ notKind ∷ output
 unfoldable pub listedKind : ℕ → Bool
 listedKind k = member k kinds
 
--- the number of inputs per kind: a fixed table, indexed by the kind byte
-unfoldable pub inputTable : List ℕ
-inputTable = replicate 16 0 ++ (1 ∷ 1 ∷ []) ++ replicate 14 0 ++ (2 ∷ 2 ∷ 2 ∷ []) ++ replicate 13 0 ++ (3 ∷ [])
-
--- the number of inputs of a kind
+-- the number of inputs of a listed kind: the high four bits of its byte
 unfoldable pub inputsPerKind : ℕ → ℕ
-inputsPerKind k = getD inputTable k 0
+inputsPerKind k = k / 16
 
 -- the kinds with a name
 unfoldable pub hasName : ℕ → Bool
@@ -269,5 +265,5 @@ parse s = parseSized s (lengthFits s)
 
 -- naming this opens them all
 unfoldable pub all : Unit {0}
-unfolding refuse pure goOn _>>=_ tested guard bytes bigEndian byte number code codeBelow nameByte nameBytes name kinds listedKind inputTable inputsPerKind hasName hasValue nameIf valueIf numbers byKind nodeOf room node nodesFrom nodes edgeOf levelOf bit enableFor resetFor register registersFrom registers end version1 versionOf lengthFits finished parseFields parseSized parse Lists.all Names.all Netlist.all
+unfolding refuse pure goOn _>>=_ tested guard bytes bigEndian byte number code codeBelow nameByte nameBytes name kinds listedKind inputsPerKind hasName hasValue nameIf valueIf numbers byKind nodeOf room node nodesFrom nodes edgeOf levelOf bit enableFor resetFor register registersFrom registers end version1 versionOf lengthFits finished parseFields parseSized parse Lists.all Names.all Netlist.all
 all = tt

@@ -41,10 +41,6 @@ module _ (i c a b d : ℕ) where
   unfolding allBelow
   below-second h l m = rw (h, lt-ltb a i l, lt-ltb b i m)
 
-  pub below-third : c ≡ 3 → a < i → b < i → ltb d i ≡ allBelow i (take c (a ∷ b ∷ d ∷ []))
-  unfolding allBelow
-  below-third h l m = rw (h, lt-ltb a i l, lt-ltb b i m) (and-true (ltb d i))
-
 pub first-not-below : (i c a b d : ℕ) → 1 ≤ c → i ≤ a → false ≡ allBelow i (take c (a ∷ b ∷ d ∷ []))
 unfolding allBelow
 first-not-below i zero a b d h l = absurd (omega arith)
@@ -55,6 +51,14 @@ unfolding allBelow
 second-not-below i zero a b d h l m = absurd (omega arith)
 second-not-below i (suc zero) a b d h l m = absurd (omega arith)
 second-not-below i (suc (suc c)) a b d h l m = rw (lt-ltb a i l, le-ltb b i m)
+
+pub below-third : (i c a b d : ℕ) → 3 ≤ c → a < i → b < i → ltb d i ≡ allBelow i (take c (a ∷ b ∷ d ∷ []))
+unfolding allBelow
+below-third i zero a b d h l m = absurd (omega arith)
+below-third i (suc zero) a b d h l m = absurd (omega arith)
+below-third i (suc (suc zero)) a b d h l m = absurd (omega arith)
+below-third i (suc (suc (suc zero))) a b d h l m = rw (lt-ltb a i l, lt-ltb b i m) (and-true (ltb d i))
+below-third i (suc (suc (suc (suc c)))) a b d h l m = rw (lt-ltb a i l, lt-ltb b i m) (and-true (ltb d i))
 
 -- ---- the walk
 

@@ -65,16 +65,21 @@ name-at s i n k h =
     let c : suc i ≡ u .1 .0 = sym (add-one i) ∙ a .1 in
     rw (a .0, c) (b .0)
 
+-- a kind that was read is listed
+pub kind-listed : (inputs outputs : ℕ) (s : List ℕ) (i k j : ℕ) → got k j ≡ kindAt inputs outputs s i → listedKind k ≡ true
+unfolding kindAt code guard
+kind-listed inputs outputs s i k j h = tested-true 4 listedKind i k j (byte s i) (tested-got 6 (roomFor inputs outputs) i k j _ (sym h))
+
 -- a node that was read has a listed kind
 pub cell-listed : (inputs outputs : ℕ) (s : List ℕ) (i : ℕ) (n : Node) (end : ℕ) → got n end ≡ cellAt inputs outputs s i → listedKind (n .kind) ≡ true
-unfolding cellAt cellDetail cellInputs _>>=_ kindAt code guard pure cellOf
+unfolding cellAt cellDetail cellInputs _>>=_ pure cellOf
 cell-listed inputs outputs s i n end h =
     let u = goOn-got cellDetail s n end _ (sym h) in
     let v = goOn-got (cellInputs (u .0)) s n end _ (u .1 .1 .1) in
     let w = goOn-got (λ ins. pure (cellOf (u .0) (v .0) ins)) s n end _ (v .1 .1 .1) in
     let e : cellOf (u .0) (v .0) (w .0) ≡ n = ended (w .1 .1 .1) in
     let f : u .0 ≡ n .kind = ap (λ (x : Node). x .kind) e in
-    subst (λ (k : ℕ). listedKind k ≡ true) f (tested-true 4 listedKind i (u .0) (u .1 .0) (byte s i) (tested-got 6 (roomFor inputs outputs) i (u .0) (u .1 .0) _ (u .1 .1 .0)))
+    subst (λ (k : ℕ). listedKind k ≡ true) f (kind-listed inputs outputs s i (u .0) (u .1 .0) (sym (u .1 .1 .0)))
   where
     ended : {a b : Node} {j k : ℕ} → got a j ≡ got b k → a ≡ b
     ended g = cc

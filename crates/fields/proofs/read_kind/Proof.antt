@@ -17,7 +17,7 @@ listed-read : (c : tie.Then1) → let a = c .before .before .before .before .bef
 unfolding code
 listed-read c =
     let a = c .before .before .before .before .before .before .before .args in
-    guard-passed 4 listedKind byte (a .bytes .now) (a .at) _ _ (byte-read (c .before .before)) (sym (c .if1 .taken) ∙ c .before .is-listed .ensures)
+    guard-passed 4 listedKind byte (a .bytes .now) (a .at) _ _ (byte-read (c .before .before)) (cc (c .if1 .taken, c .before .is-listed .ensures))
 
 returns : tie.Need-returns
 unfolding codeOf kindAt code refuse
@@ -43,7 +43,7 @@ unfolding codeOf kindAt code refuse
 returns-4 c =
     let a = c .before .before .before .before .before .before .before .args in
     guard-refused 6 (roomFor (a .inputs) (a .outputs)) (code listedKind) (a .bytes .now) (a .at) _
-    (guard-failed 4 listedKind byte (a .bytes .now) (a .at) _ _ (byte-read (c .before .before)) (sym (c .if1 .left) ∙ c .before .is-listed .ensures))
+    (guard-failed 4 listedKind byte (a .bytes .now) (a .at) _ _ (byte-read (c .before .before)) (cc (c .if1 .left, c .before .is-listed .ensures)))
 
 pub read-kind-spec : {M : Type 1} → statement M
 read-kind-spec =
