@@ -1,15 +1,16 @@
 -- The kind byte of a node: divided by 16 it is the number of inputs of a node that is read; where it is not listed the record is refused with 4 at that byte, whatever stands behind it. Assumes nothing.
 use Prim.Native.Nat.{ℕ, zero, suc, _+_, _-_, _/_, _≤_, _<_}
 use native.Mathlib.Omega.{arith}
-use mathlib.Core.Path.{_≡_, sym, ap, _∙_}
+use mathlib.Core.Path.{_≡_, refl, sym, ap, _∙_}
 use mathlib.Core.Bool.{Bool, true, false, cond}
 use mathlib.Core.List.{List, [], _∷_, _++_}
 use lib.ListN.{length, getD}
 use lib.Dec.{leb}
 use borrow.Author.Tests.{le-leb, eq-eqb}
 use Rattle.model.specs.Answers.{Refusal}
-use Rattle.model.specs.Netlist.{Node, inputNumbers}
+use Rattle.model.specs.Netlist.{Node, Input, inputNumbers}
 use Rattle.model.specs.Record.{got, refused, Reader, refuse, goOn, _>>=_, pure, tested, guard, byte, number, code, name, listedKind, inputsPerKind, hasName, hasValue, nameIf, valueIf, numbers, nodeOf, room, node, nodesFrom, nodes, version1, versionOf, finished, parseFields, parseSized, parse}
+use Rattle.model.specs.Record as Record
 use Rattle.model.specs.Validate.{validated, readRecord, answerOf, read}
 use Rattle.laws.specs.Terms.{UpToKind}
 use Rattle.laws.specs.Record.Kinds.{inputs-counted}
@@ -102,3 +103,22 @@ module _ (s : List ℕ) (m place : ℕ) (u : UpToKind s m place) (h : listedKind
   pub unlisted-refused : read s ≡ record { number = 4; side = 0; place = place }
   unfolding read readRecord validated answerOf parse parseSized parseFields versionOf finished refuse
   unlisted-refused = rw (u .sized, eq-eqb (getD s 0 0) 1 (u .version), record-refused)
+
+-- a record that is in order up to the kind byte of node 1: Input a, then 12 hex, and nothing behind it
+unlisted-behind-a : UpToKind (1 ∷ 0 ∷ 0 ∷ 0 ∷ 13 ∷ 1 ∷ 103 ∷ 0 ∷ 2 ∷ 0 ∷ 1 ∷ 97 ∷ 0x12 ∷ []) 1 12
+unfolding Record.all
+unlisted-behind-a =
+    record {
+      sized = refl;
+      version = refl;
+      designName = 103 ∷ [];
+      countAt = 7;
+      named = refl;
+      count = 2;
+      counted = refl;
+      few = omega arith;
+      declared = omega arith;
+      before = Input (97 ∷ []) ∷ [];
+      nodesBefore = refl;
+      within = omega arith;
+    }
