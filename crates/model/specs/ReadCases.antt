@@ -75,6 +75,11 @@ counts : map inputsPerKind kinds ≡ 0 ∷ 0 ∷ 0 ∷ 1 ∷ 1 ∷ 2 ∷ 2 ∷ 2
 unfolding all
 counts = refl
 
+-- the high four bits, whatever the low four are
+counts-bits : map inputsPerKind (0x0f ∷ 0x1f ∷ 0x2f ∷ 0x3f ∷ 0x40 ∷ 0xff ∷ []) ≡ 0 ∷ 1 ∷ 2 ∷ 3 ∷ 4 ∷ 15 ∷ []
+unfolding all
+counts-bits = refl
+
 -- as many as a node of the kind has inputs
 counts-nodes : map inputsPerKind kinds ≡ map (λ k. length (inputNumbers (nodeOf k [] 0 []))) kinds
 unfolding all
