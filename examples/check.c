@@ -34,6 +34,7 @@ int main(int count, char **words) {
         printf("Refused: number %u, %s, place %u\n", answer.number, answer.side == STRUO_GATE ? "gate" : "gold", answer.place);
         return 4;
     }
-    printf("%s at depth %u\n", statuses[answer.status], answer.depth);
+    printf("%s at depth %u, learned at most %u of %u literals (query %u of depth %u)\n", statuses[answer.status], answer.depth, answer.learned,
+           STRUO_LEARNED_LIMIT, answer.learned_query, answer.learned_depth);
     return (int)answer.status;
 }

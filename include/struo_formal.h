@@ -65,6 +65,9 @@ enum struo_refusal {
 /* The largest depth of a check and the last cycle that a claim can name. */
 #define STRUO_DEPTH_LIMIT 64
 
+/* The most literals that the clauses learned by one query have together: a query whose next clause would pass this gives up. */
+#define STRUO_LEARNED_LIMIT 262144
+
 /* How long a trace is: for cycles 0 to `cycle`, of a design with so many inputs and outputs. A check to depth D needs STRUO_TRACE_LENGTH(D, I, O) bytes
    and writes STRUO_TRACE_LENGTH(mismatch, I, O) of them; a replay takes exactly STRUO_TRACE_LENGTH(cycle, I, O). STRUO_TRACE_LENGTH_MAX is enough for
    every pair. */
@@ -131,7 +134,10 @@ struct struo_replay_answer struo_step(const uint8_t *gold, size_t gold_length, c
    place as above. The other numbers are 0 where the check is refused.
    status: an enum struo_status. depth: the depth at which the verdict fell; for STRUO_INCONCLUSIVE the depth asked for; for STRUO_GAVE_UP the depth of the
    query that gave up. mismatch: for STRUO_NOT_EQUIVALENT the first cycle in which outputs differ, else 0. query: for STRUO_GAVE_UP the number of the query
-   that gave up, 1 to 4, else 0. */
+   that gave up, 1 to 4, else 0.
+   learned: the largest total of learned literals over the queries asked, at most STRUO_LEARNED_LIMIT, which says how near the check came to giving up; a query
+   that gave up counts with its total before the clause that would have passed the limit. learned_depth and learned_query: depth and number of the first query
+   asked that has this total; 1 and 1 where nothing was learned. */
 struct struo_check_answer {
     uint32_t number;
     uint32_t side;
@@ -140,13 +146,16 @@ struct struo_check_answer {
     uint32_t depth;
     uint32_t mismatch;
     uint32_t query;
+    uint32_t learned;
+    uint32_t learned_depth;
+    uint32_t learned_query;
 };
 
 /* Checks whether two designs can ever differ, by k-induction for depths 1 to `depth`.
 
    Equivalent: the outputs, compared by name, agree in every cycle of every input sequence. NotEquivalent: they differ in some cycle that is at
    most `depth`, and the trace shows how. Inconclusive: neither was found up to `depth`. GaveUp: a query's next learned clause would bring its
-   learned literals above 262,144. Neither of the last two is a pass.
+   learned literals above STRUO_LEARNED_LIMIT. Neither of the last two is a pass.
 
    Refusals in checking order. Gold's record is read wholly (1 to 15, as struo_read), then gate's, with side 1; then:
      16 depth is 0; 17 depth is over 64; 18 the sets of input names differ; 19 the sets of output names differ;

@@ -86,6 +86,16 @@ static void hold(void) {
     for (size_t i = 0; i < sizeof trace; i++) trace[i] = 7;
 }
 
+/* The layout of a check's answer: ten numbers without a gap, those of what was learned last. */
+_Static_assert(sizeof(struct struo_check_answer) == 40 && offsetof(struct struo_check_answer, query) == 24 && offsetof(struct struo_check_answer, learned) == 28
+                   && offsetof(struct struo_check_answer, learned_depth) == 32 && offsetof(struct struo_check_answer, learned_query) == 36,
+               "struct struo_check_answer is laid out as the specification says");
+
+/* The answer of an accepted check: status and depth, the most that a query learned, and this query's depth and number. */
+static struct struo_check_answer accepted(uint32_t status, uint32_t depth, uint32_t learned, uint32_t learned_depth, uint32_t learned_query) {
+    return (struct struo_check_answer){.status = status, .depth = depth, .learned = learned, .learned_depth = learned_depth, .learned_query = learned_query};
+}
+
 /* Whether all words and scores are this number, and the trace begins with so many written bytes, 0 and 1 by turns. */
 static bool holds(uint32_t number, size_t written) {
     for (size_t i = 0; i < STRUO_WORDS_LENGTH; i++) if (words[i] != number) return false;
@@ -99,11 +109,9 @@ static void checks_pair(const char *what, const uint8_t *gold, size_t gold_lengt
                         struct struo_check_answer expected, size_t written) {
     hold();
     struct struo_check_answer answer = struo_check(gold, gold_length, gate, gate_length, depth, trace, sizeof trace, words, words_length, scores, STRUO_SCORES_LENGTH);
-    bool same = answer.number == expected.number && answer.side == expected.side && answer.place == expected.place && answer.status == expected.status
-        && answer.depth == expected.depth && answer.mismatch == expected.mismatch && answer.query == expected.query;
-    if (!same || !holds(answer.number == 0 ? 0 : 7, written)) {
-        printf("boundary: %s: %u %u %u %u %u %u %u, or a byte lent, is not as expected\n", what, answer.number, answer.side, answer.place, answer.status,
-               answer.depth, answer.mismatch, answer.query);
+    if (memcmp(&answer, &expected, sizeof answer) || !holds(answer.number == 0 ? 0 : 7, written)) {
+        printf("boundary: %s: %u %u %u %u %u %u %u %u %u %u, or a byte lent, is not as expected\n", what, answer.number, answer.side, answer.place, answer.status,
+               answer.depth, answer.mismatch, answer.query, answer.learned, answer.learned_depth, answer.learned_query);
         failed = 1;
     }
 }
@@ -120,6 +128,21 @@ static const uint8_t row[61] = {0x01, 0x00, 0x00, 0x00, 0x3d, 0x01, 0x67, 0x00, 
 static const uint8_t holding[47] = {0x01, 0x00, 0x00, 0x00, 0x2f, 0x01, 0x67, 0x00, 0x06, 0x00, 0x03, 0x63, 0x6c, 0x6b, 0x00, 0x03,
                                     0x72, 0x73, 0x74, 0x00, 0x01, 0x65, 0x02, 0x01, 0x00, 0x11, 0x01, 0x79, 0x00, 0x04, 0x00, 0x01,
                                     0x01, 0x68, 0x00, 0x03, 0x00, 0x03, 0x00, 0x00, 0x00, 0x00, 0x01, 0x00, 0x01, 0x00, 0x00};
+
+/* y = a Xor b, as one node and by Or, And and Not. */
+static const uint8_t exclusive_or[27] = {0x01, 0x00, 0x00, 0x00, 0x1b, 0x01, 0x78, 0x00, 0x04, 0x00, 0x01, 0x61, 0x00, 0x01,
+                                         0x62, 0x22, 0x00, 0x00, 0x00, 0x01, 0x11, 0x01, 0x79, 0x00, 0x02, 0x00, 0x00};
+static const uint8_t by_gates[40] = {0x01, 0x00, 0x00, 0x00, 0x28, 0x01, 0x79, 0x00, 0x07, 0x00, 0x01, 0x61, 0x00, 0x01, 0x62, 0x21, 0x00, 0x00, 0x00, 0x01,
+                                     0x20, 0x00, 0x00, 0x00, 0x01, 0x10, 0x00, 0x03, 0x20, 0x00, 0x02, 0x00, 0x04, 0x11, 0x01, 0x79, 0x00, 0x05, 0x00, 0x00};
+
+/* Checks in which queries learn something: the toggle against itself with its register named p, and the two forms of Xor. */
+static void learns(void) {
+    uint8_t renamed[sizeof toggle];
+    memcpy(renamed, toggle, sizeof toggle);
+    renamed[31] = 0x70;
+    checks_pair("toggle q against toggle p", toggle, sizeof toggle, renamed, sizeof renamed, 1, STRUO_WORDS_LENGTH, accepted(STRUO_EQUIVALENT, 1, 1, 1, 3), 0);
+    checks_pair("Xor against Or and And", exclusive_or, sizeof exclusive_or, by_gates, sizeof by_gates, 1, STRUO_WORDS_LENGTH, accepted(STRUO_EQUIVALENT, 1, 16, 1, 1), 0);
+}
 
 /* A claim as long as one of cycle 1, of another cycle: taken for cycle 1 it would be answered with no. */
 static void refuses_claim(const char *what, uint64_t cycle) {
@@ -153,7 +176,7 @@ static void *stepping(void *none) {
 }
 
 static void *checking(void *none) {
-    checks("wire on a painted stack", wire, sizeof wire, 64, STRUO_WORDS_LENGTH, (struct struo_check_answer){.status = STRUO_EQUIVALENT, .depth = 1}, 0);
+    checks("wire on a painted stack", wire, sizeof wire, 64, STRUO_WORDS_LENGTH, accepted(STRUO_EQUIVALENT, 1, 0, 1, 1), 0);
     return none;
 }
 
@@ -187,6 +210,19 @@ static void on_stack(const char *what, void *(*call)(void *), size_t stated) {
     }
 }
 
+/* Checks with each status but GaveUp, which learn nothing or something, and refused ones. */
+static void every_check(void) {
+    checks("wire against inverter", inverter, sizeof inverter, 1, STRUO_WORDS_LENGTH, accepted(STRUO_NOT_EQUIVALENT, 1, 0, 1, 1), STRUO_TRACE_LENGTH(0, 1, 1));
+    checks("wire against itself", wire, sizeof wire, 64, STRUO_WORDS_LENGTH, accepted(STRUO_EQUIVALENT, 1, 0, 1, 1), 0);
+    checks("depth 0", wire, sizeof wire, 0, STRUO_WORDS_LENGTH, (struct struo_check_answer){.number = STRUO_REFUSAL_ZERO_DEPTH}, 0);
+    checks("depth 65", wire, sizeof wire, 65, STRUO_WORDS_LENGTH, (struct struo_check_answer){.number = STRUO_REFUSAL_DEPTH_LIMIT}, 0);
+    checks("depth 2^32 + 1", wire, sizeof wire, 4294967297, STRUO_WORDS_LENGTH, (struct struo_check_answer){.number = STRUO_REFUSAL_DEPTH_LIMIT}, 0);
+    checks_pair("a row to depth 1", row, sizeof row, holding, sizeof holding, 1, STRUO_WORDS_LENGTH, accepted(STRUO_INCONCLUSIVE, 1, 0, 1, 1), 0);
+    learns();
+    checks("a cut gate", inverter, 5, 1, STRUO_WORDS_LENGTH, (struct struo_check_answer){.number = STRUO_REFUSAL_LENGTH, .side = STRUO_GATE}, 0);
+    checks("a word short", inverter, sizeof inverter, 1, STRUO_WORDS_LENGTH - 1, (struct struo_check_answer){.number = STRUO_REFUSAL_MEMORY}, 0);
+}
+
 int main(void) {
     uint8_t other[19];
     reads("wire", wire, sizeof wire, 0, 0);
@@ -212,14 +248,7 @@ int main(void) {
     steps("past it", (struct struo_position){UINT64_MAX, true}, 0, 1, sizeof bits, STRUO_ACCEPTED, false, UINT64_MAX, true, 0, 1);
     steps("bits short", (struct struo_position){1, true}, 0, 1, STRUO_BITS_LENGTH - 1, STRUO_REFUSAL_MEMORY, false, 1, true, 0, 1);
     steps("a stored bit 2", (struct struo_position){1, true}, 0, 2, sizeof bits, STRUO_REFUSAL_CLAIM, false, 1, true, 0, 2);
-    checks("wire against inverter", inverter, sizeof inverter, 1, STRUO_WORDS_LENGTH, (struct struo_check_answer){.status = STRUO_NOT_EQUIVALENT, .depth = 1}, STRUO_TRACE_LENGTH(0, 1, 1));
-    checks("wire against itself", wire, sizeof wire, 64, STRUO_WORDS_LENGTH, (struct struo_check_answer){.status = STRUO_EQUIVALENT, .depth = 1}, 0);
-    checks("depth 0", wire, sizeof wire, 0, STRUO_WORDS_LENGTH, (struct struo_check_answer){.number = STRUO_REFUSAL_ZERO_DEPTH}, 0);
-    checks("depth 65", wire, sizeof wire, 65, STRUO_WORDS_LENGTH, (struct struo_check_answer){.number = STRUO_REFUSAL_DEPTH_LIMIT}, 0);
-    checks("depth 2^32 + 1", wire, sizeof wire, 4294967297, STRUO_WORDS_LENGTH, (struct struo_check_answer){.number = STRUO_REFUSAL_DEPTH_LIMIT}, 0);
-    checks_pair("a row to depth 1", row, sizeof row, holding, sizeof holding, 1, STRUO_WORDS_LENGTH, (struct struo_check_answer){.status = STRUO_INCONCLUSIVE, .depth = 1}, 0);
-    checks("a cut gate", inverter, 5, 1, STRUO_WORDS_LENGTH, (struct struo_check_answer){.number = STRUO_REFUSAL_LENGTH, .side = STRUO_GATE}, 0);
-    checks("a word short", inverter, sizeof inverter, 1, STRUO_WORDS_LENGTH - 1, (struct struo_check_answer){.number = STRUO_REFUSAL_MEMORY}, 0);
+    every_check();
     on_stack("a read", reading, STRUO_READ_STACK);
     on_stack("a replay", replaying, STRUO_REPLAY_STACK);
     on_stack("a begin", beginning, STRUO_BEGIN_STACK);

@@ -10,10 +10,10 @@
 #define HELD 0xa5
 #define SPARE 8192
 
-/* How often each refusal was met by call and side, each status, each query that gave up, and each answer of a replay. */
+/* How often each refusal was met by call and side, each status, each query that gave up or learned most, and each answer of a replay. */
 enum { READ, CHECK, REPLAY };
 static const char *const calls[3] = {"read", "check", "replay"};
-static unsigned met[3][26][2], statuses[4], gave_up[5], answers[2];
+static unsigned met[3][26][2], statuses[4], gave_up[5], learned_most[5], answers[2];
 
 /* The line in hand, how many calls were made, and how many of them differ. */
 static unsigned lines, made, differ;
@@ -153,12 +153,13 @@ static void check_line(void) {
     memset(trace, HELD, sizeof trace);
     struct struo_check_answer answer = struo_check(gold.data, gold.length, gate.data, gate.length, depth, trace, trace_length, words, words_length, scores, scores_length);
     bool accepted = answer.number == 0, same = refused_so(answer.number, answer.side, answer.place);
-    const uint32_t told[4] = {answer.status, answer.depth, answer.mismatch, answer.query};
-    for (int i = 0; i < 4; i++) same &= told[i] == number();
+    const uint32_t told[7] = {answer.status, answer.depth, answer.mismatch, answer.query, answer.learned, answer.learned_depth, answer.learned_query};
+    for (int i = 0; i < 7; i++) same &= told[i] == number();
     struct bytes written = hex();
     same &= trace_holds(written) && work_holds(accepted, words_length, scores_length);
     if (accepted && answer.status < 4) statuses[answer.status]++;
     if (accepted && answer.query < 5) gave_up[answer.query]++;
+    if (answer.learned > 0 && answer.learned_query < 5) learned_most[answer.learned_query]++;
     if (accepted || !same) hold();
     count(CHECK, answer.number, answer.side, same);
     free(gold.data), free(gate.data), free(written.data);
@@ -186,7 +187,8 @@ static unsigned unmet(void) {
     }
     printf("recorded: Equivalent %u, NotEquivalent %u, Inconclusive %u, GaveUp %u (query 1 %u, 2 %u, 3 %u, 4 %u); replay no %u, yes %u\n", statuses[0],
            statuses[1], statuses[2], statuses[3], gave_up[1], gave_up[2], gave_up[3], gave_up[4], answers[0], answers[1]);
-    for (int i = 0; i < 4; i++) missing += !statuses[i] + !gave_up[i + 1];
+    printf("recorded: most learned in query 1 %u, 2 %u, 3 %u, 4 %u\n", learned_most[1], learned_most[2], learned_most[3], learned_most[4]);
+    for (int i = 0; i < 4; i++) missing += !statuses[i] + !gave_up[i + 1] + !learned_most[i + 1];
     return missing + !answers[0] + !answers[1];
 }
 

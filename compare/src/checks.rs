@@ -29,6 +29,8 @@ pub struct Tally {
     pub statuses: [u64; 4],
     /// Give-ups by query, 1 to 4.
     pub gave_up: [u64; 5],
+    /// Checks that learned something, by the query that learned most, 1 to 4.
+    pub learned_most: [u64; 5],
     /// The largest depth answered, the latest mismatch, the most literals learned in a query.
     pub deepest: usize,
     pub latest: usize,
@@ -44,6 +46,7 @@ impl Tally {
         if answer.refusal.is_none() {
             self.statuses[usize::from(answer.status)] += 1;
             self.gave_up[answer.query] += u64::from(answer.query > 0);
+            self.learned_most[answer.learned_query] += u64::from(answer.learned > 0);
         }
         self.deepest = self.deepest.max(answer.depth);
         self.latest = self.latest.max(answer.mismatch);
@@ -59,17 +62,19 @@ impl Tally {
         self.met.add(&other.met);
         add(&mut self.statuses, &other.statuses);
         add(&mut self.gave_up, &other.gave_up);
+        add(&mut self.learned_most, &other.learned_most);
         self.deepest = self.deepest.max(other.deepest);
         self.latest = self.latest.max(other.latest);
         self.learned = self.learned.max(other.learned);
         self
     }
 
-    /// The refusals, statuses and queries that gave up that were not met.
+    /// The refusals, the statuses, and the queries that gave up or learned most that were not met.
     fn missing(&self) -> Vec<String> {
         let mut missing = self.met.missing(Kind::Check);
         missing.extend((0..4).filter(|status| self.statuses[*status] == 0).map(|status| format!("status {status}")));
         missing.extend((1..5).filter(|query| self.gave_up[*query] == 0).map(|query| format!("a give-up in query {query}")));
+        missing.extend((1..5).filter(|query| self.learned_most[*query] == 0).map(|query| format!("a check that learned most in query {query}")));
         missing
     }
 }
@@ -93,6 +98,9 @@ fn expected(answer: &CheckAnswer) -> Check {
             depth: answer.depth as u32,
             mismatch: answer.mismatch as u32,
             query: answer.query as u32,
+            learned: answer.learned as u32,
+            learned_depth: answer.learned_depth as u32,
+            learned_query: answer.learned_query as u32,
             ..Check::default()
         },
     }
@@ -254,15 +262,17 @@ fn blocks(count: usize, seed: u64) -> Vec<Block> {
     blocks
 }
 
-/// Checks the fixed families and `count` random pairs through the library, and says what came of it: each status, a give-up in each query and each
-/// refusal on each side that it can have have to be met. From 10,000 pairs on with the rescaling, the deepest searches and the pairs that are measured alone.
+/// Checks the fixed families and `count` random pairs through the library, and says what came of it: each status, a give-up in each query, each query as the
+/// one that learned most, and each refusal on each side that it can have have to be met. From 10,000 pairs on with the rescaling, the deepest searches and the pairs that are measured alone.
 pub fn compare(count: u64, seed: u64) -> ExitCode {
     let threads = std::thread::available_parallelism().map_or(1, usize::from);
     let tally = run(usize::try_from(count).expect("a count fits"), seed, threads, &struo_formal::check);
     println!("checks by refusal, gold+gate: {}", tally.met.told(Kind::Check));
     let [equivalent, different, inconclusive, gave_up] = tally.statuses;
     println!("accepted: {equivalent} Equivalent, {different} NotEquivalent, {inconclusive} Inconclusive, {gave_up} GaveUp (by query {:?})", &tally.gave_up[1..]);
-    println!("deepest {}, latest mismatch {}, most learned {}", tally.deepest, tally.latest, tally.learned);
+    let learning: u64 = tally.learned_most.iter().sum();
+    println!("deepest {}, latest mismatch {}", tally.deepest, tally.latest);
+    println!("most learned {}, something in {learning} checks (most in query {:?})", tally.learned, &tally.learned_most[1..]);
     let missing = unmet(&tally.missing());
     println!("{} pairs, {} checks, {} differ", tally.pairs, tally.checks, tally.differ);
     ExitCode::from(u8::from(tally.differ > 0 || missing))
@@ -306,10 +316,10 @@ mod tests {
         expected(&answer)
     }
 
-    /// A few pairs: small ones, ones with other buffers, and ones with a fault.
+    /// A few pairs: small ones, ones whose queries learn something, ones with other buffers, and ones with a fault.
     fn few() -> Vec<Block> {
         let block = |family, count, skip| Block { family, count, skip, seed: 3 };
-        vec![block("small", 6, 0), block("buffers", 7, 0), block("refusals", 4, 84), block("sides", 60, 54)]
+        vec![block("small", 6, 0), block("rewritten", 2, 0), block("buffers", 7, 0), block("refusals", 4, 84), block("sides", 60, 54)]
     }
 
     /// The checks that differ where `lie` changes what the honest library answered and left.
@@ -335,6 +345,16 @@ mod tests {
         assert!(differing(|answer, _, _, _| answer.status = if answer.status == 1 { 2 } else { answer.status }) > 0);
         assert!(differing(|answer, _, _, _| answer.place = 0) > 0);
         assert!(differing(|answer, _, _, _| answer.side = 0) > 0);
+    }
+
+    #[test]
+    fn a_wrong_total_or_its_query_is_found() {
+        assert!(differing(|answer, _, _, _| answer.learned = 0) > 0);
+        assert!(differing(|answer, _, _, _| answer.learned += u32::from(answer.learned > 0)) > 0);
+        assert!(differing(|answer, _, _, _| answer.learned_depth = answer.depth) > 0);
+        assert!(differing(|answer, _, _, _| answer.learned_query = u32::from(answer.number == 0)) > 0);
+        assert!(differing(|answer, _, _, _| if answer.number > 0 { (answer.learned_depth, answer.learned_query) = (1, 1) }) > 0);
+        assert!(differing(|answer, _, _, _| if answer.number == 0 && answer.learned == 0 { (answer.learned_depth, answer.learned_query) = (0, 0) }) > 0);
     }
 
     #[test]
@@ -369,6 +389,7 @@ mod tests {
     #[test]
     fn what_was_not_met_is_said() {
         let missing = run_blocks(&few(), 2, &honest).missing();
-        assert!(missing.contains(&"status 3".into()) && missing.contains(&"a give-up in query 4".into()));
+        let all = ["status 3", "a give-up in query 4", "a check that learned most in query 2"];
+        assert!(all.iter().all(|what| missing.contains(&String::from(*what))));
     }
 }

@@ -1,11 +1,12 @@
 //! The call check: the Rust's prove_sequential_equivalence under the limit of learned literals.
 use crate::bridge::system;
 use crate::equivalence::{prove_sequential_equivalence, Counterexample, EquivalenceResult, EquivalenceStatus};
-use crate::meter::{self, Report, Wish};
+use crate::meter::{self, Query, Report, Wish};
 use crate::pair::{check_refusal, read_pair, Lent};
 use crate::record::{Design, Refusal};
 
-/// What a check answers; the trace is the bytes written, for status 1 only; `learned` the largest total of its queries.
+/// What a check answers; the trace is the bytes written, for status 1 only; `learned` is the largest total of the queries asked, `learned_depth` and
+/// `learned_query` depth and number of the first of them that has it.
 #[derive(Clone, Debug, Default, Eq, PartialEq)]
 pub struct CheckAnswer {
     pub refusal: Option<Refusal>,
@@ -13,8 +14,10 @@ pub struct CheckAnswer {
     pub depth: usize,
     pub mismatch: usize,
     pub query: usize,
-    pub trace: Vec<u8>,
     pub learned: usize,
+    pub learned_depth: usize,
+    pub learned_query: usize,
+    pub trace: Vec<u8>,
 }
 
 /// The statuses' numbers.
@@ -51,12 +54,19 @@ fn answered(gold: &Design, result: &EquivalenceResult) -> CheckAnswer {
     }
 }
 
+/// The largest total of the queries, in the order asked, with depth and number of the first that has it.
+fn most_learned(queries: &[Query]) -> (usize, usize, usize) {
+    let most = queries.iter().map(|query| query.learned).max().expect("a query is asked");
+    let first = queries.iter().find(|query| query.learned == most).expect("a query has it");
+    (most, first.depth, first.number)
+}
+
 /// Two accepted designs checked to a depth, and what the search reported.
 pub fn prove(gold: &Design, gate: &Design, depth: usize, wish: Wish) -> (CheckAnswer, Report) {
     meter::reset(wish);
     let result = meter::unless_gave_up(|| prove_sequential_equivalence(&system(gold), &system(gate), depth));
     let report = meter::report();
-    let learned = report.queries.iter().map(|query| query.learned).max().unwrap_or(0);
+    let (learned, learned_depth, learned_query) = most_learned(&report.queries);
     assert!(report.queries.iter().all(|query| query.nodes <= 65_536), "the bound of refusal 23");
     let answer = match result {
         Some(result) => answered(gold, &result.expect("the pair passed its refusals")),
@@ -65,7 +75,7 @@ pub fn prove(gold: &Design, gate: &Design, depth: usize, wish: Wish) -> (CheckAn
             CheckAnswer { status: GAVE_UP, depth: query.depth, query: query.number, ..CheckAnswer::default() }
         }
     };
-    (CheckAnswer { learned, ..answer }, report)
+    (CheckAnswer { learned, learned_depth, learned_query, ..answer }, report)
 }
 
 /// Check with its report: gold's record, gate's record, the maximum depth, the lengths of the buffers lent.

@@ -108,6 +108,9 @@ pub fn cases() -> Vec<String> {
     for depth in [66, 1 << 32, u64::MAX] {
         lines.push(check_of(&shapes::wire(), &shapes::wire(), depth));
     }
+    lines.push("# y = a against y = 0; y = a Xor b against the same by Or, And and Not".into());
+    lines.push(check_of(&shapes::wire(), &shapes::zero(), 1));
+    lines.push(check_of(&shapes::exclusive_or(false), &shapes::exclusive_or(true), 1));
     lines
 }
 

@@ -116,6 +116,30 @@ pub fn inverter() -> Design {
     b.design
 }
 
+/// The wire's ports, y = 0.
+pub fn zero() -> Design {
+    let mut b = Builder::new("g");
+    b.input("a");
+    let zero = b.constant(false);
+    b.output("y", zero);
+    b.design
+}
+
+/// y = a Xor b, as one node, or by Or, And and Not.
+pub fn exclusive_or(by_gates: bool) -> Design {
+    let mut b = Builder::new("g");
+    let (lhs, rhs) = (b.input("a"), b.input("b"));
+    let y = if by_gates {
+        let (either, both) = (b.or(lhs, rhs), b.and(lhs, rhs));
+        let one = b.not(both);
+        b.and(either, one)
+    } else {
+        b.xor(lhs, rhs)
+    };
+    b.output("y", y);
+    b.design
+}
+
 /// A register that takes Not of its own output; y reads it.
 pub fn toggle(name: &str, reset: Option<Reset>) -> Design {
     let mut b = Builder::new("g");

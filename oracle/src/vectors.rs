@@ -54,19 +54,18 @@ fn replay_words(answer: ReplayAnswer) -> String {
 
 /// The right side of a check.
 pub fn check_words(answer: &CheckAnswer) -> String {
-    let CheckAnswer { refusal, status, depth, mismatch, query, trace, learned } = answer;
-    format!("{} {status} {depth} {mismatch} {query} {} {learned}", refusal_words(*refusal), hex(trace))
+    let CheckAnswer { refusal, status, depth, mismatch, query, learned, learned_depth, learned_query, trace } = answer;
+    let refusal = refusal_words(*refusal);
+    format!("{refusal} {status} {depth} {mismatch} {query} {learned} {learned_depth} {learned_query} {}", hex(trace))
 }
 
-/// The right side of a check under another limit, with memory enough: the check's words but the last, then each query's depth, number and total.
+/// The right side of a check under another limit, with memory enough: the check's words, then each query's depth, number and total.
 fn under_words(limit: u64, gold: &[u8], gate: &[u8], depth: u64) -> String {
     let lent = Lent { trace: 65_536, words: WORDS, scores: SCORES };
     let limit = usize::try_from(limit).expect("a limit fits");
     let (answer, report) = check_reporting(gold, gate, depth, lent, Wish { limit, ..Wish::default() });
-    let words = check_words(&answer);
-    let (kept, _) = words.rsplit_once(' ').expect("nine words");
     let asked: Vec<String> = report.queries.iter().map(|query| format!("{}.{}.{}", query.depth, query.number, query.learned)).collect();
-    format!("{kept} {}", if asked.is_empty() { "-".into() } else { asked.join(",") })
+    format!("{} {}", check_words(&answer), if asked.is_empty() { "-".into() } else { asked.join(",") })
 }
 
 /// A decimal number.

@@ -118,7 +118,7 @@ fn feedback() {
 /// Rows named apart are proved at their length, by query 4.
 #[test]
 fn rows() {
-    assert_eq!(answer(&generate("rows", 1, 1)[0]), "0 0 0 0 32 0 0 - 0");
+    assert_eq!(answer(&generate("rows", 1, 1)[0]), "0 0 0 0 32 0 0 0 1 1 -");
 }
 
 /// Nothing is learned where a design is checked against itself, whatever the limit.
@@ -129,7 +129,7 @@ fn self_check() {
     let (answer, _) = check_reporting(&bytes, &bytes, 64, lent, Wish { limit: 0, ..Wish::default() });
     assert_eq!(answer.refusal.map(|refusal| refusal.number), Some(23));
     let (answer, _) = check_reporting(&bytes, &bytes, 8, lent, Wish { limit: 0, ..Wish::default() });
-    assert_eq!((answer.refusal, answer.status, answer.depth, answer.learned), (None, EQUIVALENT, 1, 0));
+    assert_eq!((answer.refusal, answer.status, answer.depth, answer.learned, answer.learned_depth, answer.learned_query), (None, EQUIVALENT, 1, 0, 1, 1));
 }
 
 /// A line's answer is found again in the line; a family gives the same lines again.

@@ -1,7 +1,7 @@
 """The checker's calls for Python: typed functions over the proved library, which alone decides."""
 from __future__ import annotations
 
-from .answers import BeginAnswer, CheckAnswer, Position, ReadAnswer, Refusal, ReplayAnswer, Side, Status, StepAnswer
+from .answers import LEARNED_LIMIT, BeginAnswer, CheckAnswer, Position, ReadAnswer, Refusal, ReplayAnswer, Side, Status, StepAnswer
 from .explain import Question, explain
 from .library import Library, LibraryMissing, Memory, open_library
 from .record import Design, decode, encode
@@ -10,8 +10,8 @@ from .version import VERSION
 __version__ = VERSION
 
 __all__ = [
-    "BeginAnswer", "CheckAnswer", "Design", "Library", "LibraryMissing", "Memory", "Position", "Question", "ReadAnswer", "Refusal", "ReplayAnswer", "Side",
-    "Status", "StepAnswer", "begin", "check", "decode", "encode", "explain", "open_library", "read", "replay", "step",
+    "BeginAnswer", "CheckAnswer", "Design", "LEARNED_LIMIT", "Library", "LibraryMissing", "Memory", "Position", "Question", "ReadAnswer", "Refusal",
+    "ReplayAnswer", "Side", "Status", "StepAnswer", "begin", "check", "decode", "encode", "explain", "open_library", "read", "replay", "step",
 ]
 
 

@@ -6,6 +6,10 @@ from enum import IntEnum
 from typing import Optional
 
 
+# The most literals that the clauses learned by one query have together: a query whose next clause would pass this gives up.
+LEARNED_LIMIT = 262_144
+
+
 class Side(IntEnum):
     """A side of a pair."""
 
@@ -89,11 +93,20 @@ class StepAnswer:
 
 @dataclass(frozen=True)
 class CheckAnswer:
-    """What a check answers; `trace` holds the bytes that were written for NotEquivalent, a claim that a replay takes."""
+    """What a check answers. `learned` is the largest total of learned literals over the queries asked, `learned_depth` and `learned_query` depth and number of the
+    first of them that has it; `trace` holds the bytes that were written for NotEquivalent, a claim that a replay takes."""
 
     refusal: Optional[Refusal]
     status: Optional[Status]
     depth: int
     mismatch: int
     query: int
+    learned: int
+    learned_depth: int
+    learned_query: int
     trace: bytes
+
+    @property
+    def near_limit(self) -> bool:
+        """Whether a query learned three quarters of what it may, or more."""
+        return self.learned * 4 >= LEARNED_LIMIT * 3

@@ -67,7 +67,7 @@ def check_command(options: argparse.Namespace) -> Exit:
     if difference is not None:
         files += [(options.claim, claim_text(decode(gold.record), difference.claim), False), (options.vcd, vcd(difference), False)]
     output.answer(report.json() if options.json else report.line())
-    for line in (trace_lines(difference) if difference else []) + report.advice():
+    for line in (trace_lines(difference) if difference else []) + report.learned_lines() + report.advice():
         tell(line)
     write_files(files)
     return report.exit

@@ -39,7 +39,8 @@ class _Replay(ctypes.Structure):
 class _Check(ctypes.Structure):
     """struct struo_check_answer."""
 
-    _fields_ = [*_Read._fields_, *((name, ctypes.c_uint32) for name in ("status", "depth", "mismatch", "query"))]
+    _fields_ = [*_Read._fields_, *((name, ctypes.c_uint32) for name in (
+        "status", "depth", "mismatch", "query", "learned", "learned_depth", "learned_query"))]
 
 
 class _Position(ctypes.Structure):
@@ -160,7 +161,8 @@ class Library:
         answer = self._ask("struo_check", gold=gold, gate=gate, depth=_number(depth), trace=memory.trace, words=memory.words, scores=memory.scores)
         status = None if answer.number else Status(answer.status)
         trace = memory.written() if status is Status.NOT_EQUIVALENT else b""
-        return CheckAnswer(_refusal(answer), status, answer.depth, answer.mismatch, answer.query, trace)
+        learned = answer.learned, answer.learned_depth, answer.learned_query
+        return CheckAnswer(_refusal(answer), status, answer.depth, answer.mismatch, answer.query, *learned, trace)
 
 
 def _number(number: int) -> int:

@@ -7,7 +7,7 @@ import time
 from dataclasses import dataclass
 from typing import Any, Dict, List, Optional
 
-from .answers import CheckAnswer, Refusal, Status
+from .answers import LEARNED_LIMIT, CheckAnswer, Refusal, Status
 from .explain import Question, explain, reference
 from .exits import Exit
 from .files import RecordFile
@@ -63,6 +63,22 @@ def verdict_json(command: str, verdict: Optional[str], rest: Dict[str, Any]) -> 
 def outputs_words(found: List[bytes]) -> str:
     """`output y differs`, `outputs y, z differ`."""
     return f"output {listed(found)} differs" if len(found) == 1 else f"outputs {listed(found)} differ"
+
+
+def learned_words(answer: CheckAnswer) -> str:
+    """How near a check came to giving up: `learned 11,643 of 262,144 literals, most in query 1 of depth 37`."""
+    if answer.refusal is not None:
+        return "learned nothing: no query was asked"
+    if answer.learned == 0:
+        return "learned nothing: no query had to learn a clause"
+    where = f"query {answer.learned_query} of depth {answer.learned_depth}"
+    return f"learned {answer.learned:,} of {LEARNED_LIMIT:,} literals, most in {where}"
+
+
+def learned_json(answer: CheckAnswer) -> Dict[str, Any]:
+    """What was learned as JSON has it."""
+    asked = answer.refusal is None
+    return {name: getattr(answer, name) if asked else None for name in ("learned", "learned_depth", "learned_query")}
 
 
 @dataclass(frozen=True)
@@ -131,6 +147,17 @@ class CheckReport:
         word = "Refused" if self.status is None else self.status.word
         return f"{word}: {self.detail()}"
 
+    def learned_lines(self) -> List[str]:
+        """How near an accepted check came to giving up, and what helps where that was near."""
+        if self.answer.refusal is not None:
+            return []
+        lines = [learned_words(self.answer)]
+        if self.answer.near_limit:
+            came = "to" if self.answer.status is Status.GAVE_UP else "near"
+            smaller = " or a smaller depth" if self.answer.learned_depth > 1 else ""
+            lines.append(f"The search came {came} its limit: splitting the design{smaller} helps.")
+        return lines
+
     def advice(self) -> List[str]:
         """What can be tried where a verdict is missing."""
         if self.status not in (Status.INCONCLUSIVE, Status.GAVE_UP):
@@ -139,7 +166,7 @@ class CheckReport:
         fits, alike = largest_depth(gold, gate), named_alike(gold, gate)
         lines = ["This is no pass: nothing may be written on the release sheet on its strength. What can be tried:"]
         if self.status is Status.INCONCLUSIVE and self.depth < fits:
-            lines.append(f"- a larger depth: up to --depth {fits} fits this pair")
+            lines.append(f"- a larger depth: up to --depth {fits} fits this pair{', though a query may then give up' if self.answer.near_limit else ''}")
         if alike.count < min(alike.gold, alike.gate):
             lines.append("- register names kept by the tools, so that more registers are named alike")
         if self.hunt is None and self.answer.query != 1:
@@ -163,7 +190,8 @@ class CheckReport:
             return None
         answer = self.hunt.answer
         word = None if answer.status is None else answer.status.word
-        return {"asked_depth": self.hunt.depth, "status": word, "depth": answer.depth, "query": answer.query, "confirmed_by_replay": self.hunt.confirmed}
+        return {"asked_depth": self.hunt.depth, "status": word, "depth": answer.depth, "query": answer.query, **learned_json(answer),
+                "confirmed_by_replay": self.hunt.confirmed}
 
     def json(self) -> str:
         """Everything as one line of JSON."""
@@ -172,7 +200,8 @@ class CheckReport:
         told: Dict[str, Any] = {
             "exit_status": int(self.exit), "words": self.detail(), "refusal": refusal_json(self.answer.refusal, self.question),
             "asked_depth": self.depth, "depth": self.deciding.depth, "mismatch": self.deciding.mismatch if self.claim else None,
-            "query": self.answer.query or None, "gold": side_json(self.gold, accepted), "gate": side_json(self.gate, accepted),
+            "query": self.answer.query or None, **learned_json(self.answer),
+            "gold": side_json(self.gold, accepted), "gate": side_json(self.gate, accepted),
             "found_by": None if self.claim is None else "hunt" if self.hunted else "check",
             "first_status": None if first is None else int(first), "hunt": self.hunt_json(), "trace": self.trace_json(),
             "named_alike": named_alike(decode(self.gold.record), decode(self.gate.record)).count if accepted else None,
@@ -197,7 +226,7 @@ class CheckReport:
         columns += [f"asked depth {self.depth}", f"depth {self.deciding.depth}"]
         for side, file in (("gold", self.gold), ("gate", self.gate)):
             columns += [f"{side} {shown(file.path)}", f"{side} SHA-256 {file.sha256 or 'none, the file is longer than a record'}"]
-        columns += [f"struo {VERSION}", f"record version {RECORD_VERSION}", f"library SHA-256 {made['library_sha256']}"]
+        columns += [f"struo {VERSION}", f"record version {RECORD_VERSION}", f"library SHA-256 {made['library_sha256']}", learned_words(self.answer)]
         return "\t".join(columns) + "\n"
 
 

@@ -22,7 +22,7 @@ class Check(Case):
     def test_equivalent(self):
         ended = self.check(designs.toggle("q"), designs.toggle("p"), "--depth", "3")
         self.assertEqual(ended.out, "Equivalent: the outputs agree in every cycle of every input sequence (proved at depth 1 of 3)\n")
-        self.assertEqual((ended.status, ended.err), (0, ""))
+        self.assertEqual((ended.status, ended.err), (0, "learned 1 of 262,144 literals, most in query 3 of depth 1\n"))
 
     def test_a_difference_is_told_with_names(self):
         ended = self.check(designs.row("p", "q"), designs.holding(), "--depth", "2")
@@ -161,6 +161,13 @@ class Others(Case):
             ended = inside("check", str(EXAMPLES / f"{pair}_gold.struo"), str(EXAMPLES / f"{pair}_gate.struo"), "--depth", "8")
             self.assertEqual(ended.out, "Equivalent: the outputs agree in every cycle of every input sequence (proved at depth 1 of 8)\n")
         self.assertEqual(inside("check", WIRE, INVERTER, "--depth", "8").status, 1)
+
+    def test_the_outputs_of_the_readme(self):
+        text = (ROOT / "README.md").read_text()
+        for pair in (("command_buffer_gold", "command_buffer_gate"), ("wire", "inverter")):
+            ended = inside("check", *(str(EXAMPLES / f"{name}.struo") for name in pair), "--depth", "8")
+            block = "".join(f"    {line}\n" for line in (ended.out + ended.err).splitlines())
+            self.assertIn(f"\n\n{block}\n", text)
 
 
 if __name__ == "__main__":

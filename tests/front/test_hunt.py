@@ -29,7 +29,9 @@ class Hunts(Case):
         self.assertEqual(inside("replay", *pair, "--claim", claim).status, 0)
         told = json.loads(inside("check", *pair, "--depth", "4", "--hunt", "--json").out)
         self.assertEqual((told["verdict"], told["found_by"], told["first_status"], told["mismatch"]), ("NOT EQUIVALENT", "hunt", 3, 2))
-        self.assertEqual(told["hunt"], {"asked_depth": 4, "status": "NOT EQUIVALENT", "depth": 2, "query": 0, "confirmed_by_replay": True})
+        self.assertEqual(told["hunt"], {"asked_depth": 4, "status": "NOT EQUIVALENT", "depth": 2, "query": 0, "learned": 0, "learned_depth": 1,
+                                        "learned_query": 1, "confirmed_by_replay": True})
+        self.assertEqual((told["learned"], told["learned_depth"], told["learned_query"]), (262_144, 1, 2))
 
     def test_the_hunt_keeps_to_the_asked_depth_after_a_give_up(self):
         ended = inside("check", *self.hard(True), "--depth", "1", "--hunt")

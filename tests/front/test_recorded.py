@@ -56,16 +56,16 @@ class Recorded(unittest.TestCase):
     def test_every_fourth_check(self):
         count = 0
         for (gold, gate, depth, trace, words, scores), answered in islice(self.lines("check"), 0, None, 4):
-            if int(answered[8]) > QUICK:
+            if int(answered[7]) > QUICK:
                 continue
             lent = int(trace), int(words), int(scores)
             question = Question(data(gold), data(gate), int(depth), 0, b"", *lent)
             answer = open_library().check(question.gold, data(gate), question.depth, memory(*lent))
             self.same(answer.refusal, answered, question)
             if answer.refusal is None:
-                told = (int(answer.status), answer.depth, answer.mismatch, answer.query)
-                self.assertEqual(told, tuple(map(int, answered[3:7])))
-                self.assertEqual(answer.trace, data(answered[7]) if answer.status is Status.NOT_EQUIVALENT else b"")
+                told = (int(answer.status), answer.depth, answer.mismatch, answer.query, answer.learned, answer.learned_depth, answer.learned_query)
+                self.assertEqual(told, tuple(map(int, answered[3:10])))
+                self.assertEqual(answer.trace, data(answered[10]) if answer.status is Status.NOT_EQUIVALENT else b"")
             count += 1
         self.assertGreater(count, 100)
 

@@ -17,8 +17,8 @@ def digest(path: str) -> str:
     return hashlib.sha256(Path(path).read_bytes()).hexdigest()
 
 
-FIELDS = {"command", "verdict", "exit_status", "words", "refusal", "asked_depth", "depth", "mismatch", "query", "gold", "gate", "found_by", "first_status",
-          "hunt", "trace", "named_alike", "versions"}
+FIELDS = {"command", "verdict", "exit_status", "words", "refusal", "asked_depth", "depth", "mismatch", "query", "learned", "learned_depth", "learned_query",
+          "gold", "gate", "found_by", "first_status", "hunt", "trace", "named_alike", "versions"}
 
 
 class Json(Case):

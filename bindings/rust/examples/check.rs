@@ -2,7 +2,7 @@
 //! Inconclusive, 3 for GaveUp, 4 for a refusal, 64 for wrong usage and 66 for a file that cannot be read.
 use std::process::ExitCode;
 
-use struo_formal::{Checker, Status};
+use struo_formal::{Checker, Status, LEARNED_LIMIT};
 
 /// Checks the two records, and says the verdict or the refusal.
 fn checked(gold: &[u8], gate: &[u8], depth: u64) -> ExitCode {
@@ -13,6 +13,7 @@ fn checked(gold: &[u8], gate: &[u8], depth: u64) -> ExitCode {
         }
         Ok(verdict) => {
             println!("{} (depth {})", verdict.status, verdict.depth);
+            println!("learned at most {} of {LEARNED_LIMIT} literals (query {} of depth {})", verdict.learned, verdict.learned_query, verdict.learned_depth);
             if let Some(difference) = verdict.difference {
                 println!("cycle {}, trace {:?}", difference.cycle, difference.trace);
             }

@@ -78,6 +78,12 @@ pub struct CheckAnswer {
     pub mismatch: u32,
     /// For GaveUp the number of the query that gave up, 1 to 4.
     pub query: u32,
+    /// The largest total of learned literals over the queries asked, at most `LEARNED_LIMIT`: how near the check came to giving up.
+    pub learned: u32,
+    /// The depth of the first query asked that has this total; 1 where nothing was learned.
+    pub learned_depth: u32,
+    /// The number of that query, 1 to 4; 1 where nothing was learned.
+    pub learned_query: u32,
 }
 
 impl CheckAnswer {

@@ -25,6 +25,12 @@ pub struct Verdict {
     pub difference: Option<Difference>,
     /// For GaveUp the number of the query that gave up, 1 to 4.
     pub query: Option<u32>,
+    /// The largest total of learned literals over the queries asked, at most `LEARNED_LIMIT`: how near the check came to giving up.
+    pub learned: u32,
+    /// The depth of the first query asked that has this total; 1 where nothing was learned.
+    pub learned_depth: u32,
+    /// The number of that query, 1 to 4; 1 where nothing was learned.
+    pub learned_query: u32,
 }
 
 /// A difference: a claim to which `replay` answers yes.
@@ -59,6 +65,9 @@ impl Checker {
             depth: answer.depth,
             difference: (status == Status::NotEquivalent).then_some(difference),
             query: (status == Status::GaveUp).then_some(answer.query),
+            learned: answer.learned,
+            learned_depth: answer.learned_depth,
+            learned_query: answer.learned_query,
         })
     }
 }

@@ -42,6 +42,9 @@ pub const SCORES: usize = 65_536;
 /// A trace of this length is enough for every pair: 64 inputs in each of 65 cycles, and 64 outputs.
 pub const TRACE: usize = 65 * 64 + 64;
 
+/// The most literals that the clauses learned by one query have together: a query whose next clause would pass this gives up.
+pub const LEARNED_LIMIT: u32 = 262_144;
+
 /// How many bytes of stored bits a begin and a step need, and the byte where gate's begin.
 pub const BITS: usize = 256;
 pub const GATE_BITS: usize = 128;
@@ -131,6 +134,11 @@ mod tests {
     const WIRE: &[u8] = b"\x01\0\0\0\x13\x01g\0\x02\0\x01a\x11\x01y\0\0\0\0";
     const INVERTER: &[u8] = b"\x01\0\0\0\x16\x01g\0\x03\0\x01a\x10\0\0\x11\x01y\0\x01\0\0";
 
+    /// An accepted check at depth 1 in which no query learned anything.
+    fn nothing_learned(status: Status) -> CheckAnswer {
+        CheckAnswer { status: status as u32, depth: 1, learned_depth: 1, learned_query: 1, ..CheckAnswer::default() }
+    }
+
     /// Memory for a check, none of it zero.
     fn memory() -> (Vec<u8>, Vec<u32>, Vec<f64>) {
         (vec![7; 80], vec![7; WORDS + 1], vec![7.0; SCORES + 1])
@@ -158,7 +166,7 @@ mod tests {
     fn a_difference_is_found_with_its_trace() {
         let (mut trace, mut words, mut scores) = memory();
         let answer = check(WIRE, INVERTER, 1, &mut trace, &mut words, &mut scores);
-        assert_eq!(answer, CheckAnswer { status: Status::NotEquivalent as u32, depth: 1, ..CheckAnswer::default() });
+        assert_eq!(answer, nothing_learned(Status::NotEquivalent));
         assert_eq!(trace[..2], [0, 1]);
         assert!(trace[2..].iter().all(|byte| *byte == 7));
         assert!(words.iter().all(|word| *word == 0) && scores.iter().all(|score| score.to_bits() == 0));
@@ -169,7 +177,7 @@ mod tests {
     fn a_design_is_equivalent_to_itself() {
         let (mut trace, mut words, mut scores) = memory();
         let answer = check(WIRE, WIRE, 64, &mut trace, &mut words, &mut scores);
-        assert_eq!(answer, CheckAnswer { status: Status::Equivalent as u32, depth: 1, ..CheckAnswer::default() });
+        assert_eq!(answer, nothing_learned(Status::Equivalent));
         assert!(trace.iter().all(|byte| *byte == 7));
     }
 
@@ -191,7 +199,8 @@ mod tests {
             let verdict = checker.check(WIRE, INVERTER, 64).expect("both are accepted");
             assert_eq!(verdict.difference, Some(Difference { cycle: 0, trace: vec![0, 1] }));
             let verdict = checker.check(WIRE, WIRE, 64).expect("both are accepted");
-            assert_eq!(verdict, Verdict { status: Status::Equivalent, depth: 1, difference: None, query: None });
+            let expected = Verdict { status: Status::Equivalent, depth: 1, difference: None, query: None, learned: 0, learned_depth: 1, learned_query: 1 };
+            assert_eq!(verdict, expected);
         }
         let refused = checker.check(WIRE, &WIRE[..5], 1).unwrap_err();
         assert_eq!(refused, Refused { refusal: Refusal::Length, side: Side::Gate, place: 0 });
@@ -199,6 +208,23 @@ mod tests {
 
     /// A register q that takes Not of its own output, reset 0; y shows it.
     const TOGGLE: &[u8] = b"\x01\0\0\0\x2d\x01t\0\x05\0\x03clk\0\x03rst\x02\x10\0\x02\x11\x01y\0\x02\0\x01\x01q\0\x02\0\x03\0\0\0\0\x01\0\x01\0\0";
+
+    /// y = a Xor b, as one node and by Or, And and Not.
+    const XOR: &[u8] = b"\x01\0\0\0\x1b\x01x\0\x04\0\x01a\0\x01b\x22\0\0\0\x01\x11\x01y\0\x02\0\0";
+    const BY_GATES: &[u8] = b"\x01\0\0\0\x28\x01y\0\x07\0\x01a\0\x01b\x21\0\0\0\x01\x20\0\0\0\x01\x10\0\x03\x20\0\x02\0\x04\x11\x01y\0\x05\0\0";
+
+    #[test]
+    fn the_most_learned_is_told_with_its_query() {
+        assert_eq!(std::mem::size_of::<CheckAnswer>(), 40);
+        let mut renamed = TOGGLE.to_vec();
+        renamed[31] = b'p';
+        let mut checker = Checker::new();
+        for (gold, gate, learned, query) in [(TOGGLE, &renamed[..], 1, 3), (XOR, BY_GATES, 16, 1)] {
+            let verdict = checker.check(gold, gate, 1).expect("both are accepted");
+            assert_eq!((verdict.status, verdict.depth), (Status::Equivalent, 1));
+            assert_eq!((verdict.learned, verdict.learned_depth, verdict.learned_query), (learned, 1, query));
+        }
+    }
 
     #[test]
     fn a_position_is_stepped_to_the_claimed_cycle() {

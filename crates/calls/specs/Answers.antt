@@ -6,6 +6,7 @@ use Rattle.model.specs.Answers as Answers
 use Rattle.model.specs.Check.{CheckResult}
 use Rattle.calls.specs.declared.answers.ReadAnswer.{ReadAnswer}
 use Rattle.calls.specs.declared.answers.ReplayAnswer.{ReplayAnswer}
+use Rattle.calls.specs.declared.answers.Asked.{Asked}
 use Rattle.calls.specs.declared.answers.CheckAnswer.{CheckAnswer}
 
 -- the three numbers of a read
@@ -16,10 +17,25 @@ refusalOf r = record { number = r .number; side = r .side; place = r .place }
 unfoldable pub replayOf : ReplayAnswer → Answers.ReplayAnswer
 replayOf r = record { refusal = record { number = r .number; side = r .side; place = r .place }; yes = r .yes }
 
--- the seven numbers of a check
+-- a query asked
+unfoldable pub askedOf : Asked → Answers.Asked
+askedOf a = record { depth = a .depth; query = a .query; learned = a .learned }
+
+-- the ten numbers of a check
 unfoldable pub checkOf : CheckAnswer → Answers.CheckAnswer
 checkOf r =
-    record { number = r .number; side = r .side; place = r .place; status = r .status; depth = r .depth; mismatch = r .mismatch; query = r .query }
+    record {
+      number = r .number;
+      side = r .side;
+      place = r .place;
+      status = r .status;
+      depth = r .depth;
+      mismatch = r .mismatch;
+      query = r .query;
+      learned = r .learned;
+      learnedDepth = r .«learned_depth»;
+      learnedQuery = r .«learned_query»;
+    }
 
 -- the numbers of a check, and trace, words and scores after the call
 unfoldable pub checkedOf : CheckAnswer → List ℕ → List ℕ → List Float → CheckResult

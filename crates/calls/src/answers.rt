@@ -1,9 +1,10 @@
 // What the calls answer, as C has it.
 ghost use mathlib.Core.Path.{_≡_};
+ghost use Prim.Native.Nat.{_≤_};
 ghost use Rattle.model.specs.Answers.{acceptedAnswer};
 ghost use Rattle.model.specs.Check.{refusedCheck, checkAnswer};
 ghost use Rattle.model.specs.Replay.{refusedReplay};
-ghost use Rattle.calls.specs.Answers.{replayOf, checkOf};
+ghost use Rattle.calls.specs.Answers.{replayOf, askedOf, checkOf};
 ghost use Rattle.calls.specs.Faults.{refusal};
 
 // What a read answers: 0 or the refusal's number, the side, which is 0, and the place.
@@ -23,8 +24,16 @@ pub struct ReplayAnswer {
     pub yes: bool,
 }
 
+// A query that a check asked: its depth, its number, and its total of learned literals.
+pub struct Asked {
+    pub depth: u32,
+    pub query: u32,
+    pub learned: usize,
+}
+
 // What a check answers: 0 or the refusal's number, the side and the place; of an accepted check the status (0 Equivalent, 1 NotEquivalent,
-// 2 Inconclusive, 3 GaveUp), the depth, for NotEquivalent the first mismatching cycle and for GaveUp the query. Unused numbers are 0.
+// 2 Inconclusive, 3 GaveUp), the depth, for NotEquivalent the first mismatching cycle and for GaveUp the query, and of the queries asked the
+// largest total of learned literals, with depth and number of the first that has it. Unused numbers are 0.
 #[repr(C)]
 pub struct CheckAnswer {
     pub number: u32,
@@ -34,6 +43,9 @@ pub struct CheckAnswer {
     pub depth: u32,
     pub mismatch: u32,
     pub query: u32,
+    pub learned: u32,
+    pub learned_depth: u32,
+    pub learned_query: u32,
 }
 
 // A refused replay.
@@ -60,12 +72,22 @@ pub fn refused_check(number: u32, side: u32, place: u32) -> CheckAnswer
         depth: 0,
         mismatch: 0,
         query: 0,
+        learned: 0,
+        learned_depth: 0,
+        learned_query: 0,
     }
 }
 
-// An accepted check.
-pub fn accepted_check(status: u32, depth: u32, mismatch: u32, query: u32) -> CheckAnswer
-    ensures { λ r. ⌜ checkOf r ≡ acceptedAnswer status depth mismatch query ⌝ }
+// An accepted check, of whose queries `most` learned most.
+pub fn accepted_check(
+    status: u32,
+    depth: u32,
+    mismatch: u32,
+    query: u32,
+    most: Asked,
+) -> CheckAnswer
+    requires { ⌜ most .learned ≤ 262144 ⌝ }
+    ensures { λ r. ⌜ checkOf r ≡ acceptedAnswer status depth mismatch query (askedOf most) ⌝ }
 {
     CheckAnswer {
         number: 0,
@@ -75,5 +97,8 @@ pub fn accepted_check(status: u32, depth: u32, mismatch: u32, query: u32) -> Che
         depth,
         mismatch,
         query,
+        learned: most.learned as u32,
+        learned_depth: most.depth,
+        learned_query: most.query,
     }
 }

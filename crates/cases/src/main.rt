@@ -14,7 +14,7 @@ fn tell_number(name: &[u8], value: u32) {
     io::print_decimal(STDOUT_FILENO, value as u64);
 }
 
-// All seven numbers of an answer.
+// All ten numbers of an answer.
 fn tell(what: &[u8], answer: CheckAnswer) {
     io::write_all(STDOUT_FILENO, what);
     tell_number(b": number ", answer.number);
@@ -24,6 +24,9 @@ fn tell(what: &[u8], answer: CheckAnswer) {
     tell_number(b", depth ", answer.depth);
     tell_number(b", mismatch ", answer.mismatch);
     tell_number(b", query ", answer.query);
+    tell_number(b", learned ", answer.learned);
+    tell_number(b", learned_depth ", answer.learned_depth);
+    tell_number(b", learned_query ", answer.learned_query);
     io::write_all(STDOUT_FILENO, b"\n");
 }
 

@@ -72,6 +72,7 @@ module _ (s : List ℕ) (x : Design) (g : List Bool) (t : List ℕ) (y : Design)
         scores-long = k .scores-long;
         trace-long = rw (inputs-are, outputs-are) (k .trace-long);
         limited = limited;
+        some = k .depth-some;
         shallow = k .depth-small;
         paired = paired;
         gold-matches = m .gold-matches;

@@ -4,19 +4,23 @@ use mathlib.Core.Path.{_≡_, refl, ap, ap₂, _∙_}
 use mathlib.Core.Bool.{Bool}
 use mathlib.Core.List.{List, [], _∷_, map}
 use mathlib.Core.Option.{Option, none, some}
+use native.Mathlib.Omega.{arith}
 use lib.Ieee.{Float}
 use lib.ListN.{length}
-use Rattle.words.specs.Layout.{LENT}
+use Rattle.words.specs.Layout.{LENT, MOST-LEARNED}
 use Rattle.model.specs.Answers.{Refusal}
+use Rattle.model.specs.Answers as Numbers
 use Rattle.model.specs.Options.{Options}
 use Rattle.model.specs.Netlist.{Design, registersByName}
 use Rattle.model.specs.Names.{Place}
 use Rattle.model.specs.Sat.{scoreZero}
 use Rattle.model.specs.Run.{StoredBits, bitAt, initialBits, byName}
-use Rattle.model.specs.Equivalence.{Outcome}
+use Rattle.model.specs.Equivalence.{Problem, Outcome, proveSequentialEquivalence, largestLearned}
 use Rattle.model.specs.Pair.{Lent, both, refusedPair, readPair, checkFault}
 use Rattle.model.specs.Check.{CheckResult, refusedCheck, acceptedCheck, problemOf, checkDesigns, checkPair, checkRead, checkOutcome, verdictAnswer, verdictTrace, checkAnswer, traceAfter, clearedAfter, checkResult, lentOf}
-use Rattle.calls.specs.Answers.{checkOf, checkedOf}
+use Rattle.laws.specs.Check.Asked.{largest-within}
+use Rattle.calls.specs.Answers.{askedOf, checkOf, checkedOf}
+use Rattle.calls.specs.declared.answers.Asked.{Asked}
 use Rattle.calls.specs.declared.answers.CheckAnswer.{CheckAnswer}
 use Rattle.run.specs.RunTables.{padded}
 use Rattle.run.specs.RunLaws.{Alike, bitAt-append}
@@ -57,9 +61,16 @@ pub pair-accepted : (r : CheckResult) (trace words : List ℕ) (scores : List Fl
 unfolding checkPair
 pair-accepted r trace words scores o gold gate f e h = rw e h
 
--- the verdict is answered, its trace is written, and all work memory is zero
+-- the most that a query learns is within every limit
+pub most-small : (limit : ℕ) (p : Problem) (D : ℕ) (m : Asked) → limit ≤ MOST-LEARNED → askedOf m ≡ largestLearned (proveSequentialEquivalence limit p D .asked) → m .learned ≤ 262144
+unfolding askedOf
+most-small limit p D m h e =
+    let same : m .learned ≡ largestLearned (proveSequentialEquivalence limit p D .asked) .learned = ap (λ (a : Numbers.Asked). a .learned) e in
+    omega (arith, same, largest-within limit p D, h)
+
+-- the verdict is answered with the query that learned most, its trace is written, and all work memory is zero
 pub proved : (r : CheckAnswer) (o : Outcome) (trace trace′ words words₁ words′ : List ℕ) (scores scores₁ scores′ : List Float)
-    → checkOf r ≡ verdictAnswer (o .verdict) → trace′ ≡ verdictTrace (o .verdict) trace → Cleared 0 words₁ words′ → Cleared scoreZero scores₁ scores′
+    → checkOf r ≡ verdictAnswer (o .verdict) (largestLearned (o .asked)) → trace′ ≡ verdictTrace (o .verdict) trace → Cleared 0 words₁ words′ → Cleared scoreZero scores₁ scores′
     → length words₁ ≡ length words → length scores₁ ≡ length scores
     → checkedOf r trace′ words′ scores′ ≡ checkResult (acceptedCheck o) trace words scores
 unfolding checkedOf checkResult checkAnswer traceAfter clearedAfter

@@ -62,9 +62,9 @@ fn prove(
         gold_row,
         gate_row,
     );
-    let verdict = prove_sequential_equivalence(problem, words, scores, trace, options);
+    let outcome = prove_sequential_equivalence(problem, words, scores, trace, options);
     clear_memory(words, scores);
-    answered(verdict)
+    answered(outcome)
 }
 
 // The check of two accepted records from their initial states: the first refusal of 16 to 24, or the proof.

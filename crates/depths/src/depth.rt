@@ -4,18 +4,20 @@ ghost use lib.ListN.{length};
 ghost use Rattle.queries.specs.Querying.{Queryable};
 ghost use Rattle.depths.specs.Deciding.{Decides, goal2, goal3, goal4};
 ghost use Rattle.depths.specs.Depths.{Passes};
+use crate::most::counted;
+use calls::answers::Asked;
+use queries::problem::Outcome;
 use queries::problem::Problem;
 use queries::problem::Verdict;
-use queries::query::Counterexample;
 use queries::query::find_counterexample;
 use queries::query::induction_fails;
 use queries::query::named_state_differs;
 use sat::state::Answer;
 
-// What the queries so far decide.
+// What the queries so far decide, with the most learned so far.
 pub enum Decision {
-    Undecided,
-    Decided(Verdict),
+    Undecided(Asked),
+    Decided(Outcome),
 }
 
 // Query 4: equivalent where no cycle can differ after `depth` equal ones.
@@ -25,14 +27,24 @@ fn query_4(
     scores: &mut [f64],
     limit: usize,
     depth: usize,
+    most: Asked,
 ) -> Decision
     requires { ⌜ Queryable problem limit depth (now words) (now scores) ⌝ }
-    ensures { λ r. ⌜ Decides problem (goal4 limit depth) (now (words .entry)) r (now (words .exit)) ⌝ }
+    ensures { λ r. ⌜ Decides problem (goal4 limit depth) (now (words .entry)) most r (now (words .exit)) ⌝ }
 {
-    match induction_fails(problem, words, scores, limit, false, depth) {
-        Answer::Model(_) => Decision::Undecided,
-        Answer::NoModel(_) => Decision::Decided(Verdict::Equivalent(depth as u32)),
-        Answer::GaveUp(_) => Decision::Decided(Verdict::GaveUp(depth as u32, 4)),
+    let answer = induction_fails(problem, words, scores, limit, false, depth);
+    let number = depth as u32;
+    let now = counted(most, number, 4, answer);
+    match answer {
+        Answer::Model(_) => Decision::Undecided(now),
+        Answer::NoModel(_) => Decision::Decided(Outcome {
+            verdict: Verdict::Equivalent(number),
+            most: now,
+        }),
+        Answer::GaveUp(_) => Decision::Decided(Outcome {
+            verdict: Verdict::GaveUp(number, 4),
+            most: now,
+        }),
     }
 }
 
@@ -43,14 +55,24 @@ fn query_3(
     scores: &mut [f64],
     limit: usize,
     depth: usize,
+    most: Asked,
 ) -> Decision
     requires { ⌜ Queryable problem limit depth (now words) (now scores) ⌝ }
-    ensures { λ r. ⌜ Decides problem (goal3 limit depth) (now (words .entry)) r (now (words .exit)) ⌝ }
+    ensures { λ r. ⌜ Decides problem (goal3 limit depth) (now (words .entry)) most r (now (words .exit)) ⌝ }
 {
-    match induction_fails(problem, words, scores, limit, true, depth) {
-        Answer::Model(_) => query_4(problem, words, scores, limit, depth),
-        Answer::NoModel(_) => Decision::Decided(Verdict::Equivalent(depth as u32)),
-        Answer::GaveUp(_) => Decision::Decided(Verdict::GaveUp(depth as u32, 3)),
+    let answer = induction_fails(problem, words, scores, limit, true, depth);
+    let number = depth as u32;
+    let now = counted(most, number, 3, answer);
+    match answer {
+        Answer::Model(_) => query_4(problem, words, scores, limit, depth, now),
+        Answer::NoModel(_) => Decision::Decided(Outcome {
+            verdict: Verdict::Equivalent(number),
+            most: now,
+        }),
+        Answer::GaveUp(_) => Decision::Decided(Outcome {
+            verdict: Verdict::GaveUp(number, 3),
+            most: now,
+        }),
     }
 }
 
@@ -61,14 +83,21 @@ fn query_2(
     scores: &mut [f64],
     limit: usize,
     depth: usize,
+    most: Asked,
 ) -> Decision
     requires { ⌜ Queryable problem limit depth (now words) (now scores) ⌝ }
-    ensures { λ r. ⌜ Decides problem (goal2 limit depth) (now (words .entry)) r (now (words .exit)) ⌝ }
+    ensures { λ r. ⌜ Decides problem (goal2 limit depth) (now (words .entry)) most r (now (words .exit)) ⌝ }
 {
-    match named_state_differs(problem, words, scores, limit, depth) {
-        Answer::Model(_) => query_4(problem, words, scores, limit, depth),
-        Answer::NoModel(_) => query_3(problem, words, scores, limit, depth),
-        Answer::GaveUp(_) => Decision::Decided(Verdict::GaveUp(depth as u32, 2)),
+    let answer = named_state_differs(problem, words, scores, limit, depth);
+    let number = depth as u32;
+    let now = counted(most, number, 2, answer);
+    match answer {
+        Answer::Model(_) => query_4(problem, words, scores, limit, depth, now),
+        Answer::NoModel(_) => query_3(problem, words, scores, limit, depth, now),
+        Answer::GaveUp(_) => Decision::Decided(Outcome {
+            verdict: Verdict::GaveUp(number, 2),
+            most: now,
+        }),
     }
 }
 
@@ -80,16 +109,24 @@ pub fn at_depth(
     trace: &mut [u8],
     limit: usize,
     depth: usize,
+    most: Asked,
 ) -> Decision
     requires { ⌜ Queryable problem limit depth (now words) (now scores) × (suc depth * problem .gold .«input_count» + problem .gold .«output_count» ≤ length (now trace)) ⌝ }
-    ensures { λ r. ⌜ Passes problem limit depth (now (words .entry)) (now (trace .entry)) r (now (words .exit)) (now (trace .exit)) ⌝ }
+    ensures { λ r. ⌜ Passes problem limit depth (now (words .entry)) (now (trace .entry)) most r (now (words .exit)) (now (trace .exit)) ⌝ }
 {
-    match find_counterexample(problem, words, scores, trace, limit, depth) {
-        Counterexample::Mismatch(mismatch) => {
-            let verdict = Verdict::NotEquivalent(depth as u32, mismatch);
-            Decision::Decided(verdict)
-        }
-        Counterexample::Nothing => query_2(problem, words, scores, limit, depth),
-        Counterexample::GaveUp => Decision::Decided(Verdict::GaveUp(depth as u32, 1)),
+    let found = find_counterexample(problem, words, scores, trace, limit, depth);
+    let answer = found.answer;
+    let number = depth as u32;
+    let now = counted(most, number, 1, answer);
+    match answer {
+        Answer::Model(_) => Decision::Decided(Outcome {
+            verdict: Verdict::NotEquivalent(number, found.mismatch),
+            most: now,
+        }),
+        Answer::NoModel(_) => query_2(problem, words, scores, limit, depth, now),
+        Answer::GaveUp(_) => Decision::Decided(Outcome {
+            verdict: Verdict::GaveUp(number, 1),
+            most: now,
+        }),
     }
 }

@@ -10,10 +10,13 @@ pub mod Meaning
 pub mod Designs
 pub mod Records
 pub mod Replaying
--- the limit of learned literals
+-- the queries asked, and the limit of learned literals
+pub mod Queries
+pub mod Walk
+pub mod Asked
 pub mod LargerLimit
 pub mod GiveUp
-pub mod Queries
+pub mod Learned
 -- the call, and demand 3 in its numbers
 pub mod Self
 pub mod Numbers

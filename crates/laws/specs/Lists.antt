@@ -1,9 +1,10 @@
--- What one more element at the end of a list leaves, by places; a fact of a list's members. Assumes nothing.
+-- What one more element at the end of a list leaves, by places, and that it is last; a fact of a list's members. Assumes nothing.
 use Prim.Native.Nat.{ℕ, zero, suc, _<_}
 use native.Mathlib.Omega.{arith}
-use mathlib.Core.Path.{_≡_, refl, sym, subst}
+use mathlib.Core.Path.{_≡_, refl, sym, ap, subst, _∙_}
+use mathlib.Core.Logic.{_⊎_, inl, inr}
 use mathlib.Core.Bool.{Bool, true, false, _||_}
-use mathlib.Core.List.{List, [], _∷_}
+use mathlib.Core.List.{List, [], _∷_, List·Memᴰ, List·Memᴰ·cases-cons, List·Memᴰ·not-nil}
 use lib.ListN.{length, getD, List·getD-append, length-append}
 use lib.Seq.{getD-append-seam}
 use lib.Dec.{eqb}
@@ -59,3 +60,26 @@ member-all P (x ∷ xs) k h p = go (eqb k x) refl h (λ g. member-all P xs k g (
     go : (b : Bool) → eqb k x ≡ b → (b || member k xs) ≡ true → (member k xs ≡ true → P k) → P k
     go true e g f = rw (eqb-true k x e) (p .0)
     go false e g f = f g
+
+-- so it does of a list of anything
+pub all-member : {A : Type 0} (P : A → Type 0) (xs : List A) → All P xs → (x : A) → List·Memᴰ x xs → P x
+all-member P [] f x m = absurd (List·Memᴰ·not-nil m)
+all-member P (y ∷ ys) f x m = go (List·Memᴰ·cases-cons m) (all-member P ys (f .1) x)
+  where
+    go : (x ≡ y) ⊎ List·Memᴰ x ys → (List·Memᴰ x ys → P x) → P x
+    go (inl e) g = subst P (sym e) (f .0)
+    go (inr k) g = g k
+
+-- the last element
+lastOf : {A : Type 0} → A → List A → A
+lastOf a [] = a
+lastOf a (b ∷ bs) = lastOf b bs
+
+last-is : {A : Type 0} (a : A) (xs : List A) (x : A) → lastOf a (snoc xs x) ≡ x
+unfolding lastOf snoc
+last-is a [] x = refl
+last-is a (y ∷ ys) x = last-is y ys x
+
+-- two lists that are equal have the same last element
+pub last-same : {A : Type 0} (xs ys : List A) (x y : A) → snoc xs x ≡ snoc ys y → x ≡ y
+last-same xs ys x y e = sym (last-is x xs x) ∙ ap (lastOf x) e ∙ last-is x ys y

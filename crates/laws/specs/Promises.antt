@@ -3,11 +3,11 @@ use Prim.Native.Nat.{ℕ, suc, _/_, _≤_, _<_}
 use mathlib.Core.Path.{_≡_}
 use mathlib.Core.Logic.{_≢_, _⊎_, _↔_}
 use mathlib.Core.Bool.{Bool, true, false}
-use mathlib.Core.List.{List, List·Memᴰ}
+use mathlib.Core.List.{List, _∷_, _++_, List·Memᴰ}
 use mathlib.Core.Option.{none, some}
 use lib.ListN.{length, getD, drop, replicate}
 use lib.Ieee.{Float}
-use Rattle.model.specs.Answers.{Refusal, accepted, Status, Equivalent, NotEquivalent, GaveUp, statusNumber, acceptedAnswer}
+use Rattle.model.specs.Answers.{Refusal, accepted, Status, Equivalent, NotEquivalent, GaveUp, statusNumber, Asked, refusedAnswer, acceptedAnswer}
 use Rattle.model.specs.Options.{Options, toDepth}
 use Rattle.model.specs.Names.{Name, memberName, namesOf}
 use Rattle.model.specs.Netlist.{Node, Design, inputs, outputs, inputNumbers}
@@ -21,11 +21,11 @@ use Rattle.model.specs.Induction.{Query1, Says, Begun, initially, SameOutputs, 
 use Rattle.model.specs.Literal.{Literal}
 use Rattle.model.specs.Aig.{Aig, evaluate, aigNodeValues}
 use Rattle.model.specs.Sat.{Solver, scoreZero, model, noModel, gaveUp, outOfFuel, encode, solve}
-use Rattle.model.specs.Equivalence.{Problem, Query, ask}
+use Rattle.model.specs.Equivalence.{Problem, Query, ask, largestLearned}
 use Rattle.model.specs.Equivalence as Search
 use Rattle.model.specs.Check.{problemOf, checkDesigns, acceptedCheck, checkOutcome, checkResult, lentOf, check, checked}
 use Rattle.laws.specs.Search.Limits.{give-up-needed}
-use Rattle.laws.specs.Terms.{Within, OfRecord, UpToKind, OfReplay, replayRefusal, RefusedWith, UnusedZero, Called, TraceLeft, CalledEquivalent, Comparable, checkedDesigns, LargerLimit, Linked, JoinedDesigns, TraceGood, Yes, Settled, answerTotal, literalCount, Reached, GivesUp, QueryOf, Asks, StopsAt}
+use Rattle.laws.specs.Terms.{Within, OfRecord, UpToKind, OfReplay, replayRefusal, RefusedWith, UnusedZero, learnedOf, AsBefore, Called, TraceLeft, CalledEquivalent, Comparable, checkedDesigns, LargerLimit, Linked, JoinedDesigns, TraceGood, Yes, Settled, answerTotal, literalCount, Reached, GivesUp, QueryOf, Asks, StopsAt, Told, Sooner, FirstLargest, LastGivesUp}
 use Rattle.laws.specs.StepTerms.{beginRefusal, stepRefusal, OfBegin, OfStep, afterBegin, stepAnswer, afterSteps, runPosition, heldAt, movedFrom, BytesKept, SameBits}
 use Rattle.laws.specs.Record.KindBytes.{node-counted, unlisted-refused}
 use Rattle.laws.specs.Induction.Chain.{chain-outputs}
@@ -42,7 +42,9 @@ use Rattle.laws.specs.Replay.{steps-replay, agree-every, every-agree}
 use Rattle.laws.specs.Stepping.{begin-zero, step-zero, begin-refuses, step-refuses, steps-run, steps-no, steps-answer, step-past, step-runs, begin-kept, step-kept, step-alike}
 use Rattle.laws.specs.Check.Replaying.{replay-rule, replay-refused-with, replay-zero, inputs-compared, outputs-compared}
 use Rattle.laws.specs.Check.Queries.{query-ends, query-refutes, query-evaluates, query-gives-up, query-total, no-model-no, model-yes, query-size, query-fits}
-use Rattle.laws.specs.Check.GiveUp.{designs-give-up, call-gives-up}
+use Rattle.laws.specs.Check.GiveUp.{designs-give-up, designs-last, call-gives-up}
+use Rattle.laws.specs.Check.Asked.{designs-first, designs-ordered, designs-told}
+use Rattle.laws.specs.Check.Learned.{designs-largest, call-largest, call-within, call-nothing, call-as-before}
 use Rattle.laws.specs.Check.Numbers.{called, call-checked, unused-zero, trace-left, trace-kept}
 use Rattle.laws.specs.Check.Demand3.{number-zero, call-joins, call-joins-back, call-never, calls-join, calls-never, call-swap, call-swap-refused, call-self}
 
@@ -93,12 +95,7 @@ gate-refused-next = gate-refused
 pub refusal-leaves-memory : (gold gate : List ℕ) (D : ℕ) (trace words : List ℕ) (scores : List Float) (r : Refusal)
     → checkRefusal gold gate (toDepth D) (lentOf trace words scores) ≡ some r
     → check gold gate D trace words scores
-    ≡ record {
-      answer = record { number = r .number; side = r .side; place = r .place; status = 0; depth = 0; mismatch = 0; query = 0 };
-      trace = trace;
-      words = words;
-      scores = scores;
-    }
+    ≡ record { answer = refusedAnswer r; trace = trace; words = words; scores = scores }
 refusal-leaves-memory = check-refused
 
 -- an accepted call: side and place are 0, the mismatch unless the status is 1, and the query unless it is 3
@@ -205,10 +202,10 @@ pub check-gives-up-exactly : (o : Options) (gold gate : Design) (s t : StoredBit
     → (checkDesigns o gold gate s t .verdict ≡ Search.GaveUp d q) ↔ StopsAt o (problemOf gold gate s t) d q
 check-gives-up-exactly = designs-give-up
 
--- the same of the call: status 3, with that depth and that query, and the mismatch 0
+-- the same of the call: status 3, with that depth and that query, and the mismatch 0, whatever it learned
 pub call-gives-up-exactly : (a b : List ℕ) (D : ℕ) (trace words : List ℕ) (scores : List Float) (gold gate : Design)
     → checkRefusal a b (toDepth D) (lentOf trace words scores) ≡ none → readPair a b ≡ both gold gate
-    → (d q : ℕ) → (check a b D trace words scores .answer ≡ acceptedAnswer 3 d 0 q) ↔ StopsAt (toDepth D) (problemOf gold gate (initialBits gold) (initialBits gate)) d q
+    → (d q : ℕ) → (check a b D trace words scores .answer ≡ acceptedAnswer 3 d 0 q (learnedOf (check a b D trace words scores .answer))) ↔ StopsAt (toDepth D) (problemOf gold gate (initialBits gold) (initialBits gate)) d q
 call-gives-up-exactly = call-gives-up
 
 -- a larger limit changes no status and no depth but those of a give-up
@@ -216,7 +213,7 @@ pub larger-limit : (o larger : Options) → LargerLimit o larger → (a b : List
     → checked a b larger lent ≡ answered status d
 larger-limit = check-larger
 
--- nor anything else that the call leaves: mismatch, query, trace, words and scores
+-- nor anything else that the call leaves: mismatch, query, what was learned, trace, words and scores
 pub larger-limit-result : (o larger : Options) → LargerLimit o larger → (a b : List ℕ) (lent : Lent) (status : Status) (d : ℕ) → checked a b o lent ≡ answered status d → status ≢ GaveUp
     → (trace words : List ℕ) (scores : List Float) → checkResult (checkOutcome a b larger lent) trace words scores ≡ checkResult (checkOutcome a b o lent) trace words scores
 larger-limit-result = result-larger
@@ -225,6 +222,52 @@ larger-limit-result = result-larger
 pub gives-up-only-above : (limit larger : ℕ) → limit ≤ larger → (g : Aig) (assumptions : List Literal) (k : ℕ) → solve limit g assumptions ≡ gaveUp k
     → Settled (solve larger g assumptions) → limit < answerTotal (solve larger g assumptions)
 gives-up-only-above = give-up-needed
+
+-- ==== what the queries of a check learn: how near it came to giving up
+
+-- the first query asked is query 1 of depth 1
+pub query-1-is-first : (o : Options) (gold gate : Design) (s t : StoredBits) → 1 ≤ o .depth
+    → (n : ℕ) × (rest : List Asked) × (checkDesigns o gold gate s t .asked ≡ record { depth = 1; query = 1; learned = n } ∷ rest)
+query-1-is-first = designs-first
+
+-- each is asked before the one that stands after it
+pub asked-in-order : (o : Options) (gold gate : Design) (s t : StoredBits) (before after : List Asked) (a b : Asked) → checkDesigns o gold gate s t .asked ≡ before ++ (a ∷ b ∷ after) → Sooner a b
+asked-in-order = designs-ordered
+
+-- each is told with the total of literals that its search has learned at its end, by the same steps by which a query gives up
+pub asked-are-told : (o : Options) (gold gate : Design) (s t : StoredBits) (a : Asked) → List·Memᴰ a (checkDesigns o gold gate s t .asked) → Told (o .limit) (problemOf gold gate s t) (o .depth) a
+asked-are-told = designs-told
+
+-- the check gives up exactly in the last query asked, where its total is within the limit and the next learned clause would pass it: that clause is not counted
+pub last-gives-up-exactly : (o : Options) (gold gate : Design) (s t : StoredBits) (d q : ℕ)
+    → (checkDesigns o gold gate s t .verdict ≡ Search.GaveUp d q) ↔ LastGivesUp (o .limit) (problemOf gold gate s t) (checkDesigns o gold gate s t .asked) d q
+last-gives-up-exactly = designs-last
+
+-- the largest total over all queries asked, and the first that has it
+pub largest-is-first : (o : Options) (gold gate : Design) (s t : StoredBits) → 1 ≤ o .depth
+    → FirstLargest (checkDesigns o gold gate s t .asked) (largestLearned (checkDesigns o gold gate s t .asked))
+largest-is-first = designs-largest
+
+-- an accepted call tells of that query, whatever its status
+pub call-tells-largest : (a b : List ℕ) (D : ℕ) (trace words : List ℕ) (scores : List Float) (gold gate : Design)
+    → checkRefusal a b (toDepth D) (lentOf trace words scores) ≡ none → readPair a b ≡ both gold gate
+    → FirstLargest (checkDesigns (toDepth D) gold gate (initialBits gold) (initialBits gate) .asked) (learnedOf (check a b D trace words scores .answer))
+call-tells-largest = call-largest
+
+-- whose total is at most 262,144
+pub call-learned-within : (a b : List ℕ) (D : ℕ) (trace words : List ℕ) (scores : List Float) → check a b D trace words scores .answer .learned ≤ 262144
+call-learned-within = call-within
+
+-- where no query learned anything it tells 0, depth 1 and query 1
+pub call-learned-nothing : (a b : List ℕ) (D : ℕ) (trace words : List ℕ) (scores : List Float) (gold gate : Design)
+    → checkRefusal a b (toDepth D) (lentOf trace words scores) ≡ none → readPair a b ≡ both gold gate
+    → ((x : Asked) → List·Memᴰ x (checkDesigns (toDepth D) gold gate (initialBits gold) (initialBits gate) .asked) → x .learned ≡ 0)
+    → learnedOf (check a b D trace words scores .answer) ≡ record { depth = 1; query = 1; learned = 0 }
+call-learned-nothing = call-nothing
+
+-- of any call, refused or not, the seven other numbers and every lent byte are those of its refusal or verdict alone
+pub learned-changes-nothing : (a b : List ℕ) (D : ℕ) (trace words : List ℕ) (scores : List Float) → AsBefore a b D trace words scores
+learned-changes-nothing = call-as-before
 
 -- ==== P4 and P5, demand 3: lists of any length
 
@@ -442,9 +485,9 @@ pub designs-trace-replays : (o : Options) (gold gate : Design) → Comparable go
     → checkDesigns o gold gate s t .verdict ≡ Search.NotEquivalent d m bytes → (d ≤ o .depth) × TraceGood gold gate s t d m bytes
 designs-trace-replays = designs-trace
 
--- a larger limit changes no verdict, trace and all, but a give-up
+-- a larger limit changes no verdict, trace and all, but a give-up, nor what any query learned
 pub designs-larger-limit : (o larger : Options) → LargerLimit o larger → (gold gate : Design) (s t : StoredBits) (status : Status) (d : ℕ)
-    → checkedDesigns o gold gate s t ≡ answered status d → status ≢ GaveUp → checkDesigns larger gold gate s t .verdict ≡ checkDesigns o gold gate s t .verdict
+    → checkedDesigns o gold gate s t ≡ answered status d → status ≢ GaveUp → checkDesigns larger gold gate s t ≡ checkDesigns o gold gate s t
 designs-larger-limit = designs-larger
 
 -- the graph of a query of depth d has at most (d + 1) × F + R nodes

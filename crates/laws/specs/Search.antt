@@ -41,3 +41,4 @@ pub mod Limits
 pub mod Counts
 pub mod Reached
 pub mod Reachable
+pub mod Answered

@@ -1,15 +1,16 @@
--- The words of `Promises` that `model` does not have: which designs are compared and linked, what a give-up is, and what a call leaves. Definitions only, over `model` alone. Assumes nothing.
+-- The words of `Promises` that `model` does not have: which designs are compared and linked, what a give-up is, which queries are asked and what they learn, and what a call leaves. Definitions only, over `model` alone. Assumes nothing.
 use Prim.Native.Nat.{ℕ, suc, _+_, _*_, _≤_, _<_}
 use mathlib.Core.Path.{_≡_}
 use mathlib.Core.Logic.{_≢_, _⊎_}
 use mathlib.Core.Bool.{Bool, true, false, xor}
-use mathlib.Core.List.{List, [], _∷_, _++_}
+use mathlib.Core.List.{List, [], _∷_, _++_, List·Memᴰ}
 use mathlib.Core.Option.{Option, none, some}
 use lib.ListN.{length, getD, drop}
 use lib.Ieee.{Float}
-use Rattle.model.specs.Answers.{Refusal, accepted, Status, statusNumber, CheckAnswer}
+use Rattle.model.specs.Answers.{Refusal, accepted, Status, statusNumber, Asked, CheckAnswer, refusedAnswer}
 use Rattle.model.specs.Answers as Answers
-use Rattle.model.specs.Options.{Options}
+use Rattle.model.specs.Lists.{snoc}
+use Rattle.model.specs.Options.{Options, toDepth}
 use Rattle.model.specs.Names.{Name, namesOf}
 use Rattle.model.specs.Netlist.{Node, Design, inputs, outputs, inputCount}
 use Rattle.model.specs.Record.{got, number, name, listedKind, nodesFrom, lengthFits}
@@ -21,8 +22,10 @@ use Rattle.model.specs.Induction.{Query1, Query2, Query3, Query4, Says, Begun, 
 use Rattle.model.specs.Literal.{Literal}
 use Rattle.model.specs.Aig.{Aig}
 use Rattle.model.specs.Sat.{Clause, Solver, decisionLevel, conflict, propagate, Analysis, resolved, analyze, Answer, model, noModel, gaveUp, outOfFuel, searching, step, start, encode}
+use Rattle.model.specs.Sat as Sat
 use Rattle.model.specs.Equivalence.{Problem, Query, baseCounterexample, basePreservesNamedState, inductionCloses, ask}
-use Rattle.model.specs.Check.{problemOf, checkDesigns, check, verdictSays}
+use Rattle.model.specs.Equivalence as Equivalence
+use Rattle.model.specs.Check.{problemOf, checkDesigns, CheckOutcome, refusedCheck, acceptedCheck, checkOutcome, traceAfter, clearedAfter, lentOf, check, verdictSays}
 
 -- ---- refusals, and the numbers of a call
 
@@ -69,7 +72,7 @@ replayRefusal gold gate cycle claim = replayRefusalOf (readPair gold gate) cycle
 
 -- every check of two records and every replay is refused with these three numbers
 pub record RefusedWith (a b : List ℕ) (r : Refusal) : Type 0 where
-  pub checks : (D : ℕ) (trace words : List ℕ) (scores : List Float) → check a b D trace words scores .answer ≡ record { number = r .number; side = r .side; place = r .place; status = 0; depth = 0; mismatch = 0; query = 0 }
+  pub checks : (D : ℕ) (trace words : List ℕ) (scores : List Float) → check a b D trace words scores .answer ≡ refusedAnswer r
   pub replays : (cycle : ℕ) (claim : List ℕ) → replay a b cycle claim ≡ record { refusal = r; yes = false }
 
 -- an accepted answer's number, status and depth
@@ -84,6 +87,51 @@ pub record UnusedZero (c : CheckAnswer) : Type 0 where
   pub place : c .place ≡ 0
   pub mismatch : c .status ≢ 1 → c .mismatch ≡ 0
   pub query : c .status ≢ 3 → c .query ≡ 0
+
+-- the query that an answer says learned most
+unfoldable pub learnedOf : CheckAnswer → Asked
+learnedOf c = record { depth = c .learnedDepth; query = c .learnedQuery; learned = c .learned }
+
+-- the seven numbers of an answer that do not tell what was learned
+pub record SevenNumbers : Type 0 where
+  pub number : ℕ
+  pub side : ℕ
+  pub place : ℕ
+  pub status : ℕ
+  pub depth : ℕ
+  pub mismatch : ℕ
+  pub query : ℕ
+
+-- those of an answer
+unfoldable pub sevenOf : CheckAnswer → SevenNumbers
+sevenOf c =
+    record { number = c .number; side = c .side; place = c .place; status = c .status; depth = c .depth; mismatch = c .mismatch; query = c .query }
+
+-- of an accepted check
+unfoldable pub acceptedSeven : ℕ → ℕ → ℕ → ℕ → SevenNumbers
+acceptedSeven status depth mismatch query =
+    record { number = 0; side = 0; place = 0; status = status; depth = depth; mismatch = mismatch; query = query }
+
+-- of a verdict
+unfoldable pub verdictSeven : Equivalence.Verdict → SevenNumbers
+verdictSeven (Equivalence.Equivalent d) = acceptedSeven 0 d 0 0
+verdictSeven (Equivalence.NotEquivalent d m bytes) = acceptedSeven 1 d m 0
+verdictSeven (Equivalence.Inconclusive d) = acceptedSeven 2 d 0 0
+verdictSeven (Equivalence.GaveUp d q) = acceptedSeven 3 d 0 q
+verdictSeven Equivalence.OutOfFuel = acceptedSeven 4 0 0 0
+
+-- of an outcome: of its refusal or of its verdict, and of no query's total
+unfoldable pub outcomeSeven : CheckOutcome → SevenNumbers
+outcomeSeven (refusedCheck r) =
+    record { number = r .number; side = r .side; place = r .place; status = 0; depth = 0; mismatch = 0; query = 0 }
+outcomeSeven (acceptedCheck o) = verdictSeven (o .verdict)
+
+-- the seven numbers of a call, and what it leaves in each lent buffer, by the refusal or the verdict alone
+pub record AsBefore (a b : List ℕ) (D : ℕ) (trace words : List ℕ) (scores : List Float) : Type 0 where
+  pub seven : sevenOf (check a b D trace words scores .answer) ≡ outcomeSeven (checkOutcome a b (toDepth D) (lentOf trace words scores))
+  pub traced : check a b D trace words scores .trace ≡ traceAfter (checkOutcome a b (toDepth D) (lentOf trace words scores)) trace
+  pub words-left : check a b D trace words scores .words ≡ clearedAfter 0 (checkOutcome a b (toDepth D) (lentOf trace words scores)) words
+  pub scores-left : check a b D trace words scores .scores ≡ clearedAfter Sat.scoreZero (checkOutcome a b (toDepth D) (lentOf trace words scores)) scores
 
 -- an accepted call: the designs of both records, and the status and depth that its numbers are; the status is what k-induction says unless it is GaveUp
 pub record Called (a b : List ℕ) (D : ℕ) (trace words : List ℕ) (scores : List Float) : Type 0 where
@@ -249,3 +297,44 @@ pub record StopsAt (o : Options) (p : Problem) (d q : ℕ) : Type 0 where
   pub high : d ≤ o .depth
   pub passed : (e : ℕ) → 1 ≤ e → e < d → Passed (o .limit) p e
   pub stops : Stops (o .limit) p d q
+
+-- ---- the queries that a check asks, and what they learn
+
+-- the search of a query ends with this answer in this state: before its first round, or in the round after a state that it reaches
+pub data EndsIn (limit : ℕ) (g : Aig) (assumptions : List Literal) : Answer → Solver → Type 0 where
+  at-start : {a : Answer} → start (encode g assumptions) ≡ Sat.answered a → EndsIn limit g assumptions a (encode g assumptions)
+  in-round : {a : Answer} {s : Solver} → Reached limit g assumptions s → step limit s ≡ Sat.answered a → EndsIn limit g assumptions a s
+
+-- what is told of a query asked to a maximum depth D: it is the query of that depth and number, and its total is that of the state in which its search ends, the sum of the lengths of the clauses learned, within the limit
+pub record Told (limit : ℕ) (p : Problem) (D : ℕ) (a : Asked) : Type 0 where
+  pub low : 1 ≤ a .depth
+  pub high : a .depth ≤ D
+  pub query : Query
+  pub named : QueryOf p (a .depth) (a .query) query
+  pub state : Solver
+  pub ended : EndsIn limit (query .aig) (query .assumptions) (ask limit query) state
+  pub total : state .learned ≡ a .learned
+  pub sum : a .learned ≡ literalCount (drop (length (encode (query .aig) (query .assumptions) .clauses)) (state .clauses))
+  pub within : a .learned ≤ limit
+
+-- a query is asked before another: at a smaller depth, or at the same depth with a smaller number
+unfoldable pub Sooner : Asked → Asked → Type 0
+Sooner a b = (a .depth < b .depth) ⊎ ((a .depth ≡ b .depth) × (a .query < b .query))
+
+-- of the queries asked this one has the largest total, and is the first that has it
+pub record FirstLargest (asked : List Asked) (most : Asked) : Type 0 where
+  pub before : List Asked
+  pub after : List Asked
+  pub stands : asked ≡ before ++ (most ∷ after)
+  pub less : (a : Asked) → List·Memᴰ a before → a .learned < most .learned
+  pub no-more : (a : Asked) → List·Memᴰ a after → a .learned ≤ most .learned
+
+-- the last query asked is query q of depth d, its total is within the limit, and the clause that it would learn next is not
+pub record LastGivesUp (limit : ℕ) (p : Problem) (asked : List Asked) (d q : ℕ) : Type 0 where
+  pub before : List Asked
+  pub total : ℕ
+  pub last : asked ≡ snoc before (record { depth = d; query = q; learned = total })
+  pub query : Query
+  pub named : QueryOf p d q query
+  pub gives-up : GivesUp limit (query .aig) (query .assumptions) total
+  pub within : total ≤ limit

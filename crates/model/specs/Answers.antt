@@ -28,6 +28,12 @@ pub record ReplayAnswer : Type 0 where
   pub refusal : Refusal
   pub yes : Bool
 
+-- a query that a check asked: its depth, its number, and its total of learned literals
+pub record Asked : Type 0 where
+  pub depth : ℕ
+  pub query : ℕ
+  pub learned : ℕ
+
 -- what a check answers: a refusal has number, side and place, an accepted check number 0 and the others; unused numbers are 0
 pub record CheckAnswer : Type 0 where
   pub number : ℕ
@@ -37,13 +43,43 @@ pub record CheckAnswer : Type 0 where
   pub depth : ℕ
   pub mismatch : ℕ
   pub query : ℕ
+  pub learned : ℕ
+  pub learnedDepth : ℕ
+  pub learnedQuery : ℕ
 
--- the answer of an accepted check
-unfoldable pub acceptedAnswer : ℕ → ℕ → ℕ → ℕ → CheckAnswer
-acceptedAnswer status depth mismatch query =
-    record { number = 0; side = 0; place = 0; status = status; depth = depth; mismatch = mismatch; query = query }
+-- the answer of a refused check: all numbers but the refusal's are 0
+unfoldable pub refusedAnswer : Refusal → CheckAnswer
+refusedAnswer r =
+    record {
+      number = r .number;
+      side = r .side;
+      place = r .place;
+      status = 0;
+      depth = 0;
+      mismatch = 0;
+      query = 0;
+      learned = 0;
+      learnedDepth = 0;
+      learnedQuery = 0;
+    }
+
+-- the answer of an accepted check, of whose queries `most` learned most
+unfoldable pub acceptedAnswer : ℕ → ℕ → ℕ → ℕ → Asked → CheckAnswer
+acceptedAnswer status depth mismatch query most =
+    record {
+      number = 0;
+      side = 0;
+      place = 0;
+      status = status;
+      depth = depth;
+      mismatch = mismatch;
+      query = query;
+      learned = most .learned;
+      learnedDepth = most .depth;
+      learnedQuery = most .query;
+    }
 
 -- naming this opens them all
 unfoldable pub all : Unit {0}
-unfolding accepted statusNumber acceptedAnswer
+unfolding accepted statusNumber refusedAnswer acceptedAnswer
 all = tt

@@ -6,7 +6,7 @@ use mathlib.Core.List.{List, [], _∷_, _++_, map}
 use mathlib.Core.Option.{Option, none, some}
 use lib.ListN.{length, drop, replicate}
 use lib.Ieee.{Float}
-use Rattle.model.specs.Answers.{Refusal, ReplayAnswer, CheckAnswer}
+use Rattle.model.specs.Answers.{Refusal, ReplayAnswer, Asked, CheckAnswer}
 use Rattle.model.specs.Options.{toDepth}
 use Rattle.model.specs.Names.{Name}
 use Rattle.model.specs.Netlist.{Node, Input, Constant, RegisterOutput, Not, Output, And, Rising, High, Reset, Register, Design}
@@ -154,14 +154,33 @@ refusal n place = record { number = n; side = 0; place = place }
 unfoldable pub checking : List ℕ → List ℕ → ℕ → ℕ → Call
 checking gold gate D n = toCheck gold gate D (replicate n 7) 8388608 65536
 
--- status, depth, mismatch, and the first bytes of a trace that has n more, each 7
-unfoldable pub saying : ℕ → ℕ → ℕ → List ℕ → ℕ → Reply
-saying status depth mismatch bytes n =
-    fromCheck (record { number = 0; side = 0; place = 0; status = status; depth = depth; mismatch = mismatch; query = 0 }) (bytes ++ replicate n 7)
+-- a query by its depth, its number and its total
+unfoldable pub asking : ℕ → ℕ → ℕ → Asked
+asking depth query learned = record { depth = depth; query = query; learned = learned }
+
+-- an answer by its ten numbers
+unfoldable pub numbers : (number side place status depth mismatch query : ℕ) (most : Asked) → CheckAnswer
+numbers number side place status depth mismatch query most =
+    record {
+      number = number;
+      side = side;
+      place = place;
+      status = status;
+      depth = depth;
+      mismatch = mismatch;
+      query = query;
+      learned = most .learned;
+      learnedDepth = most .depth;
+      learnedQuery = most .query;
+    }
+
+-- status, depth, mismatch, the query that learned most, and the first bytes of a trace that has n more, each 7
+unfoldable pub saying : ℕ → ℕ → ℕ → Asked → List ℕ → ℕ → Reply
+saying status depth mismatch most bytes n = fromCheck (numbers 0 0 0 status depth mismatch 0 most) (bytes ++ replicate n 7)
 
 -- a refusal by its number, at place 0, with the n bytes of trace as they were
 unfoldable pub refusing : ℕ → ℕ → Reply
-refusing number n = fromCheck (record { number = number; side = 0; place = 0; status = 0; depth = 0; mismatch = 0; query = 0 }) (replicate n 7)
+refusing number n = fromCheck (numbers number 0 0 0 0 0 0 (asking 0 0 0)) (replicate n 7)
 
 -- an accepted replay's yes or no
 unfoldable pub replaying : Bool → Reply
@@ -180,26 +199,26 @@ call gives reply = record { call = call; reply = reply }
 -- the cases in the specification's order
 unfoldable pub table : List Case
 table =
-    (checking wire (recordOf inverter) 1 4 gives saying 1 1 0 (0 ∷ 1 ∷ []) 2)
+    (checking wire (recordOf inverter) 1 4 gives saying 1 1 0 (asking 1 1 0) (0 ∷ 1 ∷ []) 2)
     ∷ (toReplay wire (recordOf inverter) 0 (0 ∷ 1 ∷ []) gives replaying true)
     ∷ (toReplay wire (recordOf inverter) 0 (0 ∷ 0 ∷ []) gives replaying false)
     ∷ (toRead [] gives fromRead (refusal 1 0))
     ∷ (toRead (9 ∷ drop 1 wire) gives fromRead (refusal 2 0))
     ∷ (toRead (recordOf (wireReading 1)) gives fromRead (refusal 7 1))
-    ∷ (checking (recordOf (toggle q)) (recordOf (toggle p)) 1 5 gives saying 0 1 0 [] 5)
-    ∷ (checking (recordOf row) (recordOf holding) 1 7 gives saying 2 1 0 [] 7)
-    ∷ (checking (recordOf row) (recordOf holding) 2 11 gives saying 1 2 2 (0 ∷ 1 ∷ 0 ∷ 0 ∷ 0 ∷ 0 ∷ 0 ∷ 0 ∷ 0 ∷ 1 ∷ []) 1)
-    ∷ (checking (recordOf conjunction) (recordOf holding) 1 7 gives saying 2 1 0 [] 7)
+    ∷ (checking (recordOf (toggle q)) (recordOf (toggle p)) 1 5 gives saying 0 1 0 (asking 1 3 1) [] 5)
+    ∷ (checking (recordOf row) (recordOf holding) 1 7 gives saying 2 1 0 (asking 1 1 0) [] 7)
+    ∷ (checking (recordOf row) (recordOf holding) 2 11 gives saying 1 2 2 (asking 1 1 0) (0 ∷ 1 ∷ 0 ∷ 0 ∷ 0 ∷ 0 ∷ 0 ∷ 0 ∷ 0 ∷ 1 ∷ []) 1)
+    ∷ (checking (recordOf conjunction) (recordOf holding) 1 7 gives saying 2 1 0 (asking 1 1 0) [] 7)
     ∷ (checking wire wire 0 66 gives refusing 16 66)
     ∷ (checking wire wire 65 67 gives refusing 17 67)
     ∷ (checking (recordOf (toggle q)) (recordOf constant) 1 5 gives refusing 21 5)
     ∷ (checking (recordOf unreset) (recordOf (toggle q)) 1 5 gives refusing 22 5)
-    ∷ (checking (recordOf lone) (recordOf lone) 1 2 gives saying 0 1 0 [] 2)
+    ∷ (checking (recordOf lone) (recordOf lone) 1 2 gives saying 0 1 0 (asking 1 1 0) [] 2)
     ∷ []
 
 -- naming this opens the definitions of this file and those it uses
 unfoldable pub all : Unit {0}
-unfolding design sync reg reset0 wire wireReading inverter toggling toggle unreset constant row holding conjunction lone replyOf run refusal checking saying refusing replaying _gives_ table Encode.all Replay.all Check.all
+unfolding design sync reg reset0 wire wireReading inverter toggling toggle unreset constant row holding conjunction lone replyOf run refusal checking asking numbers saying refusing replaying _gives_ table Encode.all Replay.all Check.all
 all = tt
 
 -- the specification's bytes of the wire are the record of its design

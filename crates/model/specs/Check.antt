@@ -4,7 +4,7 @@ use mathlib.Core.List.{List, _++_}
 use mathlib.Core.Option.{Option, none, some}
 use lib.ListN.{length, drop, replicate}
 use lib.Ieee.{Float}
-use Rattle.model.specs.Answers.{Refusal, CheckAnswer, acceptedAnswer, statusNumber}
+use Rattle.model.specs.Answers.{Refusal, Asked, CheckAnswer, refusedAnswer, acceptedAnswer, statusNumber}
 use Rattle.model.specs.Answers as Answers
 use Rattle.model.specs.Options.{Options, toDepth}
 use Rattle.model.specs.Options as Options
@@ -16,7 +16,7 @@ use Rattle.model.specs.Induction as Induction
 use Rattle.model.specs.Sat.{scoreZero}
 use Rattle.model.specs.Transition.{fromNetlist}
 use Rattle.model.specs.Transition as Transition
-use Rattle.model.specs.Equivalence.{Problem, Verdict, Equivalent, NotEquivalent, Inconclusive, GaveUp, OutOfFuel, Outcome, proveSequentialEquivalence}
+use Rattle.model.specs.Equivalence.{Problem, Verdict, Equivalent, NotEquivalent, Inconclusive, GaveUp, OutOfFuel, Outcome, proveSequentialEquivalence, largestLearned}
 use Rattle.model.specs.Equivalence as Equivalence
 
 -- ---- two designs that passed validation
@@ -52,8 +52,8 @@ checkOutcome gold gate options lent = checkRead options (readPair gold gate) len
 
 -- ---- what is answered
 
--- the answer of a verdict; OutOfFuel has a status of its own, which no check answers
-unfoldable pub verdictAnswer : Verdict → CheckAnswer
+-- the answer of a verdict, and of the query that learned most; OutOfFuel has a status of its own, which no check answers
+unfoldable pub verdictAnswer : Verdict → Asked → CheckAnswer
 verdictAnswer (Equivalent d) = acceptedAnswer (statusNumber Answers.Equivalent) d 0 0
 verdictAnswer (NotEquivalent d m bytes) = acceptedAnswer (statusNumber Answers.NotEquivalent) d m 0
 verdictAnswer (Inconclusive d) = acceptedAnswer (statusNumber Answers.Inconclusive) d 0 0
@@ -62,8 +62,8 @@ verdictAnswer OutOfFuel = acceptedAnswer 4 0 0 0
 
 -- the answer of an outcome
 unfoldable pub checkAnswer : CheckOutcome → CheckAnswer
-checkAnswer (refusedCheck r) = record { number = r .number; side = r .side; place = r .place; status = 0; depth = 0; mismatch = 0; query = 0 }
-checkAnswer (acceptedCheck o) = verdictAnswer (o .verdict)
+checkAnswer (refusedCheck r) = refusedAnswer r
+checkAnswer (acceptedCheck o) = verdictAnswer (o .verdict) (largestLearned (o .asked))
 
 -- ---- the lent memory after the call
 

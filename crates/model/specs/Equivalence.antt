@@ -5,6 +5,7 @@ use mathlib.Core.List.{List, [], _∷_, _++_, map}
 use mathlib.Core.Option.{Option, none, some}
 use lib.ListN.{getD, take, drop}
 use lib.Dec.{ltb}
+use Rattle.model.specs.Answers.{Asked}
 use Rattle.model.specs.Literal.{Literal, FALSE, node, inverted, negate, constantLiteral}
 use Rattle.model.specs.Lists.{snoc, position, zip, lookup, concat}
 use Rattle.model.specs.Aig.{Node, Constant, Variable, And, Aig, Built, new, variable, and, or, xor, evaluate}
@@ -371,12 +372,6 @@ pub data Verdict : Type 0 where
   GaveUp : ℕ → ℕ → Verdict
   OutOfFuel : Verdict
 
--- a query that was answered, and its total of learned literals
-pub record Asked : Type 0 where
-  pub depth : ℕ
-  pub query : ℕ
-  pub learned : ℕ
-
 -- the verdict, and the queries in the order they were asked
 pub record Outcome : Type 0 where
   pub verdict : Verdict
@@ -455,9 +450,10 @@ unfoldable pub largestFrom : Asked → List Asked → Asked
 largestFrom a [] = a
 largestFrom a (b ∷ bs) = largestFrom (largerLearned a b) bs
 
--- the query with the largest total of learned literals, the earliest where they are equal
-unfoldable pub largestLearned : Outcome → Asked
-largestLearned o = largestFrom (record { depth = 1; query = 1; learned = 0 }) (o .asked)
+-- the query with the largest total of all that were asked, the earliest where they are equal; where none was, nothing
+unfoldable pub largestLearned : List Asked → Asked
+largestLearned [] = record { depth = 0; query = 0; learned = 0 }
+largestLearned (a ∷ rest) = largestFrom a rest
 
 -- naming this in an `unfolding` line opens the definitions of this file and those it uses
 unfoldable pub all : Unit {0}

@@ -4,15 +4,15 @@ use mathlib.Core.Path.{_≡_, refl}
 use mathlib.Core.Bool.{true, false}
 use mathlib.Core.List.{List, [], _∷_, map}
 use mathlib.Core.Option.{some}
-use Rattle.model.specs.Netlist.{Input, RegisterOutput, Output, And, Xor, Low, Design}
+use Rattle.model.specs.Netlist.{Input, RegisterOutput, Not, Output, And, Or, Xor, Low, Design}
 use Rattle.model.specs.Literal.{Literal}
 use Rattle.model.specs.Aig.{Constant, Variable, Aig, Built, and, or, xor, mux}
 use Rattle.model.specs.Aig as Graph
 use Rattle.model.specs.Run.{initialBits}
 use Rattle.model.specs.Sat.{outOfFuel}
 use Rattle.model.specs.Equivalence.{Problem, Outcome, OutOfFuel, decided, afterQuery1, afterQuery2, afterQuery3, afterQuery4, baseCounterexample, basePreservesNamedState, inductionCloses, largestLearned}
-use Rattle.model.specs.Check.{problemOf, checkDesigns, verdictAnswer}
-use Rattle.model.specs.Cases.{a, e, h, p, q, y, clk, rst, design, sync, reg, reset0, toggle, holding, conjunction}
+use Rattle.model.specs.Check.{problemOf, checkDesigns, acceptedCheck, verdictAnswer, checkAnswer}
+use Rattle.model.specs.Cases.{a, b, e, h, p, q, y, clk, rst, design, sync, reg, reset0, toggle, holding, conjunction, asking, numbers}
 use Rattle.model.specs.Cases as Cases
 
 -- ---- operations
@@ -90,24 +90,40 @@ outcome limit gold gate = checkDesigns (record { depth = 1; limit = limit }) gol
 
 -- query 3 has no model, after a conflict that learned one literal
 asked-to-query-3 : outcome 262144 (toggle q) (toggle p) .asked
-    ≡ record { depth = 1; query = 1; learned = 0 } ∷ record { depth = 1; query = 2; learned = 0 } ∷ record { depth = 1; query = 3; learned = 1 } ∷ []
+    ≡ asking 1 1 0 ∷ asking 1 2 0 ∷ asking 1 3 1 ∷ []
 unfolding outcome Cases.all
 asked-to-query-3 = refl
 
 -- queries 3 and 4 have models
 asked-to-query-4 : outcome 262144 conjunction holding .asked
-    ≡ record { depth = 1; query = 1; learned = 0 } ∷ record { depth = 1; query = 2; learned = 0 } ∷ record { depth = 1; query = 3; learned = 0 } ∷ record { depth = 1; query = 4; learned = 0 } ∷ []
+    ≡ asking 1 1 0 ∷ asking 1 2 0 ∷ asking 1 3 0 ∷ asking 1 4 0 ∷ []
 unfolding outcome Cases.all
 asked-to-query-4 = refl
 
-most-learned : largestLearned (outcome 262144 (toggle q) (toggle p)) ≡ record { depth = 1; query = 3; learned = 1 }
-unfolding outcome Cases.all
-most-learned = refl
+-- the largest total, and the first that has it: of none, of one, of equal ones, of the first and of the last
+largest : map largestLearned ([] ∷ (asking 1 0 0 ∷ []) ∷ (asking 1 1 0 ∷ asking 1 2 5 ∷ asking 1 3 5 ∷ asking 2 1 2 ∷ []) ∷ (asking 1 1 3 ∷ asking 1 2 2 ∷ []) ∷ (asking 1 1 0 ∷ asking 2 1 4 ∷ []) ∷ [])
+    ≡ asking 0 0 0 ∷ asking 1 0 0 ∷ asking 1 2 5 ∷ asking 1 1 3 ∷ asking 2 1 4 ∷ []
+unfolding Cases.all
+largest = refl
 
--- under a limit of 0 the first literal is one too many
-gives-up : verdictAnswer (outcome 0 (toggle q) (toggle p) .verdict) ≡ record { number = 0; side = 0; place = 0; status = 3; depth = 1; mismatch = 0; query = 3 }
+-- under a limit of 0 the first literal is one too many: query 3 gives up, and the first query asked learned as much, nothing
+gives-up : checkAnswer (acceptedCheck (outcome 0 (toggle q) (toggle p))) ≡ numbers 0 0 0 3 1 0 3 (asking 1 1 0)
 unfolding outcome Cases.all
 gives-up = refl
+
+-- y = a Xor b
+unfoldable pub exclusive : Design
+exclusive = design (Input a ∷ Input b ∷ Xor 0 1 ∷ Output y 2 ∷ []) []
+
+-- the same by Or and And
+unfoldable pub gated : Design
+gated = design (Input a ∷ Input b ∷ Or 0 1 ∷ And 0 1 ∷ Not 3 ∷ And 2 4 ∷ Output y 5 ∷ []) []
+
+-- query 1 learns 16 literals; under a smaller limit its total is the one before the clause that would pass it
+limited : map (λ limit. checkAnswer (acceptedCheck (outcome limit exclusive gated))) (262144 ∷ 12 ∷ 5 ∷ 3 ∷ [])
+    ≡ numbers 0 0 0 0 1 0 0 (asking 1 1 16) ∷ map (λ total. numbers 0 0 0 3 1 0 1 (asking 1 1 total)) (11 ∷ 4 ∷ 0 ∷ [])
+unfolding outcome exclusive gated Cases.all
+limited = refl
 
 -- a search without an end, which none is, would stand among the queries asked with its depth, number and total
 out-of-fuel : (p : Problem) → afterQuery1 9 p 5 [] [] (outOfFuel 7) ∷ afterQuery2 9 p 5 [] (outOfFuel 7) ∷ afterQuery3 9 p 5 [] (outOfFuel 7) ∷ afterQuery4 5 [] (outOfFuel 7) ∷ []
@@ -116,6 +132,6 @@ unfolding Cases.all
 out-of-fuel p = refl
 
 -- and would be answered with a status of its own
-no-end : verdictAnswer OutOfFuel ≡ record { number = 0; side = 0; place = 0; status = 4; depth = 0; mismatch = 0; query = 0 }
+no-end : verdictAnswer OutOfFuel (asking 2 3 9) ≡ numbers 0 0 0 4 0 0 0 (asking 2 3 9)
 unfolding Cases.all
 no-end = refl

@@ -25,19 +25,18 @@ use Rattle.unrolling.specs.Side.{Untouched}
 use Rattle.queries.specs.Asking.{Asked}
 use Rattle.queries.specs.Querying.{Queryable, Stated, Queried, started, stated-compares, queried}
 use Rattle.queries.specs.declared.problem.Problem.{Problem}
-use Rattle.queries.specs.declared.query.Counterexample.{Counterexample}
-use Rattle.queries.specs.declared.query.Counterexample.the-variants as Found
+use Rattle.queries.specs.declared.query.Found.{Found}
 
--- what is found agrees with the answer for a query with these comparisons; the trace goes from t to t′
-abbrev pub FoundBy : Counterexample → List ℕ → List ℕ → List FrameComparison → Sat.Answer → Type 0
-FoundBy (Found.Mismatch m) t t′ cs z =
-    (values : List Bool) × (n : ℕ) × (z ≡ Sat.model values n) × (m ≡ firstMismatch values cs) × (t′ ≡ overwrite (traceBytes values cs m) t)
-FoundBy Found.Nothing t t′ cs z = (n : ℕ) × (z ≡ Sat.noModel n) × (t′ ≡ t)
-FoundBy Found.GaveUp t t′ cs z = (n : ℕ) × (z ≡ Sat.gaveUp n) × (t′ ≡ t)
+-- the search's answer, with the mismatch of a model, agrees with the model's answer to a query with these comparisons; the trace goes from t to t′
+abbrev pub FoundBy : Answer → ℕ → List ℕ → List ℕ → List FrameComparison → Sat.Answer → Type 0
+FoundBy (Answers.Model n) m t t′ cs z =
+    (values : List Bool) × (z ≡ Sat.model values n) × (m ≡ firstMismatch values cs) × (t′ ≡ overwrite (traceBytes values cs m) t)
+FoundBy (Answers.NoModel n) m t t′ cs z = (z ≡ Sat.noModel n) × (t′ ≡ t)
+FoundBy (Answers.GaveUp n) m t t′ cs z = (z ≡ Sat.gaveUp n) × (t′ ≡ t)
 
 -- Query 1 is answered as the model answers it, and the next query may be asked.
-pub record Finds (x : Problem) (limit d : ℕ) (w t : List ℕ) (r : Counterexample) (w′ : List ℕ) (scores′ : List Float) (t′ : List ℕ) : Type 0 where
-  pub is : (p : Model.Problem) → StandsFor x w p → FoundBy r t t′ (baseCounterexample p d .comparisons) (Model.ask limit (baseCounterexample p d))
+pub record Finds (x : Problem) (limit d : ℕ) (w t : List ℕ) (r : Found) (w′ : List ℕ) (scores′ : List Float) (t′ : List ℕ) : Type 0 where
+  pub is : (p : Model.Problem) → StandsFor x w p → FoundBy (r .answer) (r .mismatch) t t′ (baseCounterexample p d .comparisons) (Model.ask limit (baseCounterexample p d))
   pub kept : Untouched w w′
   pub next : Queryable x limit d w′ scores′
 
@@ -74,27 +73,28 @@ module _ (x : Problem) (limit d : ℕ) (w : List ℕ) (s : List Float) (t : List
         room = rw add-one room;
       }
 
+  -- what was found, by the search's answer
+  finds : (u : Answer) → r ≡ u → (n : ℕ) (t′ : List ℕ)
+      → ((p : Model.Problem) → StandsFor x w p → FoundBy u n t t′ (baseCounterexample p d .comparisons) (Model.ask limit (baseCounterexample p d)))
+      → Finds x limit d w t (record { answer = r; mismatch = n }) w₂ s₂ t′
+  finds u e n t′ h = record { is = λ p q. rw e (h p q); kept = answer .kept; next = answer .next }
+
   module _ (k : ℕ) where
     -- the search found a model, and its trace was written
     pub found : r ≡ Answers.Model k → (n : ℕ) (t′ : List ℕ) → Traced c (x .gold .«input_count») (x .gold .«output_count») (d + 1) w₂ t n t′
-        → Finds x limit d w t (Found.Mismatch n) w₂ s₂ t′
+        → Finds x limit d w t (record { answer = r; mismatch = n }) w₂ s₂ t′
     found e n t′ f =
-        record {
-          is = λ p q. (
-            modelOf c w₂,
-            k,
-            answer-is (Answers.Model k) e p q,
-            f .mismatch-is ∙ ap (λ (cs : List FrameComparison). firstMismatch (modelOf c w₂) cs) (comparisons-are p q),
-            f .trace-is ∙ ap (λ (cs : List FrameComparison). overwrite (traceBytes (modelOf c w₂) cs n) t) (comparisons-are p q),
-          );
-          kept = answer .kept;
-          next = answer .next;
-        }
+        finds (Answers.Model k) e n t′ (λ p q. (
+          modelOf c w₂,
+          answer-is (Answers.Model k) e p q,
+          f .mismatch-is ∙ ap (λ (cs : List FrameComparison). firstMismatch (modelOf c w₂) cs) (comparisons-are p q),
+          f .trace-is ∙ ap (λ (cs : List FrameComparison). overwrite (traceBytes (modelOf c w₂) cs n) t) (comparisons-are p q),
+        ))
 
     -- there is none
-    pub found-none : r ≡ Answers.NoModel k → Finds x limit d w t Found.Nothing w₂ s₂ t
-    found-none e = record { is = λ p q. (k, answer-is (Answers.NoModel k) e p q, refl); kept = answer .kept; next = answer .next }
+    pub found-none : r ≡ Answers.NoModel k → (n : ℕ) → Finds x limit d w t (record { answer = r; mismatch = n }) w₂ s₂ t
+    found-none e n = finds (Answers.NoModel k) e n t (λ p q. (answer-is (Answers.NoModel k) e p q, refl))
 
     -- the search gave up
-    pub found-gave-up : r ≡ Answers.GaveUp k → Finds x limit d w t Found.GaveUp w₂ s₂ t
-    found-gave-up e = record { is = λ p q. (k, answer-is (Answers.GaveUp k) e p q, refl); kept = answer .kept; next = answer .next }
+    pub found-gave-up : r ≡ Answers.GaveUp k → (n : ℕ) → Finds x limit d w t (record { answer = r; mismatch = n }) w₂ s₂ t
+    found-gave-up e n = finds (Answers.GaveUp k) e n t (λ p q. (answer-is (Answers.GaveUp k) e p q, refl))

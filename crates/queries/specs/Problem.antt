@@ -6,16 +6,18 @@ use lib.ListN.{length}
 use lib.Ieee.{Float}
 use Rattle.words.specs.Layout.{LENT, MOST-NODES, MOST-LEARNED}
 use Rattle.model.specs.Answers as Answers
-use Rattle.model.specs.Answers.{CheckAnswer, acceptedAnswer, statusNumber}
+use Rattle.model.specs.Answers.{Asked, CheckAnswer, acceptedAnswer, statusNumber}
 use Rattle.model.specs.Literal.{constantLiteral}
 use Rattle.model.specs.Equivalence as Model
-use Rattle.model.specs.Equivalence.{proveSequentialEquivalence}
+use Rattle.model.specs.Equivalence.{proveSequentialEquivalence, largestLearned}
 use Rattle.model.specs.Check.{verdictAnswer, verdictTrace}
+use Rattle.calls.specs.Answers.{askedOf}
 use Rattle.lowering.specs.Firsts.{firsts, Below}
 use Rattle.unrolling.specs.Cycling.{Paired, Standing}
 use Rattle.equivalence.specs.Inducing.{Matched, cycleCost}
 use Rattle.equivalence.specs.FreeState.{Returned}
 use Rattle.queries.specs.declared.problem.Problem.{Problem}
+use Rattle.queries.specs.declared.problem.Outcome.{Outcome}
 use Rattle.queries.specs.declared.problem.Verdict.{Verdict}
 use Rattle.queries.specs.declared.problem.Verdict.the-variants.{Equivalent, NotEquivalent, Inconclusive, GaveUp}
 
@@ -33,6 +35,7 @@ pub record Provable (x : Problem) (limit D : ℕ) (w : List ℕ) (scores : List 
   pub scores-long : MOST-NODES ≤ length scores
   pub trace-long : suc D * x .gold .«input_count» + x .gold .«output_count» ≤ length trace
   pub limited : limit ≤ MOST-LEARNED
+  pub some : 1 ≤ D
   pub shallow : D ≤ 64
   pub paired : Paired (x .gold) (x .gate) w
   pub gold-matches : Below (x .gate .«state_count» + 1) (x .gold .«state_count») (x .«gold_matches»)
@@ -43,14 +46,15 @@ pub record Provable (x : Problem) (limit D : ℕ) (w : List ℕ) (scores : List 
   pub problem : Model.Problem
   pub stands : StandsFor x w problem
 
--- a verdict as the specification answers it
-unfoldable pub answerOfVerdict : Verdict → CheckAnswer
+-- a verdict as the specification answers it, with the query that learned most
+unfoldable pub answerOfVerdict : Verdict → Asked → CheckAnswer
 answerOfVerdict (Equivalent d) = acceptedAnswer (statusNumber Answers.Equivalent) d 0 0
 answerOfVerdict (NotEquivalent d m) = acceptedAnswer (statusNumber Answers.NotEquivalent) d m 0
 answerOfVerdict (Inconclusive d) = acceptedAnswer (statusNumber Answers.Inconclusive) d 0 0
 answerOfVerdict (GaveUp d q) = acceptedAnswer (statusNumber Answers.GaveUp) d 0 q
 
--- The verdict and the trace after it are the model's.
-pub record Proves (x : Problem) (limit D : ℕ) (w trace : List ℕ) (r : Verdict) (trace′ : List ℕ) : Type 0 where
-  pub answer : (p : Model.Problem) → StandsFor x w p → answerOfVerdict r ≡ verdictAnswer (proveSequentialEquivalence limit p D .verdict)
+-- The verdict, the trace after it and the query that learned most are the model's.
+pub record Proves (x : Problem) (limit D : ℕ) (w trace : List ℕ) (r : Outcome) (trace′ : List ℕ) : Type 0 where
+  pub answer : (p : Model.Problem) → StandsFor x w p → (a : Asked) → answerOfVerdict (r .verdict) a ≡ verdictAnswer (proveSequentialEquivalence limit p D .verdict) a
   pub traced : (p : Model.Problem) → StandsFor x w p → trace′ ≡ verdictTrace (proveSequentialEquivalence limit p D .verdict) trace
+  pub most : (p : Model.Problem) → StandsFor x w p → askedOf (r .most) ≡ largestLearned (proveSequentialEquivalence limit p D .asked)

@@ -1,4 +1,5 @@
-// A problem by value, and the verdict on it.
+// A problem by value, and the outcome of its proof.
+use calls::answers::Asked;
 use transition::system::System;
 
 // Both sides, the literals that their states start with, and for each state the match of its name among the other side's states.
@@ -17,4 +18,10 @@ pub enum Verdict {
     NotEquivalent(u32, u32),
     Inconclusive(u32),
     GaveUp(u32, u32),
+}
+
+// The verdict, and of the queries asked the one that learned most, the first where they are equal.
+pub struct Outcome {
+    pub verdict: Verdict,
+    pub most: Asked,
 }

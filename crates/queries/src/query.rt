@@ -12,11 +12,10 @@ use equivalence::induction::induction_closes;
 use sat::state::Answer;
 use trace::write_counterexample;
 
-// What query 1 finds: a counterexample with its first mismatch, none, or that the search gave up.
-pub enum Counterexample {
-    Mismatch(u32),
-    Nothing,
-    GaveUp,
+// What query 1 finds: the search's answer, and of a model, which is a counterexample, the first mismatch.
+pub struct Found {
+    pub answer: Answer,
+    pub mismatch: u32,
 }
 
 // Query 1: whether outputs differ in a cycle from 0 to `depth`; where they do, the trace is written.
@@ -27,7 +26,7 @@ pub fn find_counterexample(
     trace: &mut [u8],
     limit: usize,
     depth: usize,
-) -> Counterexample
+) -> Found
     requires { ⌜ Queryable problem limit depth (now words) (now scores) × (suc depth * problem .gold .«input_count» + problem .gold .«output_count» ≤ length (now trace)) ⌝ }
     ensures { λ r. ⌜ Finds problem limit depth (now (words .entry)) (now (trace .entry)) r (now (words .exit)) (now (scores .exit)) (now (trace .exit)) ⌝ }
 {
@@ -40,15 +39,22 @@ pub fn find_counterexample(
     let literal = base.any_mismatch;
     let assumptions = [literal.0; 128];
     let count = aig.count;
-    match ask(words, scores, &assumptions, 1, count, limit) {
+    let answer = ask(words, scores, &assumptions, 1, count, limit);
+    match answer {
         Answer::Model(_) => {
             let inputs = gold.input_count;
             let outputs = gold.output_count;
             let mismatch = write_counterexample(words, trace, count, inputs, outputs, depth + 1);
-            Counterexample::Mismatch(mismatch)
+            Found { answer, mismatch }
         }
-        Answer::NoModel(_) => Counterexample::Nothing,
-        Answer::GaveUp(_) => Counterexample::GaveUp,
+        Answer::NoModel(_) => Found {
+            answer,
+            mismatch: 0,
+        },
+        Answer::GaveUp(_) => Found {
+            answer,
+            mismatch: 0,
+        },
     }
 }
 

@@ -1,5 +1,5 @@
-// A line of the call check: `check GOLDHEX GATEHEX D TRACELEN WORDSLEN SCORESLEN = NUMBER SIDE PLACE STATUS DEPTH MISMATCH QUERY TRACEHEX MAXLEARNED`.
-// The buffers that it asks for, the answer recorded in it, and what the buffers hold after the call; its last number is not looked at.
+// A line of the call check: `check GOLDHEX GATEHEX D TRACELEN WORDSLEN SCORESLEN = NUMBER SIDE PLACE STATUS DEPTH MISMATCH QUERY LEARNED LDEPTH LQUERY TRACEHEX`.
+// The buffers that it asks for, the answer recorded in it, and what the buffers hold after the call.
 ghost use Prim.Native.Nat.{_≤_};
 use crate::lent::HELD_WORD;
 use crate::lent::score_fault;
@@ -60,6 +60,14 @@ pub struct Verdict {
     pub next: usize,
 }
 
+// The most that a query learned, its depth and its number in a recorded answer, and the offset after them.
+pub struct Learned {
+    pub total: u64,
+    pub depth: u64,
+    pub query: u64,
+    pub next: usize,
+}
+
 fn told_verdict(line: &[u8], from: usize) -> Verdict {
     let status = number(line, space(line, from));
     let depth = number(line, space(line, status.next));
@@ -74,10 +82,23 @@ fn told_verdict(line: &[u8], from: usize) -> Verdict {
     }
 }
 
+fn told_learned(line: &[u8], from: usize) -> Learned {
+    let total = number(line, space(line, from));
+    let depth = number(line, space(line, total.next));
+    let query = number(line, space(line, depth.next));
+    Learned {
+        total: total.value,
+        depth: depth.value,
+        query: query.value,
+        next: query.next,
+    }
+}
+
 // A recorded answer: its numbers, how many bytes of the trace are written, and the offset after it.
 pub struct Recorded {
     pub refusal: Refusal,
     pub verdict: Verdict,
+    pub learned: Learned,
     pub accepted: bool,
     pub written: usize,
     pub next: usize,
@@ -87,14 +108,15 @@ pub struct Recorded {
 pub fn recorded_answer(line: &[u8], from: usize, claim: &mut [u8]) -> Recorded {
     let r = told_refusal(line, from);
     let v = told_verdict(line, r.next);
-    let bytes = hex(line, space(line, v.next), claim);
-    let learned = number(line, space(line, bytes.next));
+    let l = told_learned(line, v.next);
+    let bytes = hex(line, space(line, l.next), claim);
     Recorded {
         refusal: r,
         verdict: v,
+        learned: l,
         accepted: r.number == 0,
         written: bytes.count,
-        next: learned.next,
+        next: bytes.next,
     }
 }
 

@@ -32,11 +32,17 @@ pub const MISMATCH: u8 = 6;
 
 pub const QUERY: u8 = 7;
 
-pub const TRACE: u8 = 8;
+pub const LEARNED: u8 = 8;
 
-pub const WORDS: u8 = 9;
+pub const LEARNED_DEPTH: u8 = 9;
 
-pub const SCORES: u8 = 10;
+pub const LEARNED_QUERY: u8 = 10;
+
+pub const TRACE: u8 = 11;
+
+pub const WORDS: u8 = 12;
+
+pub const SCORES: u8 = 13;
 
 // The comparison of one number; an outcome that is found already stays.
 pub fn compared(so_far: Outcome, what: u8, expected: u64, answered: u64) -> Outcome {
@@ -68,7 +74,7 @@ fn tell_name(names: &[u8], k: u8) {
 // The name of a part of an answer.
 fn tell_part(what: u8) {
     tell_name(
-        b"number  side    place   yes     status  depth   mismatchquery   trace   word    score   ",
+        b"number  side    place   yes     status  depth   mismatchquery   learned ldepth  lquery  trace   word    score   ",
         what,
     );
 }

@@ -21,7 +21,7 @@ use Rattle.struo_ir.specs.Decoded.{decoded}
 use Rattle.struo_ir.specs.Designs.{Sided}
 use Rattle.struo_ir.specs.declared.design.Design as Travelling
 use Rattle.pair.specs.CountLaws.{count-nodes, count-registers, count-inputs, count-outputs}
-use Rattle.laws.specs.Induction.Pairs.{names-length}
+use Rattle.laws.specs.Induction.Pairs.{names-length, depth-positive}
 use Rattle.refusals.specs.Refusals.{framesBy, nodesBy, shortBy, depthFault, sizeFault, initialAndSizeFault, pairFault}
 
 -- ---- the checks in turn
@@ -66,6 +66,7 @@ short-within inputs outputs depth lent = rw add-one
 
 -- What holds of an accepted pair, the options asked and the buffers lent.
 pub record Accepted (gold gate : Design) (options : Options) (lent : Pair.Lent) : Type 0 where
+  pub depth-some : 1 ≤ options .depth
   pub depth-small : options .depth ≤ 64
   pub inputs-alike : inputCount gold ≡ inputCount gate
   pub outputs-alike : outputCount gold ≡ outputCount gate
@@ -89,6 +90,7 @@ accepted gold gate options lent e =
     let short = refuseIf-none 24 0 0 (tooShort gold depth lent) (large .1) in
     let shorter = or-left (ltb (lent .trace) (traceLength gold depth) || ltb (lent .words) LENT) (ltb (lent .scores) MOST-NODES) short in
     record {
+      depth-some = depth-positive gold gate options lent e;
       depth-small = ltb-false 64 depth (refuseIf-none 17 0 0 _ (deep .0));
       inputs-alike = names-length (inputs gold) (inputs gate) (refuseIf-none 18 0 0 _ (ins .0));
       outputs-alike = names-length (outputs gold) (outputs gate) (refuseIf-none 19 0 0 _ (outs .0));

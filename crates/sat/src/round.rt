@@ -75,7 +75,8 @@ fn after_conflict(
     let pivot = r.pivot;
     let count = analysis.learned;
     let activity = decay_activity(analysis.activity);
-    if limit < learned + count + 1 {
+    let total = learned + count + 1;
+    if limit < total {
         return Step::GaveUp(learned);
     }
     let next = State {

@@ -13,6 +13,9 @@ use recorded::lent::hold_bytes;
 use recorded::lent::hold_scores;
 use recorded::lent::hold_words;
 use recorded::outcome::DEPTH;
+use recorded::outcome::LEARNED;
+use recorded::outcome::LEARNED_DEPTH;
+use recorded::outcome::LEARNED_QUERY;
 use recorded::outcome::MISMATCH;
 use recorded::outcome::Outcome;
 use recorded::outcome::QUERY;
@@ -21,13 +24,32 @@ use recorded::outcome::compared;
 use recorded::refusal::Refusal;
 use recorded::refusal::compared_refusal;
 
-// The numbers of an answer compared with the recorded ones.
-fn numbers(answer: CheckAnswer, r: Refusal, v: Verdict) -> Outcome {
+// The first seven numbers of an answer compared with the recorded ones.
+fn verdict_numbers(answer: CheckAnswer, r: Refusal, v: Verdict) -> Outcome {
     let refusal_told = compared_refusal(r, answer.number, answer.side, answer.place);
     let status_told = compared(refusal_told, STATUS, v.status, answer.status as u64);
     let depth_told = compared(status_told, DEPTH, v.depth, answer.depth as u64);
     let mismatch_told = compared(depth_told, MISMATCH, v.mismatch, answer.mismatch as u64);
     compared(mismatch_told, QUERY, v.query, answer.query as u64)
+}
+
+// All numbers of an answer compared with the recorded ones.
+fn numbers(answer: CheckAnswer, t: Recorded) -> Outcome {
+    let verdict_told = verdict_numbers(answer, t.refusal, t.verdict);
+    let l = t.learned;
+    let learned_told = compared(verdict_told, LEARNED, l.total, answer.learned as u64);
+    let depth_told = compared(
+        learned_told,
+        LEARNED_DEPTH,
+        l.depth,
+        answer.learned_depth as u64,
+    );
+    compared(
+        depth_told,
+        LEARNED_QUERY,
+        l.query,
+        answer.learned_query as u64,
+    )
 }
 
 // Makes the call.
@@ -90,7 +112,7 @@ fn judge(
         words,
         scores,
     );
-    let told = numbers(answer, t.refusal, t.verdict);
+    let told = numbers(answer, t);
     buffers(
         told,
         q,

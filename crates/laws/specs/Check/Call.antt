@@ -6,7 +6,7 @@ use mathlib.Core.List.{List}
 use mathlib.Core.Option.{Option, none, some}
 use lib.ListN.{length, replicate}
 use lib.Ieee.{Float}
-use Rattle.model.specs.Answers.{Refusal, Status, statusNumber, acceptedAnswer}
+use Rattle.model.specs.Answers.{Refusal, Status, statusNumber, Asked, refusedAnswer, acceptedAnswer}
 use Rattle.model.specs.Answers as Answers
 use Rattle.model.specs.Options.{Options, toDepth}
 use Rattle.model.specs.Netlist.{Design}
@@ -15,7 +15,7 @@ use Rattle.model.specs.Pair.{Lent, ReadPair, both, refusedPair, readPair, check
 use Rattle.model.specs.Induction.{refused, answered, unfinished, Accepts, Refuses}
 use Rattle.model.specs.Induction as Induction
 use Rattle.model.specs.Sat.{scoreZero}
-use Rattle.model.specs.Equivalence.{Verdict, Equivalent, NotEquivalent, Inconclusive, GaveUp, OutOfFuel}
+use Rattle.model.specs.Equivalence.{Verdict, Equivalent, NotEquivalent, Inconclusive, GaveUp, OutOfFuel, largestLearned}
 use Rattle.model.specs.Check.{checkDesigns, CheckOutcome, refusedCheck, acceptedCheck, checkPair, checkRead, checkOutcome, verdictAnswer, checkAnswer, traceAfter, clearedAfter, CheckResult, checkResult, lentOf, check, verdictSays, outcomeSays, checked}
 use Rattle.laws.specs.Terms.{Numbered, checkedDesigns}
 use Rattle.laws.specs.Induction.Pairs.{Accepted, accepted-pair, free-of}
@@ -106,12 +106,7 @@ module _ (a b : List ℕ) (o : Options) (lent : Lent) (gold gate : Design) (free
 pub check-refused : (gold gate : List ℕ) (D : ℕ) (trace words : List ℕ) (scores : List Float) (r : Refusal)
     → checkRefusal gold gate (toDepth D) (lentOf trace words scores) ≡ some r
     → check gold gate D trace words scores
-    ≡ record {
-      answer = record { number = r .number; side = r .side; place = r .place; status = 0; depth = 0; mismatch = 0; query = 0 };
-      trace = trace;
-      words = words;
-      scores = scores;
-    }
+    ≡ record { answer = refusedAnswer r; trace = trace; words = words; scores = scores }
 unfolding check checkResult checkOutcome checkRefusal checkAnswer traceAfter clearedAfter
 check-refused gold gate D trace words scores r e =
     ap (λ (o : CheckOutcome). checkResult o trace words scores) (read-outcome (toDepth D) (readPair gold gate) (lentOf trace words scores) r e)
@@ -137,18 +132,18 @@ check-cleared a b D trace words scores e =
 
 -- ---- the numbers of the answer
 
-verdict-numbered : (v : Verdict) (status : Status) (d : ℕ) → verdictSays v ≡ answered status d → Numbered (verdictAnswer v) status d
+verdict-numbered : (v : Verdict) (most : Asked) (status : Status) (d : ℕ) → verdictSays v ≡ answered status d → Numbered (verdictAnswer v most) status d
 unfolding verdictSays verdictAnswer acceptedAnswer
-verdict-numbered (Equivalent k) status d e = let f : Answers.Equivalent ≡ status = cc in let g : k ≡ d = cc in record { number = refl; status-number = ap statusNumber f; depth = g }
-verdict-numbered (NotEquivalent k m bytes) status d e = let f : Answers.NotEquivalent ≡ status = cc in let g : k ≡ d = cc in record { number = refl; status-number = ap statusNumber f; depth = g }
-verdict-numbered (Inconclusive k) status d e = let f : Answers.Inconclusive ≡ status = cc in let g : k ≡ d = cc in record { number = refl; status-number = ap statusNumber f; depth = g }
-verdict-numbered (GaveUp k q) status d e = let f : Answers.GaveUp ≡ status = cc in let g : k ≡ d = cc in record { number = refl; status-number = ap statusNumber f; depth = g }
-verdict-numbered OutOfFuel status d e = absurd (let z : _≡_ {A = ℕ} 0 1 = cc in omega arith)
+verdict-numbered (Equivalent k) most status d e = let f : Answers.Equivalent ≡ status = cc in let g : k ≡ d = cc in record { number = refl; status-number = ap statusNumber f; depth = g }
+verdict-numbered (NotEquivalent k m bytes) most status d e = let f : Answers.NotEquivalent ≡ status = cc in let g : k ≡ d = cc in record { number = refl; status-number = ap statusNumber f; depth = g }
+verdict-numbered (Inconclusive k) most status d e = let f : Answers.Inconclusive ≡ status = cc in let g : k ≡ d = cc in record { number = refl; status-number = ap statusNumber f; depth = g }
+verdict-numbered (GaveUp k q) most status d e = let f : Answers.GaveUp ≡ status = cc in let g : k ≡ d = cc in record { number = refl; status-number = ap statusNumber f; depth = g }
+verdict-numbered OutOfFuel most status d e = absurd (let z : _≡_ {A = ℕ} 0 1 = cc in omega arith)
 
 outcome-numbered : (o : CheckOutcome) (status : Status) (d : ℕ) → outcomeSays o ≡ answered status d → Numbered (checkAnswer o) status d
 unfolding outcomeSays checkAnswer
 outcome-numbered (refusedCheck r) status d e = absurd (let z : _≡_ {A = ℕ} 0 1 = cc in omega arith)
-outcome-numbered (acceptedCheck o) status d e = verdict-numbered (o .verdict) status d e
+outcome-numbered (acceptedCheck o) status d e = verdict-numbered (o .verdict) (largestLearned (o .asked)) status d e
 
 -- what the abstract check answers is what the call answers
 pub check-numbered : (gold gate : List ℕ) (D : ℕ) (trace words : List ℕ) (scores : List Float) (status : Status) (d : ℕ)

@@ -5,8 +5,9 @@ use mathlib.Core.Path.{_≡_, refl, sym, ap, subst, _∙_}
 use mathlib.Core.Logic.{inl, inr}
 use mathlib.Core.Bool.{Bool, true, false}
 use mathlib.Core.List.{List, []}
+use Rattle.model.specs.Answers.{Asked}
 use Rattle.model.specs.Sat.{Answer, model, noModel, gaveUp, outOfFuel}
-use Rattle.model.specs.Equivalence.{Problem, Query, baseCounterexample, basePreservesNamedState, inductionCloses, ask, Verdict, Equivalent, Inconclusive, GaveUp, Asked, Proving, undecided, decided, askedToo, notEquivalentAt, afterQuery4, query4, afterQuery3, afterQuery2, afterQuery1, query1, atDepth, depths, proveSequentialEquivalence}
+use Rattle.model.specs.Equivalence.{Problem, Query, baseCounterexample, basePreservesNamedState, inductionCloses, ask, Verdict, Equivalent, Inconclusive, GaveUp, Proving, undecided, decided, askedToo, notEquivalentAt, afterQuery4, query4, afterQuery3, afterQuery2, afterQuery1, query1, atDepth, depths, proveSequentialEquivalence}
 use Rattle.laws.specs.Terms.{NoModel, Exceeds, NamedOpen, Passed, Stops, at-query-1, at-query-2, at-query-3, at-query-4}
 use Rattle.facts.specs.Numbers.{by-eq}
 use Rattle.laws.specs.Queries.Formed.{Askable, query-1-askable, query-2-askable, query-3-4-askable}

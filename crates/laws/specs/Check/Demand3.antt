@@ -6,7 +6,7 @@ use mathlib.Core.Logic.{_≢_, _↔_}
 use mathlib.Core.List.{List, List·Memᴰ}
 use mathlib.Core.Option.{Option, none, some}
 use lib.Ieee.{Float}
-use Rattle.model.specs.Answers.{Refusal, Status, Equivalent, NotEquivalent, GaveUp, statusNumber}
+use Rattle.model.specs.Answers.{Refusal, Status, Equivalent, NotEquivalent, GaveUp, statusNumber, refusedAnswer}
 use Rattle.model.specs.Options.{toDepth}
 use Rattle.model.specs.Pair.{Lent, checkRefusal}
 use Rattle.model.specs.Induction.{answered, Checked, goldFirst, gateFirst, Chain, two, more, Joined}
@@ -22,6 +22,7 @@ use Rattle.laws.specs.Check.Numbers.{called, call-checked}
 
 module _ (a b : List ℕ) (D : ℕ) (trace words : List ℕ) (scores : List Float) where
   refusal-number : (o : Option Refusal) → checkRefusal a b (toDepth D) (lentOf trace words scores) ≡ o → check a b D trace words scores .answer .number ≡ 0 → o ≡ none
+  unfolding refusedAnswer
   refusal-number none e h = refl
   refusal-number (some r) e h =
       let q : check a b D trace words scores .answer .number ≡ r .number = ap (λ x. x .answer .number) (check-refused a b D trace words scores r e) in

@@ -1,62 +1,97 @@
--- A larger limit of learned literals changes no answer of the check but a give-up. Assumes nothing.
-use Prim.Native.Nat.{ℕ, _≤_}
+-- A larger limit of learned literals changes nothing of a check but a give-up: no answer, and no query asked. Assumes nothing.
+use Prim.Native.Nat.{ℕ, zero, suc, _≤_}
 use native.Mathlib.Omega.{arith}
-use mathlib.Core.Path.{_≡_, sym, ap, _∙_, subst}
-use mathlib.Core.Logic.{_≢_, inl, inr}
-use mathlib.Core.List.{List}
+use mathlib.Core.Path.{_≡_, refl, sym, ap, _∙_, subst}
+use mathlib.Core.Logic.{_≢_}
+use mathlib.Core.Bool.{true, false}
+use mathlib.Core.List.{List, []}
 use mathlib.Core.Option.{none}
 use lib.Ieee.{Float}
-use Rattle.model.specs.Answers.{Status}
+use Rattle.model.specs.Answers.{Status, Asked}
 use Rattle.model.specs.Answers as Answers
 use Rattle.model.specs.Options.{Options}
 use Rattle.model.specs.Netlist.{Design}
 use Rattle.model.specs.Run.{StoredBits, initialBits}
 use Rattle.model.specs.Pair.{Lent, checkFault, ReadPair, both, refusedPair, readPair, checkRefusalOf, checkRefusal}
 use Rattle.model.specs.Induction.{answered}
-use Rattle.model.specs.Sat.{Answer, model, noModel}
-use Rattle.model.specs.Equivalence.{Problem, Query, ask, Verdict, Equivalent, NotEquivalent, Inconclusive, GaveUp, OutOfFuel, proveSequentialEquivalence}
+use Rattle.model.specs.Sat.{Answer, model, noModel, gaveUp, outOfFuel}
+use Rattle.model.specs.Equivalence.{Problem, Query, baseCounterexample, basePreservesNamedState, inductionCloses, ask, Verdict, Equivalent, NotEquivalent, Inconclusive, GaveUp, OutOfFuel, Outcome, Proving, undecided, decided, askedToo, afterQuery4, query4, afterQuery3, afterQuery2, afterQuery1, query1, atDepth, depths, proveSequentialEquivalence}
 use Rattle.model.specs.Check.{problemOf, checkDesigns, checkOutcome, checkAnswer, traceAfter, clearedAfter, checkResult, verdictSays, checked}
-use Rattle.laws.specs.Check.Course.{Decides, differs, closes-named, closes, stops, Course, decides, passes, verdict-course, course-verdict}
 use Rattle.laws.specs.Search.Limits.{solve-same}
-use Rattle.laws.specs.Terms.{checkedDesigns, LargerLimit, Settled, NoModel, Model, NamedOpen, Passed}
+use Rattle.laws.specs.Terms.{checkedDesigns, LargerLimit, Settled}
 use Rattle.laws.specs.Induction.Pairs.{Accepted, accepted-pair}
 use Rattle.laws.specs.Check.Call.{check-accepts, outcome-is, checked-is}
+use Rattle.laws.specs.Check.Walk.{Final}
 
--- a verdict that neither the limit nor the rounds cut short
-abbrev Final : Verdict → Type 0
-Final (Equivalent d) = Unit {0}
-Final (NotEquivalent d m bytes) = Unit {0}
-Final (Inconclusive d) = Unit {0}
-Final (GaveUp d q) = ⊥
-Final OutOfFuel = ⊥
-
-module _ (limit larger : ℕ) (le : limit ≤ larger) where
+module _ (limit larger : ℕ) (le : limit ≤ larger) (p : Problem) where
   asked-same : (q : Query) (a : Answer) → ask limit q ≡ a → Settled a → ask larger q ≡ a
   unfolding ask
   asked-same q a e h = solve-same limit larger le (q .aig) (q .assumptions) (subst Settled (sym e) h) ∙ e
 
-  none-same : (q : Query) → NoModel limit q → NoModel larger q
-  none-same q x = (x .0, asked-same q (noModel (x .0)) (x .1) tt)
+  -- a verdict so far, if there is one, was not cut short
+  abbrev FinalSoFar : Proving → Type 0
+  FinalSoFar (undecided earlier) = Unit {0}
+  FinalSoFar (decided v earlier) = Final v
 
-  model-same : (q : Query) → Model limit q → Model larger q
-  model-same q x = (x .0, x .1, asked-same q (model (x .0) (x .1)) (x .2) tt)
+  module _ (d : ℕ) where
+    same-4 : (earlier : List Asked) (a : Answer) → ask limit (inductionCloses p false d) ≡ a → FinalSoFar (afterQuery4 d earlier a) → ask larger (inductionCloses p false d) ≡ a
+    unfolding afterQuery4
+    same-4 earlier (model values n) e f = asked-same _ _ e tt
+    same-4 earlier (noModel n) e f = asked-same _ _ e tt
+    same-4 earlier (gaveUp n) e f = absurd f
+    same-4 earlier (outOfFuel n) e f = absurd f
 
-  named-same : (p : Problem) (d : ℕ) → NamedOpen limit p d → NamedOpen larger p d
-  named-same p d (inl m) = inl (model-same _ m)
-  named-same p d (inr m) = inr (none-same _ (m .0), model-same _ (m .1))
+    query-4-same : (earlier : List Asked) → FinalSoFar (query4 limit p d earlier) → query4 larger p d earlier ≡ query4 limit p d earlier
+    unfolding query4
+    query-4-same earlier f = ap (afterQuery4 d earlier) (same-4 earlier (ask limit (inductionCloses p false d)) refl f)
 
-  passed-same : (p : Problem) (d : ℕ) → Passed limit p d → Passed larger p d
-  passed-same p d w = record { first = none-same _ (w .first); named = named-same p d (w .named); last = model-same _ (w .last) }
+    same-3 : (earlier : List Asked) (a : Answer) → ask limit (inductionCloses p true d) ≡ a → FinalSoFar (afterQuery3 limit p d earlier a)
+        → afterQuery3 larger p d earlier (ask larger (inductionCloses p true d)) ≡ afterQuery3 limit p d earlier a
+    unfolding afterQuery3
+    same-3 earlier (model values n) e f = ap (afterQuery3 larger p d earlier) (asked-same _ _ e tt) ∙ query-4-same (askedToo earlier d 3 n) f
+    same-3 earlier (noModel n) e f = ap (afterQuery3 larger p d earlier) (asked-same _ _ e tt)
+    same-3 earlier (gaveUp n) e f = absurd f
+    same-3 earlier (outOfFuel n) e f = absurd f
 
-  decided-same : (p : Problem) (d : ℕ) (v : Verdict) → Final v → Decides limit p d v → Decides larger p d v
-  decided-same p d v h (differs values n e) = differs values n (asked-same _ (model values n) e tt)
-  decided-same p d v h (closes-named f s x) = closes-named (none-same _ f) (none-same _ s) (none-same _ x)
-  decided-same p d v h (closes f s x) = closes (none-same _ f) (named-same p d s) (none-same _ x)
-  decided-same p d v h (stops s) = absurd h
+    same-2 : (earlier : List Asked) (a : Answer) → ask limit (basePreservesNamedState p d) ≡ a → FinalSoFar (afterQuery2 limit p d earlier a)
+        → afterQuery2 larger p d earlier (ask larger (basePreservesNamedState p d)) ≡ afterQuery2 limit p d earlier a
+    unfolding afterQuery2
+    same-2 earlier (model values n) e f = ap (afterQuery2 larger p d earlier) (asked-same _ _ e tt) ∙ query-4-same (askedToo earlier d 2 n) f
+    same-2 earlier (noModel n) e f = ap (afterQuery2 larger p d earlier) (asked-same _ _ e tt) ∙ same-3 (askedToo earlier d 2 n) (ask limit (inductionCloses p true d)) refl f
+    same-2 earlier (gaveUp n) e f = absurd f
+    same-2 earlier (outOfFuel n) e f = absurd f
 
-  course-same : (p : Problem) (D : ℕ) (v : Verdict) → Final v → Course limit p D v → Course larger p D v
-  course-same p D v h (decides d low high passed w) = decides d low high (λ e a b. passed-same p e (passed e a b)) (decided-same p d v h w)
-  course-same p D v h (passes f) = passes (λ e a b. passed-same p e (f e a b))
+    same-1 : (earlier : List Asked) (a : Answer) → ask limit (baseCounterexample p d) ≡ a → FinalSoFar (afterQuery1 limit p d earlier (baseCounterexample p d .comparisons) a)
+        → afterQuery1 larger p d earlier (baseCounterexample p d .comparisons) (ask larger (baseCounterexample p d)) ≡ afterQuery1 limit p d earlier (baseCounterexample p d .comparisons) a
+    unfolding afterQuery1
+    same-1 earlier (model values n) e f = ap (afterQuery1 larger p d earlier (baseCounterexample p d .comparisons)) (asked-same _ _ e tt)
+    same-1 earlier (noModel n) e f =
+        ap (afterQuery1 larger p d earlier (baseCounterexample p d .comparisons)) (asked-same _ _ e tt) ∙ same-2 (askedToo earlier d 1 n) (ask limit (basePreservesNamedState p d)) refl f
+    same-1 earlier (gaveUp n) e f = absurd f
+    same-1 earlier (outOfFuel n) e f = absurd f
+
+    depth-same : (earlier : List Asked) → FinalSoFar (atDepth limit p d earlier) → atDepth larger p d earlier ≡ atDepth limit p d earlier
+    unfolding atDepth query1
+    depth-same earlier f = same-1 earlier (ask limit (baseCounterexample p d)) refl f
+
+  final-so-far : (n d : ℕ) (r : Proving) → Final (depths limit p n d r .verdict) → FinalSoFar r
+  unfolding depths
+  final-so-far n d (undecided earlier) f = tt
+  final-so-far zero d (decided v earlier) f = f
+  final-so-far (suc n) d (decided v earlier) f = f
+
+  depths-same : (n d : ℕ) (r : Proving) → Final (depths limit p n d r .verdict) → depths larger p n d r ≡ depths limit p n d r
+  unfolding depths
+  depths-same zero d (undecided earlier) f = refl
+  depths-same zero d (decided v earlier) f = refl
+  depths-same (suc n) d (undecided earlier) f =
+      ap (depths larger p n (suc d)) (depth-same (suc d) earlier (final-so-far n (suc d) (atDepth limit p (suc d) earlier) f)) ∙ depths-same n (suc d) (atDepth limit p (suc d) earlier) f
+  depths-same (suc n) d (decided v earlier) f = refl
+
+  -- the whole outcome, where the verdict was not cut short
+  prove-same : (D : ℕ) → Final (proveSequentialEquivalence limit p D .verdict) → proveSequentialEquivalence larger p D ≡ proveSequentialEquivalence limit p D
+  unfolding proveSequentialEquivalence
+  prove-same D f = depths-same D 0 (undecided []) f
 
 -- a status other than GaveUp comes of a verdict that was not cut short
 final-says : (v : Verdict) (status : Status) (d : ℕ) → verdictSays v ≡ answered status d → status ≢ Answers.GaveUp → Final v
@@ -68,18 +103,13 @@ final-says (GaveUp e q) status d h n = n (let p : status ≡ Answers.GaveUp = cc
 final-says OutOfFuel status d h n = let z : _≡_ {A = ℕ} 0 1 = cc in omega arith
 
 module _ (o larger : Options) (le : LargerLimit o larger) where
-  final-same : (gold gate : Design) (s t : StoredBits) → Final (checkDesigns o gold gate s t .verdict) → checkDesigns larger gold gate s t .verdict ≡ checkDesigns o gold gate s t .verdict
-  unfolding checkDesigns
-  final-same gold gate s t h =
-      let p = problemOf gold gate s t in
-      let v = proveSequentialEquivalence (o .limit) p (o .depth) .verdict in
-      let c : Course (larger .limit) p (o .depth) v = course-same (o .limit) (larger .limit) (le .limit) p (o .depth) v h (verdict-course (o .limit) p (o .depth)) in
-      course-verdict (larger .limit) p (larger .depth) v (subst (λ (D : ℕ). Course (larger .limit) p D v) (le .depth) c)
-
-  -- a larger limit keeps the verdict on two designs, trace and all, where its status is not GaveUp
+  -- a larger limit keeps the whole outcome of two designs, verdict, trace and the queries asked, where its status is not GaveUp
   pub designs-larger : (gold gate : Design) (s t : StoredBits) (status : Status) (d : ℕ) → checkedDesigns o gold gate s t ≡ answered status d → status ≢ Answers.GaveUp
-      → checkDesigns larger gold gate s t .verdict ≡ checkDesigns o gold gate s t .verdict
-  designs-larger gold gate s t status d h n = final-same gold gate s t (final-says _ status d h n)
+      → checkDesigns larger gold gate s t ≡ checkDesigns o gold gate s t
+  unfolding checkDesigns
+  designs-larger gold gate s t status d h n =
+      let p = problemOf gold gate s t in
+      ap (proveSequentialEquivalence (larger .limit) p) (sym (le .depth)) ∙ prove-same (o .limit) (larger .limit) (le .limit) p (o .depth) (final-says _ status d h n)
 
   -- a refusal does not depend on the limit
   refusal-same : (a b : List ℕ) (lent : Lent) → checkRefusal a b o lent ≡ none → checkRefusal a b larger lent ≡ none
@@ -98,9 +128,9 @@ module _ (o larger : Options) (le : LargerLimit o larger) where
       let k : Accepted a b o lent = accepted-pair a b o lent free in
       let s = sym (checked-is a b o lent (k .gold) (k .gate) free (k .pair)) ∙ h in
       checked-is a b larger lent (k .gold) (k .gate) (refusal-same a b lent free) (k .pair)
-      ∙ ap verdictSays (designs-larger (k .gold) (k .gate) (initialBits (k .gold)) (initialBits (k .gate)) status d s n) ∙ s
+      ∙ ap (λ (x : Outcome). verdictSays (x .verdict)) (designs-larger (k .gold) (k .gate) (initialBits (k .gold)) (initialBits (k .gate)) status d s n) ∙ s
 
-  -- and the whole result of the check: mismatch, query and place too, and every lent element
+  -- and the whole result of the check: mismatch, query and place too, what was learned, and every lent element
   pub result-larger : (a b : List ℕ) (lent : Lent) (status : Status) (d : ℕ) → checked a b o lent ≡ answered status d → status ≢ Answers.GaveUp
       → (trace words : List ℕ) (scores : List Float) → checkResult (checkOutcome a b larger lent) trace words scores ≡ checkResult (checkOutcome a b o lent) trace words scores
   unfolding checkResult checkAnswer traceAfter clearedAfter

@@ -11,7 +11,7 @@ use lib.ListN.{length}
 use lib.Dec.{ltb}
 use lib.Ieee.{Float}
 use borrow.Author.Tests.{ltb-false}
-use Rattle.model.specs.Answers.{Status, statusNumber, acceptedAnswer}
+use Rattle.model.specs.Answers.{Status, statusNumber, Asked, acceptedAnswer}
 use Rattle.model.specs.Answers as Answers
 use Rattle.model.specs.Options.{toDepth}
 use Rattle.model.specs.Netlist.{Design, inputCount, outputCount}
@@ -19,7 +19,7 @@ use Rattle.model.specs.Run.{initialBits}
 use Rattle.model.specs.Pair.{Lent, traceLength, tooShort, checkRefusal}
 use Rattle.model.specs.Replay.{replay}
 use Rattle.model.specs.Induction.{answered}
-use Rattle.model.specs.Equivalence.{Verdict, Equivalent, NotEquivalent, Inconclusive, GaveUp, OutOfFuel}
+use Rattle.model.specs.Equivalence.{Verdict, Equivalent, NotEquivalent, Inconclusive, GaveUp, OutOfFuel, largestLearned}
 use Rattle.model.specs.Check.{checkDesigns, verdictAnswer, checkAnswer, overwrite, verdictTrace, traceAfter, CheckResult, checkResult, lentOf, check, checked}
 use Rattle.laws.specs.Terms.{Numbered, UnusedZero, Called, TraceLeft}
 use Rattle.facts.specs.Bools.{or-left}
@@ -57,13 +57,13 @@ trace-fits gold D lent m n h l e =
     omega (arith, k, e, mul-le-mul-right {m = suc m} {n = suc D} (inputCount gold) (omega (arith, l)))
 
 -- what the answer of a verdict does not use is 0
-verdict-unused : (v : Verdict) → UnusedZero (verdictAnswer v)
+verdict-unused : (v : Verdict) (most : Asked) → UnusedZero (verdictAnswer v most)
 unfolding verdictAnswer acceptedAnswer statusNumber
-verdict-unused (Equivalent d) = record { side = refl; place = refl; mismatch = λ h. refl; query = λ h. refl }
-verdict-unused (NotEquivalent d m bytes) = record { side = refl; place = refl; mismatch = λ h. absurd (h refl); query = λ h. refl }
-verdict-unused (Inconclusive d) = record { side = refl; place = refl; mismatch = λ h. refl; query = λ h. refl }
-verdict-unused (GaveUp d q) = record { side = refl; place = refl; mismatch = λ h. refl; query = λ h. absurd (h refl) }
-verdict-unused OutOfFuel = record { side = refl; place = refl; mismatch = λ h. refl; query = λ h. refl }
+verdict-unused (Equivalent d) most = record { side = refl; place = refl; mismatch = λ h. refl; query = λ h. refl }
+verdict-unused (NotEquivalent d m bytes) most = record { side = refl; place = refl; mismatch = λ h. absurd (h refl); query = λ h. refl }
+verdict-unused (Inconclusive d) most = record { side = refl; place = refl; mismatch = λ h. refl; query = λ h. refl }
+verdict-unused (GaveUp d q) most = record { side = refl; place = refl; mismatch = λ h. refl; query = λ h. absurd (h refl) }
+verdict-unused OutOfFuel most = record { side = refl; place = refl; mismatch = λ h. refl; query = λ h. refl }
 
 module _ (a b : List ℕ) (D : ℕ) (trace words : List ℕ) (scores : List Float) (free : checkRefusal a b (toDepth D) (lentOf trace words scores) ≡ none) where
   -- an accepted call's numbers
@@ -96,14 +96,18 @@ module _ (a b : List ℕ) (D : ℕ) (trace words : List ℕ) (scores : List Floa
     abbrev verdict : Verdict
     verdict = checkDesigns (toDepth D) (k .gold) (k .gate) (initialBits (k .gold)) (initialBits (k .gate)) .verdict
 
+    -- the query of theirs that learned most
+    abbrev most : Asked
+    most = largestLearned (checkDesigns (toDepth D) (k .gold) (k .gate) (initialBits (k .gold)) (initialBits (k .gate)) .asked)
+
     -- answer and trace, by the verdict
-    by-verdict : (v : Verdict) → verdict ≡ v → (check a b D trace words scores .answer ≡ verdictAnswer v) × (check a b D trace words scores .trace ≡ verdictTrace v trace)
+    by-verdict : (v : Verdict) → verdict ≡ v → (check a b D trace words scores .answer ≡ verdictAnswer v most) × (check a b D trace words scores .trace ≡ verdictTrace v trace)
     unfolding checkResult checkAnswer traceAfter
     by-verdict v e =
         let c = call-is a b D trace words scores (k .gold) (k .gate) free (k .pair) in
-        (ap (λ (r : CheckResult). r .answer) c ∙ ap verdictAnswer e, ap (λ (r : CheckResult). r .trace) c ∙ ap (λ (x : Verdict). verdictTrace x trace) e)
+        (ap (λ (r : CheckResult). r .answer) c ∙ ap (λ (x : Verdict). verdictAnswer x most) e, ap (λ (r : CheckResult). r .trace) c ∙ ap (λ (x : Verdict). verdictTrace x trace) e)
 
-    not-one : (n : ℕ) (v : Verdict) → verdictAnswer v .status ≡ n → n ≢ 1 → check a b D trace words scores .answer ≡ verdictAnswer v → check a b D trace words scores .answer .status ≡ 1 → ⊥
+    not-one : (n : ℕ) (v : Verdict) → verdictAnswer v most .status ≡ n → n ≢ 1 → check a b D trace words scores .answer ≡ verdictAnswer v most → check a b D trace words scores .answer .status ≡ 1 → ⊥
     not-one n v e h p q = h (sym e ∙ sym (ap (λ x. x .status) p) ∙ q)
 
     left : (v : Verdict) → verdict ≡ v → check a b D trace words scores .answer .status ≡ 1 → TraceLeft a b D trace words scores
@@ -138,7 +142,7 @@ module _ (a b : List ℕ) (D : ℕ) (trace words : List ℕ) (scores : List Floa
   pub unused-zero : UnusedZero (check a b D trace words scores .answer)
   unused-zero =
       let k : Accepted a b (toDepth D) (lentOf trace words scores) = accepted-pair a b (toDepth D) (lentOf trace words scores) free in
-      rw (by-verdict k (verdict k) refl .0) (verdict-unused (verdict k))
+      rw (by-verdict k (verdict k) refl .0) (verdict-unused (verdict k) (most k))
 
   -- after status 1 the trace buffer begins with bytes that replay answers with yes at a mismatch within the depth, and the others stay
   pub trace-left : check a b D trace words scores .answer .status ≡ 1 → TraceLeft a b D trace words scores

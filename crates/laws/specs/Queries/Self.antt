@@ -6,6 +6,7 @@ use mathlib.Core.Bool.{Bool, true, false}
 use mathlib.Core.List.{List, [], _∷_, _++_, append-assoc, append-nil}
 use mathlib.Core.Option.{Option, some}
 use lib.ListN.{length}
+use Rattle.model.specs.Answers.{Asked}
 use Rattle.model.specs.Literal.{Literal, FALSE}
 use Rattle.model.specs.Lists.{snoc, zip}
 use Rattle.model.specs.Aig.{Aig, Built, new}
@@ -15,7 +16,7 @@ use Rattle.model.specs.Names.{Name}
 use Rattle.model.specs.Netlist.{Register, Design}
 use Rattle.model.specs.Run.{StoredBits, byName}
 use Rattle.model.specs.Transition.{StateBit, TransitionSystem, Lowering, Registers, withState, lowerRegister, lowerRegisters, systemOf, withRegisters, fromNetlist}
-use Rattle.model.specs.Equivalence.{Problem, Frame, LiteralList, newVariables, stateLiteral, consPair, namedPairs, orMismatch, compareNamedState, compareOutputs, Cycle, importFrames, cycleOf, comparedCycle, Base, baseStart, baseQuery, counterexampleNext, counterexampleCompared, counterexampleCycle, counterexampleCycles, baseCounterexample, namedStateNext, namedStateCompared, namedStateCycle, namedStateCycles, basePreservesNamedState, Induction, gateVariable, matched, gateVariables, freeProductState, cycleMismatch, assumed, inductionNext, inductionCompared, inductionCycle, inductionCycles, inductionQuery, inductionCloses, ask, Verdict, Equivalent, Asked, decided, askedToo, afterQuery3, afterQuery2, afterQuery1, query1, atDepth, depths, proveSequentialEquivalence}
+use Rattle.model.specs.Equivalence.{Problem, Frame, LiteralList, newVariables, stateLiteral, consPair, namedPairs, orMismatch, compareNamedState, compareOutputs, Cycle, importFrames, cycleOf, comparedCycle, Base, baseStart, baseQuery, counterexampleNext, counterexampleCompared, counterexampleCycle, counterexampleCycles, baseCounterexample, namedStateNext, namedStateCompared, namedStateCycle, namedStateCycles, basePreservesNamedState, Induction, gateVariable, matched, gateVariables, freeProductState, cycleMismatch, assumed, inductionNext, inductionCompared, inductionCycle, inductionCycles, inductionQuery, inductionCloses, ask, Verdict, Equivalent, decided, askedToo, afterQuery3, afterQuery2, afterQuery1, query1, atDepth, depths, proveSequentialEquivalence}
 use Rattle.laws.specs.Queries.Bits.{literals-length}
 use Rattle.laws.specs.Graph.Import.{frame-again, or-false, Alike, compare-alike}
 use Rattle.laws.specs.Search.Adding.{solve-false}

@@ -8,25 +8,28 @@ returns : tie.Need-returns
 returns c =
     let z = c .before .before .before .before in
     let e = z .before .before .before in
-    let q = e .before .before .before .before .before .before in
+    let k = e .before .before in
+    let q = k .before .before .before .before .before in
     let a = q .before .before .before .before .before in
-    differ-2 (a .args .problem) (a .args .limit) (a .args .depth) _ _ (a .pre) _ _ _ (q .named-state-differs .ensures) _ (e .enum-told .given .1) _ _ (z .query-4 .ensures)
+    differ-2 (a .args .problem) (a .args .limit) (a .args .depth) _ _ (a .pre) _ _ _ (q .named-state-differs .ensures) _ _ (k .counted .ensures) _ (e .enum-told .given .1) _ _ (z .query-4 .ensures)
 
 returns-2 : tie.Need-returns-2
 returns-2 c =
     let z = c .before .before .before .before in
     let e = z .before .before .before in
-    let q = e .before .before .before .before .before .before in
+    let k = e .before .before in
+    let q = k .before .before .before .before .before in
     let a = q .before .before .before .before .before in
-    alike-2 (a .args .problem) (a .args .limit) (a .args .depth) _ _ (a .pre) _ _ _ (q .named-state-differs .ensures) _ (e .enum-told2 .given .1) _ _ (z .query-3 .ensures)
+    alike-2 (a .args .problem) (a .args .limit) (a .args .depth) _ _ (a .pre) _ _ _ (q .named-state-differs .ensures) _ _ (k .counted .ensures) _ (e .enum-told2 .given .1) _ _ (z .query-3 .ensures)
 
 returns-3 : tie.Need-returns-3
 returns-3 c =
-    let q = c .before .before .before .before .before .before in
+    let k = c .before .before in
+    let q = k .before .before .before .before .before in
     let a = q .before .before .before .before .before in
-    gave-up-2 (a .args .problem) (a .args .limit) (a .args .depth) _ _ (a .pre) _ _ _ (q .named-state-differs .ensures) _ (c .enum-told3 .given .1)
+    gave-up-2 (a .args .problem) (a .args .limit) (a .args .depth) _ _ (a .pre) _ _ _ (q .named-state-differs .ensures) _ _ (k .counted .ensures) _ (c .enum-told3 .given .1)
 
 pub query-2-spec : {M : Type 1} → statement M
 query-2-spec =
     tie.close
-    (tie.spec (λ c κs. search needs) (λ c. search needs) (λ c κs. search needs) (λ c. search needs) (λ c κs. search needs) (λ c. search needs) (λ c. search needs) (λ c. search needs) (λ c. search needs) returns (λ c. search needs) (λ c. search needs) returns-2 (λ c. search needs) (λ c. search needs) returns-3)
+    (tie.spec (λ c κs. search needs) (λ c. search needs) (λ c κs. search needs) (λ c. search needs) (λ c κs. search needs) (λ c. search needs) (λ c κs. search needs) (λ c. search needs) (λ c. search needs) (λ c. search needs) returns (λ c. search needs) (λ c. search needs) returns-2 (λ c. search needs) (λ c. search needs) returns-3)

@@ -8,23 +8,26 @@ returns : tie.Need-returns
 returns c =
     let z = c .before .before .before .before in
     let e = z .before .before .before in
-    let q = e .before .before .before .before .before .before in
+    let k = e .before .before in
+    let q = k .before .before .before .before .before in
     let a = q .before .before .before .before .before in
-    open-3 (a .args .problem) (a .args .limit) (a .args .depth) _ _ (a .pre) _ _ _ (q .induction-fails .ensures) _ (e .enum-told .given .1) _ _ (z .query-4 .ensures)
+    open-3 (a .args .problem) (a .args .limit) (a .args .depth) _ _ (a .pre) _ _ _ (q .induction-fails .ensures) _ _ (k .counted .ensures) _ (e .enum-told .given .1) _ _ (z .query-4 .ensures)
 
 returns-2 : tie.Need-returns-2
 returns-2 c =
-    let q = c .before .before .before .before .before .before in
+    let k = c .before .before in
+    let q = k .before .before .before .before .before in
     let a = q .before .before .before .before .before in
-    closed-3 (a .args .problem) (a .args .limit) (a .args .depth) _ _ (a .pre) _ _ _ (q .induction-fails .ensures) _ (c .enum-told2 .given .1)
+    closed-3 (a .args .problem) (a .args .limit) (a .args .depth) _ _ (a .pre) _ _ _ (q .induction-fails .ensures) _ _ (k .counted .ensures) _ (c .enum-told2 .given .1)
 
 returns-3 : tie.Need-returns-3
 returns-3 c =
-    let q = c .before .before .before .before .before .before in
+    let k = c .before .before in
+    let q = k .before .before .before .before .before in
     let a = q .before .before .before .before .before in
-    gave-up-3 (a .args .problem) (a .args .limit) (a .args .depth) _ _ (a .pre) _ _ _ (q .induction-fails .ensures) _ (c .enum-told3 .given .1)
+    gave-up-3 (a .args .problem) (a .args .limit) (a .args .depth) _ _ (a .pre) _ _ _ (q .induction-fails .ensures) _ _ (k .counted .ensures) _ (c .enum-told3 .given .1)
 
 pub query-3-spec : {M : Type 1} → statement M
 query-3-spec =
     tie.close
-    (tie.spec (λ c κs. search needs) (λ c. search needs) (λ c κs. search needs) (λ c. search needs) (λ c. search needs) (λ c. search needs) (λ c. search needs) (λ c. search needs) (λ c. search needs) returns (λ c. search needs) (λ c. search needs) returns-2 (λ c. search needs) (λ c. search needs) returns-3)
+    (tie.spec (λ c κs. search needs) (λ c. search needs) (λ c κs. search needs) (λ c. search needs) (λ c κs. search needs) (λ c. search needs) (λ c. search needs) (λ c. search needs) (λ c. search needs) returns (λ c. search needs) (λ c. search needs) returns-2 (λ c. search needs) (λ c. search needs) returns-3)

@@ -44,14 +44,14 @@ returns-2 c =
     let q = c .before .before .before .before .before .before in
     let b = q .before .before .before .before .before .before .before .before in
     let a = b .before .before .before .before .before .before .before .before .before in
-    found-none (a .args .problem) (a .args .limit) (a .args .depth) _ _ _ (a .pre .0) _ _ _ (b .base-counterexample .ensures) _ _ _ (q .ask .ensures) _ (c .enum-told2 .given .1)
+    found-none (a .args .problem) (a .args .limit) (a .args .depth) _ _ _ (a .pre .0) _ _ _ (b .base-counterexample .ensures) _ _ _ (q .ask .ensures) _ (c .enum-told2 .given .1) _
 
 returns-3 : tie.Need-returns-3
 returns-3 c =
     let q = c .before .before .before .before .before .before in
     let b = q .before .before .before .before .before .before .before .before in
     let a = b .before .before .before .before .before .before .before .before .before in
-    found-gave-up (a .args .problem) (a .args .limit) (a .args .depth) _ _ _ (a .pre .0) _ _ _ (b .base-counterexample .ensures) _ _ _ (q .ask .ensures) _ (c .enum-told3 .given .1)
+    found-gave-up (a .args .problem) (a .args .limit) (a .args .depth) _ _ _ (a .pre .0) _ _ _ (b .base-counterexample .ensures) _ _ _ (q .ask .ensures) _ (c .enum-told3 .given .1) _
 
 pub find-counterexample-spec : {M : Type 1} → statement M
 find-counterexample-spec =
