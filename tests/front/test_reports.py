@@ -98,7 +98,8 @@ class Sheet(Case):
             self.assertIn("asked depth 4", row)
             self.assertIn(f"gold SHA-256 {digest(WIRE)}", row)
             self.assertIn(f"struo {VERSION}", row)
-            self.assertRegex(row[-1], r"^library SHA-256 [0-9a-f]{64}$")
+            self.assertRegex(row[-2], r"^library SHA-256 [0-9a-f]{64}$")
+            self.assertTrue(row[-1].startswith("learned nothing"))
         self.assertIn("in cycle 0 output y differs", columns[1][2])
         self.assertIn("1 Length", columns[2][2])
 
