@@ -20,7 +20,7 @@ enum struo_status {
     STRUO_GAVE_UP = 3
 };
 
-/* The numbers of the refusals, in checking order; 0 is an accepted call. */
+/* The numbers of the refusals; 0 is an accepted call. In which order a call tests them stands with the call. */
 enum struo_refusal {
     STRUO_ACCEPTED = 0,
     STRUO_REFUSAL_LENGTH = 1,
@@ -47,7 +47,8 @@ enum struo_refusal {
     STRUO_REFUSAL_UNKNOWN_INITIAL_STATE = 22,
     STRUO_REFUSAL_TOO_LARGE = 23,
     STRUO_REFUSAL_MEMORY = 24,
-    STRUO_REFUSAL_CLAIM = 25
+    STRUO_REFUSAL_CLAIM = 25,
+    STRUO_REFUSAL_LEARNED_LIMIT = 36
 };
 
 /* The two sides of a pair. */
@@ -65,7 +66,7 @@ enum struo_refusal {
 /* The largest depth of a check and the last cycle that a claim can name. */
 #define STRUO_DEPTH_LIMIT 64
 
-/* The most literals that the clauses learned by one query have together: a query whose next clause would pass this gives up. */
+/* The largest limit that a check can be given: the most literals that the clauses learned by one query may have together. */
 #define STRUO_LEARNED_LIMIT 262144
 
 /* How long a trace is: for cycles 0 to `cycle`, of a design with so many inputs and outputs. A check to depth D needs STRUO_TRACE_LENGTH(D, I, O) bytes
@@ -130,14 +131,18 @@ struct struo_replay_answer struo_step(const uint8_t *gold, size_t gold_length, c
                                       uint64_t cycle, const uint8_t *claim, size_t claim_length,
                                       struct struo_position *position, uint8_t *bits, size_t bits_length);
 
-/* What a check answers. number, side and place: 0, or a refusal of 1 to 24; side: 0 gold, 1 gate, and 0 where neither record alone is at fault;
+/* What a check answers. number, side and place: 0, or a refusal of 1 to 24 or 36; side: 0 gold, 1 gate, and 0 where neither record alone is at fault;
    place as above. The other numbers are 0 where the check is refused.
    status: an enum struo_status. depth: the depth at which the verdict fell; for STRUO_INCONCLUSIVE the depth asked for; for STRUO_GAVE_UP the depth of the
    query that gave up. mismatch: for STRUO_NOT_EQUIVALENT the first cycle in which outputs differ, else 0. query: for STRUO_GAVE_UP the number of the query
    that gave up, 1 to 4, else 0.
-   learned: the largest total of learned literals over the queries asked, at most STRUO_LEARNED_LIMIT, which says how near the check came to giving up; a query
-   that gave up counts with its total before the clause that would have passed the limit. learned_depth and learned_query: depth and number of the first query
-   asked that has this total; 1 and 1 where nothing was learned. */
+   learned: the largest total of learned literals over the queries asked, at most the limit, which says how near the check came to giving up; a query that gave
+   up counts with its total before the clause that would have passed the limit. learned_depth and learned_query: depth and number of the first query asked
+   that has this total; 1 and 1 where nothing was learned.
+   equal and through: for STRUO_GAVE_UP, how far the outputs are proved equal. Where equal is true, no input sequence makes outputs differ in a cycle from 0 to
+   through, so that the first mismatch, if there is one, lies beyond it: through is `depth` where query 2, 3 or 4 gave up, and `depth` - 1 where query 1 did.
+   Where equal is false, no query was answered (query 1 of depth 1 gave up), nothing is proved of any cycle, cycle 0 included, and through is 0. For the other
+   statuses equal is false and through 0. */
 struct struo_check_answer {
     uint32_t number;
     uint32_t side;
@@ -149,16 +154,20 @@ struct struo_check_answer {
     uint32_t learned;
     uint32_t learned_depth;
     uint32_t learned_query;
+    bool equal;
+    uint32_t through;
 };
 
-/* Checks whether two designs can ever differ, by k-induction for depths 1 to `depth`.
+/* Checks whether two designs can ever differ, by k-induction for depths 1 to `depth`, in which each query may learn clauses of `limit` literals together, 0 to
+   STRUO_LEARNED_LIMIT.
 
    Equivalent: the outputs, compared by name, agree in every cycle of every input sequence. NotEquivalent: they differ in some cycle that is at
    most `depth`, and the trace shows how. Inconclusive: neither was found up to `depth`. GaveUp: a query's next learned clause would bring its
-   learned literals above STRUO_LEARNED_LIMIT. Neither of the last two is a pass.
+   learned literals above `limit`. Neither of the last two is a pass. With a larger limit, all else alike, a status other than GaveUp stays, with every number
+   and every byte of the trace; and where both give up, the cycle that through tells is never lower, none being the lowest.
 
    Refusals in checking order. Gold's record is read wholly (1 to 15, as struo_read), then gate's, with side 1; then:
-     16 depth is 0; 17 depth is over 64; 18 the sets of input names differ; 19 the sets of output names differ;
+     16 depth is 0; 17 depth is over 64; 36 limit is over STRUO_LEARNED_LIMIT; 18 the sets of input names differ; 19 the sets of output names differ;
      20 the registers of one side, gold first, have two clock names or edges (side: that side); 21 clock name or edge differ between the sides, or
      only one side has registers; 22 a register has no reset, gold by name, then gate (side: that side; place: the register's number);
      23 (depth + 1) * F + R is over 65,535, where F = I + 3 * N + 10 * R + 4 * O + 1, I and O count one side's inputs and outputs, N and R the nodes
@@ -171,7 +180,7 @@ struct struo_check_answer {
    trace begins with a byte, 0 or 1, for each input in byte order of names, for each cycle from 0 to the mismatch, then a byte for each output in byte
    order of names, 1 where it differs in that cycle; these STRUO_TRACE_LENGTH(mismatch, I, O) bytes are a claim to which struo_replay answers yes. All other
    bytes of the trace stay, and all of them for the other statuses. The three buffers must not overlap each other or the records, as Rust's &mut says. */
-struct struo_check_answer struo_check(const uint8_t *gold, size_t gold_length, const uint8_t *gate, size_t gate_length, uint64_t depth,
+struct struo_check_answer struo_check(const uint8_t *gold, size_t gold_length, const uint8_t *gate, size_t gate_length, uint64_t depth, uint64_t limit,
                                       uint8_t *trace, size_t trace_length, uint32_t *words, size_t words_length,
                                       double *scores, size_t scores_length);
 

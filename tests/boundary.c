@@ -86,14 +86,20 @@ static void hold(void) {
     for (size_t i = 0; i < sizeof trace; i++) trace[i] = 7;
 }
 
-/* The layout of a check's answer: ten numbers without a gap, those of what was learned last. */
-_Static_assert(sizeof(struct struo_check_answer) == 40 && offsetof(struct struo_check_answer, query) == 24 && offsetof(struct struo_check_answer, learned) == 28
-                   && offsetof(struct struo_check_answer, learned_depth) == 32 && offsetof(struct struo_check_answer, learned_query) == 36,
+/* The layout of a check's answer: ten numbers without a gap, then what is proved, a byte and a number. */
+_Static_assert(sizeof(struct struo_check_answer) == 48 && offsetof(struct struo_check_answer, query) == 24 && offsetof(struct struo_check_answer, learned) == 28
+                   && offsetof(struct struo_check_answer, learned_depth) == 32 && offsetof(struct struo_check_answer, learned_query) == 36
+                   && offsetof(struct struo_check_answer, equal) == 40 && offsetof(struct struo_check_answer, through) == 44,
                "struct struo_check_answer is laid out as the specification says");
 
 /* The answer of an accepted check: status and depth, the most that a query learned, and this query's depth and number. */
 static struct struo_check_answer accepted(uint32_t status, uint32_t depth, uint32_t learned, uint32_t learned_depth, uint32_t learned_query) {
     return (struct struo_check_answer){.status = status, .depth = depth, .learned = learned, .learned_depth = learned_depth, .learned_query = learned_query};
+}
+
+/* Whether two answers have the same numbers; the bytes between equal and through have no value. */
+static bool alike(struct struo_check_answer one, struct struo_check_answer other) {
+    return memcmp(&one, &other, offsetof(struct struo_check_answer, equal)) == 0 && one.equal == other.equal && one.through == other.through;
 }
 
 /* Whether all words and scores are this number, and the trace begins with so many written bytes, 0 and 1 by turns. */
@@ -104,16 +110,22 @@ static bool holds(uint32_t number, size_t written) {
     return true;
 }
 
-/* One check of a pair, with so many words lent. */
-static void checks_pair(const char *what, const uint8_t *gold, size_t gold_length, const uint8_t *gate, size_t gate_length, uint64_t depth, size_t words_length,
-                        struct struo_check_answer expected, size_t written) {
+/* One check of a pair under a limit, with so many words lent. */
+static void checks_under(const char *what, const uint8_t *gold, size_t gold_length, const uint8_t *gate, size_t gate_length, uint64_t depth, uint64_t limit,
+                         size_t words_length, struct struo_check_answer expected, size_t written) {
     hold();
-    struct struo_check_answer answer = struo_check(gold, gold_length, gate, gate_length, depth, trace, sizeof trace, words, words_length, scores, STRUO_SCORES_LENGTH);
-    if (memcmp(&answer, &expected, sizeof answer) || !holds(answer.number == 0 ? 0 : 7, written)) {
-        printf("boundary: %s: %u %u %u %u %u %u %u %u %u %u, or a byte lent, is not as expected\n", what, answer.number, answer.side, answer.place, answer.status,
-               answer.depth, answer.mismatch, answer.query, answer.learned, answer.learned_depth, answer.learned_query);
+    struct struo_check_answer answer = struo_check(gold, gold_length, gate, gate_length, depth, limit, trace, sizeof trace, words, words_length, scores, STRUO_SCORES_LENGTH);
+    if (!alike(answer, expected) || !holds(answer.number == 0 ? 0 : 7, written)) {
+        printf("boundary: %s: %u %u %u %u %u %u %u %u %u %u %d %u, or a byte lent, is not as expected\n", what, answer.number, answer.side, answer.place,
+               answer.status, answer.depth, answer.mismatch, answer.query, answer.learned, answer.learned_depth, answer.learned_query, answer.equal, answer.through);
         failed = 1;
     }
+}
+
+/* One check of a pair under the largest limit. */
+static void checks_pair(const char *what, const uint8_t *gold, size_t gold_length, const uint8_t *gate, size_t gate_length, uint64_t depth, size_t words_length,
+                        struct struo_check_answer expected, size_t written) {
+    checks_under(what, gold, gold_length, gate, gate_length, depth, STRUO_LEARNED_LIMIT, words_length, expected, written);
 }
 
 /* One check of the wire against a record, with so many words lent. */
@@ -135,13 +147,65 @@ static const uint8_t exclusive_or[27] = {0x01, 0x00, 0x00, 0x00, 0x1b, 0x01, 0x7
 static const uint8_t by_gates[40] = {0x01, 0x00, 0x00, 0x00, 0x28, 0x01, 0x79, 0x00, 0x07, 0x00, 0x01, 0x61, 0x00, 0x01, 0x62, 0x21, 0x00, 0x00, 0x00, 0x01,
                                      0x20, 0x00, 0x00, 0x00, 0x01, 0x10, 0x00, 0x03, 0x20, 0x00, 0x02, 0x00, 0x04, 0x11, 0x01, 0x79, 0x00, 0x05, 0x00, 0x00};
 
-/* Checks in which queries learn something: the toggle against itself with its register named p, and the two forms of Xor. */
-static void learns(void) {
+/* y = q Xor f, where q is the second of two registers in a row after e, as one node, and by Or, And and Not over registers of other names: in cycles 0 and 1
+   both are f. */
+static const uint8_t late[69] = {0x01, 0x00, 0x00, 0x00, 0x45, 0x01, 0x6c, 0x00, 0x08, 0x00, 0x03, 0x63, 0x6c, 0x6b, 0x00, 0x03, 0x72, 0x73, 0x74, 0x00, 0x01,
+                                 0x65, 0x00, 0x01, 0x66, 0x02, 0x02, 0x22, 0x00, 0x05, 0x00, 0x03, 0x11, 0x01, 0x79, 0x00, 0x06, 0x00, 0x02, 0x01, 0x70, 0x00,
+                                 0x04, 0x00, 0x02, 0x00, 0x00, 0x00, 0x00, 0x01, 0x00, 0x01, 0x00, 0x00, 0x01, 0x71, 0x00, 0x05, 0x00, 0x04, 0x00, 0x00, 0x00,
+                                 0x00, 0x01, 0x00, 0x01, 0x00, 0x00};
+static const uint8_t late_by_gates[82] = {0x01, 0x00, 0x00, 0x00, 0x52, 0x01, 0x6c, 0x00, 0x0b, 0x00, 0x03, 0x63, 0x6c, 0x6b, 0x00, 0x03, 0x72, 0x73, 0x74,
+                                          0x00, 0x01, 0x65, 0x00, 0x01, 0x66, 0x02, 0x02, 0x21, 0x00, 0x05, 0x00, 0x03, 0x20, 0x00, 0x05, 0x00, 0x03, 0x10,
+                                          0x00, 0x07, 0x20, 0x00, 0x06, 0x00, 0x08, 0x11, 0x01, 0x79, 0x00, 0x09, 0x00, 0x02, 0x01, 0x72, 0x00, 0x04, 0x00,
+                                          0x02, 0x00, 0x00, 0x00, 0x00, 0x01, 0x00, 0x01, 0x00, 0x00, 0x01, 0x73, 0x00, 0x05, 0x00, 0x04, 0x00, 0x00, 0x00,
+                                          0x00, 0x01, 0x00, 0x01, 0x00, 0x00};
+
+/* The answer of a check that gave up in a query of depth 1: with what the queries learned, and through which cycle the outputs are proved equal, if through any. */
+static struct struo_check_answer gave_up(uint32_t query, uint32_t learned, bool equal, uint32_t through) {
+    return (struct struo_check_answer){
+        .status = STRUO_GAVE_UP, .depth = 1, .query = query, .learned = learned, .learned_depth = 1, .learned_query = 1, .equal = equal, .through = through};
+}
+
+/* A check to a depth under a limit of the toggle against itself with its register named p: query 3 of depth 1 learns one literal. */
+static void toggles(const char *what, uint64_t depth, uint64_t limit, struct struo_check_answer expected) {
     uint8_t renamed[sizeof toggle];
     memcpy(renamed, toggle, sizeof toggle);
     renamed[31] = 0x70;
-    checks_pair("toggle q against toggle p", toggle, sizeof toggle, renamed, sizeof renamed, 1, STRUO_WORDS_LENGTH, accepted(STRUO_EQUIVALENT, 1, 1, 1, 3), 0);
-    checks_pair("Xor against Or and And", exclusive_or, sizeof exclusive_or, by_gates, sizeof by_gates, 1, STRUO_WORDS_LENGTH, accepted(STRUO_EQUIVALENT, 1, 16, 1, 1), 0);
+    checks_under(what, toggle, sizeof toggle, renamed, sizeof renamed, depth, limit, STRUO_WORDS_LENGTH, expected, 0);
+}
+
+/* A check under a limit of the two forms of Xor: query 1 of depth 1 learns 16 literals. */
+static void both_xors(const char *what, uint64_t limit, struct struo_check_answer expected) {
+    checks_under(what, exclusive_or, sizeof exclusive_or, by_gates, sizeof by_gates, 1, limit, STRUO_WORDS_LENGTH, expected, 0);
+}
+
+/* Checks in which queries learn something, under limits that they pass and keep to. */
+static void learns(void) {
+    toggles("toggle q against toggle p", 1, STRUO_LEARNED_LIMIT, accepted(STRUO_EQUIVALENT, 1, 1, 1, 3));
+    toggles("toggles just at the limit", 1, 1, accepted(STRUO_EQUIVALENT, 1, 1, 1, 3));
+    toggles("toggles under the limit 0", 1, 0, gave_up(3, 0, true, 1));
+    both_xors("Xor against Or and And", STRUO_LEARNED_LIMIT, accepted(STRUO_EQUIVALENT, 1, 16, 1, 1));
+    both_xors("Xor just at the limit", 16, accepted(STRUO_EQUIVALENT, 1, 16, 1, 1));
+    both_xors("Xor under the limit 12", 12, gave_up(1, 11, false, 0));
+    both_xors("Xor under the limit 5", 5, gave_up(1, 4, false, 0));
+    both_xors("Xor under the limit 0", 0, gave_up(1, 0, false, 0));
+    checks_under("a late Xor under the limit 3", late, sizeof late, late_by_gates, sizeof late_by_gates, 8, 3, STRUO_WORDS_LENGTH,
+                 (struct struo_check_answer){.status = STRUO_GAVE_UP, .depth = 2, .query = 1, .learned = 3, .learned_depth = 2, .learned_query = 1, .equal = true, .through = 1}, 0);
+    checks_under("a late Xor just at the limit", late, sizeof late, late_by_gates, sizeof late_by_gates, 8, 5, STRUO_WORDS_LENGTH, accepted(STRUO_EQUIVALENT, 2, 5, 2, 1), 0);
+    checks_under("a row under the limit 0", row, sizeof row, holding, sizeof holding, 1, 0, STRUO_WORDS_LENGTH, accepted(STRUO_INCONCLUSIVE, 1, 0, 1, 1), 0);
+}
+
+/* Limits above the largest: refused after 17 and before 18 and 24, with nothing written. */
+static void limits(void) {
+    const struct struo_check_answer above = {.number = STRUO_REFUSAL_LEARNED_LIMIT};
+    toggles("the limit 262,145", 1, STRUO_LEARNED_LIMIT + 1, above);
+    toggles("the limit 2^32 + 5", 1, 4294967301, above);
+    toggles("the limit 2^64 - 1", 64, UINT64_MAX, above);
+    toggles("depth 0 with such a limit", 0, STRUO_LEARNED_LIMIT + 1, (struct struo_check_answer){.number = STRUO_REFUSAL_ZERO_DEPTH});
+    toggles("depth 65 with such a limit", 65, STRUO_LEARNED_LIMIT + 1, (struct struo_check_answer){.number = STRUO_REFUSAL_DEPTH_LIMIT});
+    checks_under("other inputs with such a limit", toggle, sizeof toggle, wire, sizeof wire, 1, STRUO_LEARNED_LIMIT + 1, 0, above, 0);
+    checks_under("other inputs", toggle, sizeof toggle, wire, sizeof wire, 1, STRUO_LEARNED_LIMIT, 0, (struct struo_check_answer){.number = STRUO_REFUSAL_INPUT_INTERFACE}, 0);
+    checks_under("a cut gate with such a limit", wire, sizeof wire, inverter, 5, 1, STRUO_LEARNED_LIMIT + 1, 0,
+                 (struct struo_check_answer){.number = STRUO_REFUSAL_LENGTH, .side = STRUO_GATE}, 0);
 }
 
 /* A claim as long as one of cycle 1, of another cycle: taken for cycle 1 it would be answered with no. */
@@ -210,7 +274,7 @@ static void on_stack(const char *what, void *(*call)(void *), size_t stated) {
     }
 }
 
-/* Checks with each status but GaveUp, which learn nothing or something, and refused ones. */
+/* Checks with each status, which learn nothing or something, and refused ones. */
 static void every_check(void) {
     checks("wire against inverter", inverter, sizeof inverter, 1, STRUO_WORDS_LENGTH, accepted(STRUO_NOT_EQUIVALENT, 1, 0, 1, 1), STRUO_TRACE_LENGTH(0, 1, 1));
     checks("wire against itself", wire, sizeof wire, 64, STRUO_WORDS_LENGTH, accepted(STRUO_EQUIVALENT, 1, 0, 1, 1), 0);
@@ -219,6 +283,7 @@ static void every_check(void) {
     checks("depth 2^32 + 1", wire, sizeof wire, 4294967297, STRUO_WORDS_LENGTH, (struct struo_check_answer){.number = STRUO_REFUSAL_DEPTH_LIMIT}, 0);
     checks_pair("a row to depth 1", row, sizeof row, holding, sizeof holding, 1, STRUO_WORDS_LENGTH, accepted(STRUO_INCONCLUSIVE, 1, 0, 1, 1), 0);
     learns();
+    limits();
     checks("a cut gate", inverter, 5, 1, STRUO_WORDS_LENGTH, (struct struo_check_answer){.number = STRUO_REFUSAL_LENGTH, .side = STRUO_GATE}, 0);
     checks("a word short", inverter, sizeof inverter, 1, STRUO_WORDS_LENGTH - 1, (struct struo_check_answer){.number = STRUO_REFUSAL_MEMORY}, 0);
 }

@@ -1,5 +1,5 @@
-/* Runs every line of the recorded list through the C boundary: answers and every lent byte, and that each status, each query's give-up and each refusal
-   was met, on each side that it can have. `recorded FILE`; the form of a line is that of oracle/README.md. */
+/* Runs every line of the recorded list through the C boundary: answers and every lent byte, and that each status, each query's give-up at depth 1 and deeper and
+   each refusal was met, on each side that it can have. `recorded FILE`; the form of a line is that of oracle/README.md. */
 #include <stdio.h>
 #include <stdlib.h>
 #include <string.h>
@@ -10,10 +10,11 @@
 #define HELD 0xa5
 #define SPARE 8192
 
-/* How often each refusal was met by call and side, each status, each query that gave up or learned most, and each answer of a replay. */
-enum { READ, CHECK, REPLAY };
+/* How often each refusal was met by call and side, each status, each query that gave up, at depth 1 and deeper, or learned most, give-ups that proved no cycle
+   or one, and each answer of a replay. */
+enum { READ, CHECK, REPLAY, REFUSALS = 37 };
 static const char *const calls[3] = {"read", "check", "replay"};
-static unsigned met[3][26][2], statuses[4], gave_up[5], learned_most[5], answers[2];
+static unsigned met[3][REFUSALS][2], statuses[4], gave_up[5][2], learned_most[5], proved[2], answers[2];
 
 /* The line in hand, how many calls were made, and how many of them differ. */
 static unsigned lines, made, differ;
@@ -74,7 +75,7 @@ static void equals(void) {
 /* Counts a call by its refusal, and compares it. */
 static void count(int call, uint32_t refusal, uint32_t side, bool same) {
     made++;
-    if (refusal < 26 && side < 2) met[call][refusal][side]++;
+    if (refusal < REFUSALS && side < 2) met[call][refusal][side]++;
     if (same) return;
     differ++;
     printf("recorded: line %u: the answer of %s, or a byte lent, differs\n", lines, calls[call]);
@@ -143,23 +144,32 @@ static bool trace_holds(struct bytes written) {
     return true;
 }
 
+/* Counts what a check answered. */
+static void tally(struct struo_check_answer answer) {
+    if (answer.number == 0 && answer.status < 4) statuses[answer.status]++;
+    if (answer.status == STRUO_GAVE_UP && answer.query < 5) {
+        gave_up[answer.query][answer.depth > 1]++;
+        proved[answer.equal]++;
+    }
+    if (answer.learned > 0 && answer.learned_query < 5) learned_most[answer.learned_query]++;
+}
+
 /* A line that checks a pair. */
 static void check_line(void) {
     struct bytes gold = hex(), gate = hex();
-    uint64_t depth = number();
+    uint64_t depth = number(), limit = number();
     size_t trace_length = number(), words_length = number(), scores_length = number();
     equals();
     if (trace_length > sizeof trace || words_length > STRUO_WORDS_LENGTH + SPARE || scores_length > STRUO_SCORES_LENGTH + SPARE) malformed();
     memset(trace, HELD, sizeof trace);
-    struct struo_check_answer answer = struo_check(gold.data, gold.length, gate.data, gate.length, depth, trace, trace_length, words, words_length, scores, scores_length);
+    struct struo_check_answer answer = struo_check(gold.data, gold.length, gate.data, gate.length, depth, limit, trace, trace_length, words, words_length,
+                                                   scores, scores_length);
     bool accepted = answer.number == 0, same = refused_so(answer.number, answer.side, answer.place);
-    const uint32_t told[7] = {answer.status, answer.depth, answer.mismatch, answer.query, answer.learned, answer.learned_depth, answer.learned_query};
-    for (int i = 0; i < 7; i++) same &= told[i] == number();
+    const uint32_t told[9] = {answer.status, answer.depth, answer.mismatch, answer.query, answer.learned, answer.learned_depth, answer.learned_query, answer.equal, answer.through};
+    for (int i = 0; i < 9; i++) same &= told[i] == number();
     struct bytes written = hex();
     same &= trace_holds(written) && work_holds(accepted, words_length, scores_length);
-    if (accepted && answer.status < 4) statuses[answer.status]++;
-    if (accepted && answer.query < 5) gave_up[answer.query]++;
-    if (answer.learned > 0 && answer.learned_query < 5) learned_most[answer.learned_query]++;
+    tally(answer);
     if (accepted || !same) hold();
     count(CHECK, answer.number, answer.side, same);
     free(gold.data), free(gate.data), free(written.data);
@@ -168,8 +178,8 @@ static void check_line(void) {
 /* Whether a call can answer a refusal on a side. */
 static bool can(int call, unsigned refusal, unsigned side) {
     if (refusal <= 15) return side == 0 || (call != READ && refusal > 0);
-    if (call == READ || (call == CHECK && refusal == 25)) return false;
-    if (call == REPLAY && (refusal <= 17 || refusal == 23 || refusal == 24)) return false;
+    if (call == READ || (refusal > 25 && refusal != 36) || (call == CHECK && refusal == 25)) return false;
+    if (call == REPLAY && (refusal <= 17 || refusal == 23 || refusal == 24 || refusal == 36)) return false;
     return side == 0 || refusal == 20 || refusal == 22;
 }
 
@@ -178,18 +188,20 @@ static unsigned unmet(void) {
     unsigned missing = 0;
     for (int call = READ; call <= REPLAY; call++) {
         printf("recorded: %s by refusal, gold+gate:", calls[call]);
-        for (unsigned refusal = 0; refusal < 26; refusal++) {
+        for (unsigned refusal = 0; refusal < REFUSALS; refusal++) {
             if (!can(call, refusal, 0)) continue;
             printf(can(call, refusal, 1) ? " %u:%u+%u" : " %u:%u", refusal, met[call][refusal][0], met[call][refusal][1]);
             for (unsigned side = 0; side < 2; side++) missing += can(call, refusal, side) && !met[call][refusal][side];
         }
         printf("\n");
     }
-    printf("recorded: Equivalent %u, NotEquivalent %u, Inconclusive %u, GaveUp %u (query 1 %u, 2 %u, 3 %u, 4 %u); replay no %u, yes %u\n", statuses[0],
-           statuses[1], statuses[2], statuses[3], gave_up[1], gave_up[2], gave_up[3], gave_up[4], answers[0], answers[1]);
-    printf("recorded: most learned in query 1 %u, 2 %u, 3 %u, 4 %u\n", learned_most[1], learned_most[2], learned_most[3], learned_most[4]);
-    for (int i = 0; i < 4; i++) missing += !statuses[i] + !gave_up[i + 1] + !learned_most[i + 1];
-    return missing + !answers[0] + !answers[1];
+    printf("recorded: Equivalent %u, NotEquivalent %u, Inconclusive %u, GaveUp %u (no cycle proved %u, one %u); replay no %u, yes %u\n", statuses[0], statuses[1],
+           statuses[2], statuses[3], proved[0], proved[1], answers[0], answers[1]);
+    for (int i = 1; i < 5; i++) {
+        printf("recorded: query %d gave up %u times at depth 1, %u deeper, learned most %u times\n", i, gave_up[i][0], gave_up[i][1], learned_most[i]);
+        missing += !statuses[i - 1] + !gave_up[i][0] + !gave_up[i][1] + !learned_most[i];
+    }
+    return missing + !proved[0] + !proved[1] + !answers[0] + !answers[1];
 }
 
 int main(int argc, char **argv) {

@@ -6,13 +6,13 @@ use oracle::bridge::netlist;
 use oracle::check::{check, CheckAnswer};
 use oracle::equivalence::prove_sequential_equivalence;
 use oracle::families::generate;
-use oracle::meter::{self, Wish};
+use oracle::meter::{self, Wish, LEARNED_LIMIT};
 use oracle::pair::{Lent, SCORES, WORDS};
 use oracle::record::{self, encode};
 use oracle::shapes;
 use oracle::struo_ir::Netlist;
 use oracle::transition::TransitionSystem;
-use oracle::vectors::{check_line, unhex};
+use oracle::vectors::{check_call, check_line, CheckCall};
 
 use crate::clock;
 
@@ -25,14 +25,15 @@ struct Pair {
     answer: CheckAnswer,
 }
 
+/// The limit and the memory of every check.
+const LARGEST: u64 = LEARNED_LIMIT as u64;
 const LENT: Lent = Lent { trace: 8_192, words: WORDS, scores: SCORES };
 
 /// The pair of a check line; none where it is refused.
 fn pair(line: &str) -> Option<Pair> {
-    let words: Vec<&str> = line.split(' ').collect();
-    let ["check", gold, gate, depth, ..] = words[..] else { return None };
-    let (gold, gate, depth) = (unhex(gold), unhex(gate), depth.parse().expect("a depth"));
-    let answer = check(&gold, &gate, depth, LENT);
+    let CheckCall { gold, gate, depth, limit, .. } = check_call(line)?;
+    assert_eq!(limit, LARGEST, "measured under the largest limit");
+    let answer = check(&gold, &gate, depth, limit, LENT);
     if answer.refusal.is_some() {
         return None;
     }
@@ -101,7 +102,7 @@ pub fn checks(seed: u64) -> ExitCode {
         let pairs: Vec<Pair> = lines.iter().filter_map(|line| pair(line)).collect();
         let learned = pairs.iter().map(|pair| pair.answer.learned).max().unwrap_or(0);
         let own = mean(&pairs, |pair| {
-            black_box(struo_formal::check(black_box(&pair.gold), black_box(&pair.gate), pair.depth, &mut trace, &mut words, &mut scores));
+            black_box(struo_formal::check(black_box(&pair.gold), black_box(&pair.gate), pair.depth, LARGEST, &mut trace, &mut words, &mut scores));
         });
         let theirs = mean(&pairs, rust);
         let clear = *clearing.get_or_insert(own);

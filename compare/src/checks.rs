@@ -1,34 +1,45 @@
-//! Checks: pairs of every family of the oracle, each answered by the library and by the oracle, every byte lent watched.
+//! Checks: pairs of every family of the oracle, each under several limits of learned literals, answered by the library and by the oracle, every byte lent watched.
 use std::process::ExitCode;
 use std::sync::atomic::{AtomicUsize, Ordering};
 
-use oracle::check::{self, CheckAnswer};
+use oracle::check::{check_reporting, CheckAnswer, GAVE_UP};
 use oracle::families::generate;
+use oracle::limited::{limits_about, REFUSED};
+use oracle::meter::{Query, Wish, LEARNED_LIMIT};
 use oracle::pair::{Lent, SCORES, WORDS};
 use oracle::rng::Rng;
-use oracle::vectors::{check_line, check_words, split, unhex};
+use oracle::vectors::{check_call, check_words, limited_line, split};
 
 use struo_formal::CheckAnswer as Check;
 use crate::lent::{Memory, Trace};
 use crate::met::{unmet, Kind, Met};
 use crate::reads::damaged;
 
-/// A check as the library has it: gold, gate, depth, trace, words, scores.
-pub trait Call: Fn(&[u8], &[u8], u64, &mut [u8], &mut [u32], &mut [f64]) -> Check + Sync {}
-impl<F: Fn(&[u8], &[u8], u64, &mut [u8], &mut [u32], &mut [f64]) -> Check + Sync> Call for F {}
+/// A check as the library has it: gold, gate, depth, limit, trace, words, scores.
+pub trait Call: Fn(&[u8], &[u8], u64, u64, &mut [u8], &mut [u32], &mut [f64]) -> Check + Sync {}
+impl<F: Fn(&[u8], &[u8], u64, u64, &mut [u8], &mut [u32], &mut [f64]) -> Check + Sync> Call for F {}
+
+/// The largest limit, as a call takes it.
+const LARGEST: u64 = LEARNED_LIMIT as u64;
 
 /// How many checks were made, by what the oracle says of them, and how many answers or bytes differ.
 #[derive(Default)]
 pub struct Tally {
     pub pairs: u64,
     pub checks: u64,
+    /// Checks under another limit than the largest, refused and accepted.
+    pub limited: [u64; 2],
     pub differ: u64,
     /// Checks by refusal.
     pub met: Met,
     /// Accepted checks by status.
     pub statuses: [u64; 4],
-    /// Give-ups by query, 1 to 4.
-    pub gave_up: [u64; 5],
+    /// Give-ups by query, 1 to 4, at depth 1 and deeper.
+    pub gave_up: [[u64; 2]; 5],
+    /// Give-ups that prove no cycle, and that prove one.
+    pub proved: [u64; 2],
+    /// Give-ups under a smaller limit, by the status under the largest.
+    pub settled: [u64; 4],
     /// Checks that learned something, by the query that learned most, 1 to 4.
     pub learned_most: [u64; 5],
     /// The largest depth answered, the latest mismatch, the most literals learned in a query.
@@ -45,7 +56,10 @@ impl Tally {
         self.met.count(u32::from(number), u32::from(side));
         if answer.refusal.is_none() {
             self.statuses[usize::from(answer.status)] += 1;
-            self.gave_up[answer.query] += u64::from(answer.query > 0);
+            if answer.status == GAVE_UP {
+                self.gave_up[answer.query][usize::from(answer.depth > 1)] += 1;
+                self.proved[usize::from(answer.equal)] += 1;
+            }
             self.learned_most[answer.learned_query] += u64::from(answer.learned > 0);
         }
         self.deepest = self.deepest.max(answer.depth);
@@ -61,7 +75,10 @@ impl Tally {
         let add = |ours: &mut [u64], theirs: &[u64]| ours.iter_mut().zip(theirs).for_each(|(our, their)| *our += their);
         self.met.add(&other.met);
         add(&mut self.statuses, &other.statuses);
-        add(&mut self.gave_up, &other.gave_up);
+        add(&mut self.limited, &other.limited);
+        add(self.gave_up.as_flattened_mut(), other.gave_up.as_flattened());
+        add(&mut self.proved, &other.proved);
+        add(&mut self.settled, &other.settled);
         add(&mut self.learned_most, &other.learned_most);
         self.deepest = self.deepest.max(other.deepest);
         self.latest = self.latest.max(other.latest);
@@ -69,21 +86,29 @@ impl Tally {
         self
     }
 
-    /// The refusals, the statuses, and the queries that gave up or learned most that were not met.
+    /// The refusals, the statuses, what there is of give-ups, and the queries that learned most that were not met.
     fn missing(&self) -> Vec<String> {
         let mut missing = self.met.missing(Kind::Check);
         missing.extend((0..4).filter(|status| self.statuses[*status] == 0).map(|status| format!("status {status}")));
-        missing.extend((1..5).filter(|query| self.gave_up[*query] == 0).map(|query| format!("a give-up in query {query}")));
+        for query in 1..5 {
+            let depths = self.gave_up[query].iter().zip(["at depth 1", "deeper"]).filter(|(times, _)| **times == 0);
+            missing.extend(depths.map(|(_, depth)| format!("a give-up in query {query} {depth}")));
+        }
+        let cycles = self.proved.iter().zip(["no cycle", "a cycle"]).filter(|(times, _)| **times == 0);
+        missing.extend(cycles.map(|(_, cycle)| format!("a give-up that proves {cycle}")));
+        missing.extend((0..4).filter(|status| self.settled[*status] == 0).map(|status| format!("a give-up under a smaller limit alone, else status {status}")));
         missing.extend((1..5).filter(|query| self.learned_most[*query] == 0).map(|query| format!("a check that learned most in query {query}")));
         missing
     }
 }
 
-/// One call: two records, the depth and the lengths lent.
+/// One call: two records, the depth, the limit and the lengths lent.
+#[derive(Clone, Copy)]
 struct Asked<'a> {
     gold: &'a [u8],
     gate: &'a [u8],
     depth: u64,
+    limit: u64,
     lent: Lent,
 }
 
@@ -101,6 +126,8 @@ fn expected(answer: &CheckAnswer) -> Check {
             learned: answer.learned as u32,
             learned_depth: answer.learned_depth as u32,
             learned_query: answer.learned_query as u32,
+            equal: answer.equal,
+            through: answer.through as u32,
             ..Check::default()
         },
     }
@@ -116,11 +143,12 @@ struct Worker<'a, C> {
 }
 
 impl<C: Call> Worker<'_, C> {
-    /// One check, made by both; the oracle's answer says which memory is lent.
-    fn check(&mut self, asked: Asked) {
-        let answer = check::check(asked.gold, asked.gate, asked.depth, asked.lent);
+    /// One check, made by both; the oracle's answer, which says which memory is lent, and its queries.
+    fn check(&mut self, asked: Asked) -> (CheckAnswer, Vec<Query>) {
+        let (answer, report) = check_reporting(asked.gold, asked.gate, asked.depth, asked.limit, asked.lent, Wish::default());
         self.tally.count(&answer);
         let accepted = answer.refusal.is_none();
+        self.tally.limited[usize::from(accepted)] += u64::from(asked.limit != LARGEST);
         let mut lent = asked.lent;
         if answer.refusal.is_some_and(|refusal| refusal.number != 24) && !self.rng.one_in(8) {
             lent = Lent { trace: self.rng.below(40) as u64, words: self.rng.below(200) as u64, scores: self.rng.below(200) as u64 };
@@ -132,7 +160,7 @@ impl<C: Call> Worker<'_, C> {
             memory.dirty(&mut self.rng, lent);
         }
         let (words, scores) = memory.lend(lent);
-        let told = (self.call)(asked.gold, asked.gate, asked.depth, trace.lend(), words, scores);
+        let told = (self.call)(asked.gold, asked.gate, asked.depth, asked.limit, trace.lend(), words, scores);
         let wanted = expected(&answer);
         let fault = (told != wanted)
             .then(|| format!("{told:?}"))
@@ -142,25 +170,61 @@ impl<C: Call> Worker<'_, C> {
             self.tally.differ += 1;
             memory.refill();
             if self.tally.differ <= 5 {
-                println!("{} = {}: {fault}", check_line(asked.gold, asked.gate, asked.depth, lent), check_words(&answer));
+                println!("{} = {}: {fault}", limited_line(asked.gold, asked.gate, asked.depth, asked.limit, lent), check_words(&answer));
             }
+        }
+        (answer, report.queries)
+    }
+
+    /// Accepted checks under smaller limits, about the totals of the queries that the check under the largest asked; where a search takes long only such as end it early.
+    fn limited(&mut self, asked: Asked, answer: &CheckAnswer, queries: &[Query], quick: bool) {
+        let mut limits = limits_about(&mut self.rng, queries);
+        if !quick {
+            limits.push(self.rng.below(EARLY));
+            limits.retain(|limit| *limit <= EARLY);
+        }
+        self.rng.shuffle(&mut limits);
+        limits.truncate(LIMITS);
+        for limit in limits {
+            let (less, _) = self.check(Asked { limit: limit as u64, ..asked });
+            self.tally.settled[usize::from(answer.status)] += u64::from(less.status == GAVE_UP);
         }
     }
 
-    /// A pair with its swap, both self checks, a damaged record on either side, and other buffers or depths.
-    fn pair(&mut self, gold: &[u8], gate: &[u8], depth: u64, lent: Lent, quick: bool) {
+    /// A limit above the largest, at any depth and with any lengths, now and then beside a damaged record.
+    fn refused_limit(&mut self, asked: Asked) {
+        let limit = *self.rng.pick(&REFUSED);
+        let depth = if self.rng.one_in(3) { *self.rng.pick(&[0, 64, 65, (1 << 32) + 1, u64::MAX]) } else { asked.depth };
+        let lent = if self.rng.one_in(4) { Lent { trace: 0, words: WORDS - 1, scores: SCORES - 1 } } else { asked.lent };
+        let (gold, gate) = (damaged_or_empty(&mut self.rng, asked.gold), damaged_or_empty(&mut self.rng, asked.gate));
+        let (gold, gate) = match self.rng.below(8) {
+            0 => (&gold[..], asked.gate),
+            1 => (asked.gold, &gate[..]),
+            _ => (asked.gold, asked.gate),
+        };
+        self.check(Asked { gold, gate, depth, limit, lent });
+    }
+
+    /// A pair with its swap, each under smaller limits too, both self checks, a damaged record on either side, other buffers or depths, and a refused limit.
+    fn pair(&mut self, asked: Asked, quick: bool) {
+        let Asked { gold, gate, depth, limit, lent } = asked;
         self.tally.pairs += 1;
         for (gold, gate) in [(gold, gate), (gate, gold), (gold, gold), (gate, gate)] {
-            self.check(Asked { gold, gate, depth, lent });
+            let asked = Asked { gold, gate, ..asked };
+            let (answer, queries) = self.check(asked);
+            if gold != gate && answer.refusal.is_none() && limit == LARGEST {
+                self.limited(asked, &answer, &queries, quick);
+            }
         }
         let (worse_gold, worse_gate) = (damaged_or_empty(&mut self.rng, gold), damaged_or_empty(&mut self.rng, gate));
         let (gold_side, gate_side) = (self.rng.one_in(2), self.rng.one_in(2));
         if quick {
             let (other_gold, other_gate) = (if gold_side { &worse_gold } else { gold }, if gate_side { &worse_gate } else { gate });
-            self.check(Asked { gold: other_gold, gate: other_gate, depth, lent });
+            self.check(Asked { gold: other_gold, gate: other_gate, ..asked });
         }
-        let (depth, lent) = self.varied(depth, lent, quick);
-        self.check(Asked { gold, gate, depth, lent });
+        let (other_depth, other_lent) = self.varied(depth, lent, quick);
+        self.check(Asked { depth: other_depth, lent: other_lent, ..asked });
+        self.refused_limit(asked);
     }
 
     /// Another depth or other lengths; where a search takes long only such as are refused.
@@ -183,11 +247,9 @@ impl<C: Call> Worker<'_, C> {
         self.rng = Rng::new(block.seed);
         for line in block.lines() {
             let (left, _) = split(&line).expect("a check line");
-            let words: Vec<&str> = left.split(' ').collect();
-            let ["check", gold, gate, depth, trace, work, scores] = words[..] else { panic!("no check: {line}") };
-            let number = |word: &str| word.parse::<u64>().expect("a number");
-            let lent = Lent { trace: number(trace), words: number(work), scores: number(scores) };
-            self.pair(&unhex(gold), &unhex(gate), number(depth), lent, block.quick());
+            let call = check_call(left).unwrap_or_else(|| panic!("no check: {line}"));
+            let asked = Asked { gold: &call.gold, gate: &call.gate, depth: call.depth, limit: call.limit, lent: call.lent };
+            self.pair(asked, block.quick());
         }
     }
 }
@@ -221,6 +283,10 @@ impl Block {
 /// Pairs in a block.
 const BLOCK: usize = 16;
 
+/// How many smaller limits a pair is checked under at most, and up to which a search that takes long ends early.
+const LIMITS: usize = 6;
+const EARLY: usize = 4_096;
+
 /// The family of a block: of 200 blocks 68 small, 68 pairs, 30 rewritten, 13 refusals, 10 buffers, 9 late, 1 hard, 1 deep.
 fn family(number: usize) -> &'static str {
     match number * 73 % 200 {
@@ -246,7 +312,7 @@ fn blocks(count: usize, seed: u64) -> Vec<Block> {
         blocks.push(Block { family: "deep", count: 3, skip: 0, seed });
     }
     blocks.extend((2..6).map(|skip| Block { family: "giveup", count: 1, skip, seed }));
-    blocks.extend(["sides", "refusals"].map(fixed));
+    blocks.extend(["sides", "refusals", "limited"].map(fixed));
     blocks.push(Block { family: "limits", count: 1, skip: 2, seed });
     let mut left = count;
     for number in 0.. {
@@ -262,16 +328,20 @@ fn blocks(count: usize, seed: u64) -> Vec<Block> {
     blocks
 }
 
-/// Checks the fixed families and `count` random pairs through the library, and says what came of it: each status, a give-up in each query, each query as the
-/// one that learned most, and each refusal on each side that it can have have to be met. From 10,000 pairs on with the rescaling, the deepest searches and the pairs that are measured alone.
+/// Checks the fixed families and `count` random pairs through the library, and says what came of it: each status, a give-up in each query at depth 1 and deeper,
+/// with no cycle proved and with one, and under a smaller limit alone, each query as the one that learned most, and each refusal on each side that it can have have to be met. From 10,000 pairs on with the rescaling, the deepest searches and the pairs that are measured alone.
 pub fn compare(count: u64, seed: u64) -> ExitCode {
     let threads = std::thread::available_parallelism().map_or(1, usize::from);
     let tally = run(usize::try_from(count).expect("a count fits"), seed, threads, &struo_formal::check);
     println!("checks by refusal, gold+gate: {}", tally.met.told(Kind::Check));
     let [equivalent, different, inconclusive, gave_up] = tally.statuses;
-    println!("accepted: {equivalent} Equivalent, {different} NotEquivalent, {inconclusive} Inconclusive, {gave_up} GaveUp (by query {:?})", &tally.gave_up[1..]);
+    let [no_cycle, a_cycle] = tally.proved;
+    println!("accepted: {equivalent} Equivalent, {different} NotEquivalent, {inconclusive} Inconclusive, {gave_up} GaveUp");
+    println!("give-ups by query, at depth 1 and deeper: {:?}; {no_cycle} prove no cycle, {a_cycle} prove one", &tally.gave_up[1..]);
     let learning: u64 = tally.learned_most.iter().sum();
     println!("deepest {}, latest mismatch {}", tally.deepest, tally.latest);
+    let [refused, limited] = tally.limited;
+    println!("under other limits than the largest {limited} checks accepted, {refused} refused; give-ups by their status under the largest {:?}", tally.settled);
     println!("most learned {}, something in {learning} checks (most in query {:?})", tally.learned, &tally.learned_most[1..]);
     let missing = unmet(&tally.missing());
     println!("{} pairs, {} checks, {} differ", tally.pairs, tally.checks, tally.differ);
@@ -303,11 +373,12 @@ fn run_blocks(blocks: &[Block], threads: usize, call: &impl Call) -> Tally {
 #[cfg(test)]
 mod tests {
     use super::*;
+    use oracle::check::check;
 
     /// Answers from the oracle, as a library that is right does.
-    fn honest(gold: &[u8], gate: &[u8], depth: u64, trace: &mut [u8], words: &mut [u32], scores: &mut [f64]) -> Check {
+    fn honest(gold: &[u8], gate: &[u8], depth: u64, limit: u64, trace: &mut [u8], words: &mut [u32], scores: &mut [f64]) -> Check {
         let lent = Lent { trace: trace.len() as u64, words: words.len() as u64, scores: scores.len() as u64 };
-        let answer = check::check(gold, gate, depth, lent);
+        let answer = check(gold, gate, depth, limit, lent);
         if answer.refusal.is_none() {
             trace[..answer.trace.len()].copy_from_slice(&answer.trace);
             words.fill(0);
@@ -322,14 +393,37 @@ mod tests {
         vec![block("small", 6, 0), block("rewritten", 2, 0), block("buffers", 7, 0), block("refusals", 4, 84), block("sides", 60, 54)]
     }
 
-    /// The checks that differ where `lie` changes what the honest library answered and left.
-    fn differing(lie: impl Fn(&mut Check, &mut [u8], &mut [u32], &mut [f64]) + Sync) -> u64 {
-        let call = |gold: &[u8], gate: &[u8], depth: u64, trace: &mut [u8], words: &mut [u32], scores: &mut [f64]| {
-            let mut answer = honest(gold, gate, depth, trace, words, scores);
+    /// Pairs under limits, among them give-ups in query 1 at depth 1 and deeper, in query 2 deeper and in query 3 at depth 1.
+    fn under_limits() -> Vec<Block> {
+        vec![Block { family: "limited", count: 58, skip: 0, seed: 3 }]
+    }
+
+    /// The checks of blocks that differ where `lie` changes what the honest library answered and left.
+    fn differing_in(blocks: &[Block], lie: impl Fn(&mut Check, &mut [u8], &mut [u32], &mut [f64]) + Sync) -> u64 {
+        let call = |gold: &[u8], gate: &[u8], depth: u64, limit: u64, trace: &mut [u8], words: &mut [u32], scores: &mut [f64]| {
+            let mut answer = honest(gold, gate, depth, limit, trace, words, scores);
             lie(&mut answer, trace, words, scores);
             answer
         };
-        run_blocks(&few(), 1, &call).differ
+        run_blocks(blocks, 1, &call).differ
+    }
+
+    /// Those of the few.
+    fn differing(lie: impl Fn(&mut Check, &mut [u8], &mut [u32], &mut [f64]) + Sync) -> u64 {
+        differing_in(&few(), lie)
+    }
+
+    /// The limited checks that differ where `lie` changes what the honest library answered.
+    fn differing_answer(lie: impl Fn(&mut Check) + Sync) -> u64 {
+        differing_in(&under_limits(), |answer, _, _, _| lie(answer))
+    }
+
+    /// The limited checks that differ where the honest library is asked with another limit.
+    fn differing_under(other: impl Fn(u64) -> u64 + Sync) -> u64 {
+        let call = |gold: &[u8], gate: &[u8], depth: u64, limit: u64, trace: &mut [u8], words: &mut [u32], scores: &mut [f64]| {
+            honest(gold, gate, depth, other(limit), trace, words, scores)
+        };
+        run_blocks(&under_limits(), 1, &call).differ
     }
 
     #[test]
@@ -337,6 +431,11 @@ mod tests {
         let tally = run_blocks(&few(), 2, &honest);
         assert_eq!(tally.differ, 0);
         assert!(tally.statuses[0] > 0 && tally.statuses[1] > 0 && tally.met.times(24) > 0);
+        let tally = run_blocks(&under_limits(), 2, &honest);
+        assert_eq!(tally.differ, 0);
+        assert!(tally.statuses.iter().all(|times| *times > 0) && tally.met.times(36) > 0);
+        let gave_up = [tally.gave_up[1][0], tally.gave_up[1][1], tally.gave_up[2][1], tally.gave_up[3][0]];
+        assert!(tally.proved.iter().chain(&tally.limited).chain(&gave_up).all(|times| *times > 0));
     }
 
     #[test]
@@ -358,6 +457,26 @@ mod tests {
     }
 
     #[test]
+    fn another_limit_is_found() {
+        assert!(differing_under(|limit| limit.max(LARGEST)) > 0);
+        assert!(differing_under(|limit| limit.min(LARGEST)) > 0);
+        assert!(differing_under(|limit| if limit <= LARGEST { limit.saturating_sub(1) } else { limit }) > 0);
+        assert!(differing_under(|limit| if limit < LARGEST { limit + 1 } else { limit }) > 0);
+        assert!(differing_under(|limit| limit & u64::from(u32::MAX)) > 0);
+    }
+
+    #[test]
+    fn a_wrong_cycle_is_found() {
+        assert!(differing_answer(|answer| answer.through = if answer.equal { answer.depth } else { 0 }) > 0);
+        assert!(differing_answer(|answer| answer.through = if answer.equal { answer.depth - 1 } else { 0 }) > 0);
+        assert!(differing_answer(|answer| answer.equal |= answer.status == 3) > 0);
+        assert!(differing_answer(|answer| answer.equal = false) > 0);
+        assert!(differing_answer(|answer| if answer.status == 2 { (answer.equal, answer.through) = (true, answer.depth) }) > 0);
+        assert!(differing_answer(|answer| if answer.number == 36 { answer.equal = true }) > 0);
+        assert!(differing_answer(|answer| answer.number = if answer.number == 36 { 17 } else { answer.number }) > 0);
+    }
+
+    #[test]
     fn a_trace_byte_is_found() {
         assert!(differing(|answer, trace, _, _| if answer.status == 1 { trace[0] ^= 1 }) > 0);
         assert!(differing(|_, trace, _, _| if let Some(last) = trace.last_mut() { *last = 1 }) > 0);
@@ -370,6 +489,7 @@ mod tests {
         assert!(differing(|answer, _, words, _| if answer.number == 0 { words[4_000_001] = 1 << 31 }) > 0);
         assert!(differing(|answer, _, words, _| if answer.number == 0 && words.len() > 8_388_608 { words[8_388_608] = 1 }) > 0);
         assert!(differing(|answer, _, words, _| if answer.number > 0 { words.fill(0) }) > 0);
+        assert!(differing_in(&under_limits(), |answer, _, words, _| if answer.number == 36 { words.fill(0) }) > 0);
     }
 
     #[test]
@@ -389,7 +509,7 @@ mod tests {
     #[test]
     fn what_was_not_met_is_said() {
         let missing = run_blocks(&few(), 2, &honest).missing();
-        let all = ["status 3", "a give-up in query 4", "a check that learned most in query 2"];
+        let all = ["a give-up in query 2 deeper", "a give-up under a smaller limit alone, else status 3", "a check that learned most in query 2"];
         assert!(all.iter().all(|what| missing.contains(&String::from(*what))));
     }
 }

@@ -14,16 +14,24 @@ impl Kind {
         let (gate, of_one_side) = (side == 1, matches!(number, 1..=15 | 20 | 22));
         let own = match self {
             Self::Read => number <= 15 && !gate,
-            Self::Check => number <= 24,
+            Self::Check => number <= 24 || number == 36,
             Self::Replay => matches!(number, 0..=15 | 18..=22 | 25),
         };
         own && (!gate || of_one_side)
     }
 }
 
+/// One above the largest number of a refusal.
+const NUMBERS: usize = 37;
+
 /// Calls by the number and the side of their answers.
-#[derive(Default)]
-pub struct Met([[u64; 2]; 26]);
+pub struct Met([[u64; 2]; NUMBERS]);
+
+impl Default for Met {
+    fn default() -> Self {
+        Self([[0; 2]; NUMBERS])
+    }
+}
 
 impl Met {
     /// One more call.
@@ -38,7 +46,7 @@ impl Met {
 
     /// All that were refused.
     pub fn refused(&self) -> u64 {
-        (1..26).map(|number| self.times(number)).sum()
+        (1..NUMBERS).map(|number| self.times(number)).sum()
     }
 
     /// Both.
@@ -52,12 +60,12 @@ impl Met {
             let [gold, gate] = self.0[number];
             if call.can(number, 1) { format!("{number}:{gold}+{gate}") } else { format!("{number}:{gold}") }
         };
-        (0..26).filter(|number| call.can(*number, 0)).map(one).collect::<Vec<_>>().join(" ")
+        (0..NUMBERS).filter(|number| call.can(*number, 0)).map(one).collect::<Vec<_>>().join(" ")
     }
 
     /// What the call can answer and was not met.
     pub fn missing(&self, call: Kind) -> Vec<String> {
-        let all = (0..26).flat_map(|number| [(number, 0), (number, 1)]);
+        let all = (0..NUMBERS).flat_map(|number| [(number, 0), (number, 1)]);
         all.filter(|(number, side)| call.can(*number, *side) && self.0[*number][*side] == 0).map(|(number, side)| format!("refusal {number} of side {side}")).collect()
     }
 }
@@ -76,10 +84,10 @@ mod tests {
 
     #[test]
     fn one_that_was_not_met_is_missing() {
-        for (call, all) in [(Kind::Read, 16), (Kind::Check, 25 + 17), (Kind::Replay, 22 + 17)] {
+        for (call, all) in [(Kind::Read, 16), (Kind::Check, 26 + 17), (Kind::Replay, 22 + 17)] {
             let mut met = Met::default();
             assert_eq!(met.missing(call).len(), all);
-            for number in 0..26 {
+            for number in 0..NUMBERS as u32 {
                 met.count(number, 0);
                 met.count(number, 1);
             }

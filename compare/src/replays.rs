@@ -3,6 +3,7 @@ use std::process::ExitCode;
 
 use oracle::check::check;
 use oracle::families::{generate, random_pair};
+use oracle::meter::LEARNED_LIMIT;
 use oracle::pair::{trace_need, Lent};
 use oracle::random::Size;
 use oracle::record::encode;
@@ -56,7 +57,7 @@ fn pair(rng: &mut Rng, tally: &mut Tally) {
     let size = Size { inputs: 4, outputs: 3, registers: 4, gates: 9 };
     let pair = random_pair(rng, size, 3);
     let (gold, gate) = (encode(&pair.gold), encode(&pair.gate));
-    let answer = check(&gold, &gate, 3, Lent { trace: 8192, words: 8_388_608, scores: 65_536 });
+    let answer = check(&gold, &gate, 3, LEARNED_LIMIT as u64, Lent { trace: 8192, words: 8_388_608, scores: 65_536 });
     if answer.status == 1 {
         let cycle = answer.mismatch as u64;
         tally.claim(&gold, &gate, cycle, &answer.trace);

@@ -125,6 +125,12 @@ impl Product {
     }
 }
 
+/// The first cycle up to a last one in which some input sequence makes outputs differ, if there is one.
+pub fn first_difference(gold: &Design, gate: &Design, last: usize) -> Option<usize> {
+    let product = Product::new(gold, gate);
+    (0..=last).find(|cycle| product.question(1, *cycle))
+}
+
 /// What k-induction says of two designs to a depth: status, depth, and each question asked with its answer.
 pub fn induction(gold: &Design, gate: &Design, maximum: usize) -> (u8, usize, Vec<(usize, usize, bool)>) {
     let product = Product::new(gold, gate);

@@ -1,6 +1,7 @@
 //! The families of vector lines: pairs, reads, replays; each deterministic by its seed.
 use crate::check::{prove, NOT_EQUIVALENT};
 use crate::dense::{dense, Dense};
+use crate::limited;
 use crate::meter::Wish;
 use crate::pair::{cost, trace_need, Lent, SCORES, WORDS};
 use crate::random::{changed, design, interface, register_names, Size};
@@ -131,7 +132,7 @@ fn long_row(prefix: &str, length: usize) -> Design {
 }
 
 /// A pair whose difference first shows at cycle k.
-fn deep_pair(rng: &mut Rng, cycle: usize) -> Pair {
+pub fn deep_pair(rng: &mut Rng, cycle: usize) -> Pair {
     let prefix = if rng.one_in(2) { "p" } else { "q" };
     let width = (usize::BITS - cycle.leading_zeros()) as usize + rng.below(2);
     let enabled = cycle <= 30 && rng.one_in(2);
@@ -146,7 +147,7 @@ fn deep_pair(rng: &mut Rng, cycle: usize) -> Pair {
 }
 
 /// A pair whose induction closes at depth k and not before: rows of k registers, all named apart or but for one.
-fn late_proof(rng: &mut Rng, length: usize) -> Pair {
+pub fn late_proof(rng: &mut Rng, length: usize) -> Pair {
     let gold = long_row("p", length);
     let kept = rng.below(2 * length);
     let rename = move |name: &Name| {
@@ -403,9 +404,9 @@ fn under(rng: &mut Rng, count: usize) -> Vec<String> {
 }
 
 /// The names of the families.
-pub const FAMILIES: [&str; 28] = [
+pub const FAMILIES: [&str; 29] = [
     "cases", "pairs", "small", "rewritten", "deep", "late", "hard", "rescale", "giveup", "limits", "buffers", "refusals", "sides", "replays", "refused-replays", "reads",
-    "listed", "cuts", "changes", "long", "names", "wire-bytes", "under", "solve", "dense", "rows", "feedback", "sums",
+    "listed", "cuts", "changes", "long", "names", "wire-bytes", "under", "limited", "solve", "dense", "rows", "feedback", "sums",
 ];
 
 /// The lines of a family, without answers.
@@ -435,6 +436,7 @@ pub fn generate(family: &str, count: usize, seed: u64) -> Vec<String> {
         "names" => reads::names(),
         "wire-bytes" => reads::wire_bytes(),
         "under" => under(rng, count),
+        "limited" => limited::limited(rng, count),
         "dense" => dense_pairs(rng, count),
         "rows" => shift_rows(rng),
         "feedback" => feedback(),

@@ -8,6 +8,7 @@ pub mod check;
 pub mod dense;
 pub mod exhaustive;
 pub mod families;
+pub mod limited;
 pub mod meter;
 pub mod pair;
 pub mod random;

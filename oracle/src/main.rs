@@ -59,6 +59,7 @@ fn assert(count: usize, seed: u64) -> ExitCode {
     println!("{} pairs: {equivalent} Equivalent, {different} NotEquivalent, {inconclusive} Inconclusive, {gave_up} GaveUp", summary.pairs);
     println!("{} traces replayed, {} designs against themselves, {} swaps", summary.replays, summary.selves, summary.swaps);
     println!("{} tiny pairs searched exhaustively; questions 1 to 4, no and yes: {:?}", summary.tiny, summary.questions);
+    println!("{} checks under limits; give-ups in queries 1 to 4, at depth 1 and deeper: {:?}; {} proved cycles searched exhaustively", summary.limited, summary.given_up, summary.searched);
     println!("deepest {}, most learned {}, {} failures", summary.deepest, summary.most_learned, summary.failures.len());
     ExitCode::from(u8::from(!summary.failures.is_empty()))
 }
@@ -71,9 +72,10 @@ fn queries(lines: &[String]) -> ExitCode {
             println!("{}", vectors::answered(left));
             continue;
         }
+        let Some(limit) = vectors::check_call(left).map(|call| call.limit) else { continue };
         let wish = Wish { problems: true, ..Wish::default() };
         for problem in vectors::report(left, wish).unwrap_or_default().problems {
-            println!("{}", vectors::answered(&format!("solve {} {}", wish.limit, solving::problem_words(&problem))));
+            println!("{}", vectors::answered(&format!("solve {limit} {}", solving::problem_words(&problem))));
         }
     }
     ExitCode::SUCCESS

@@ -4,7 +4,7 @@ use std::collections::HashSet;
 
 use crate::aig::{Aig, Literal, Node};
 
-/// The limit of learned literals in one query.
+/// The largest limit of learned literals in one query.
 pub const LEARNED_LIMIT: usize = 262_144;
 
 /// What a query that gives up unwinds with.

@@ -1,5 +1,6 @@
-//! The refusals of a pair: 16 to 25.
+//! The refusals of a pair: 16 to 25, and 36.
 use crate::bridge;
+use crate::meter::LEARNED_LIMIT;
 use crate::record::{read, Design, Name, Node, Refusal};
 use crate::steps::{BITS, GATE_BITS};
 
@@ -85,12 +86,15 @@ pub fn trace_need(design: &Design, depth: u64) -> u64 {
     (depth + 1) * design.input_names().len() as u64 + design.output_names().len() as u64
 }
 
-/// Refusals 16 to 24 of a check.
-pub fn check_refusal(gold: &Design, gate: &Design, depth: u64, lent: Lent) -> Result<(), Refusal> {
+/// The refusals of a check in their order: 16, 17, 36, 18 to 24.
+pub fn check_refusal(gold: &Design, gate: &Design, depth: u64, limit: u64, lent: Lent) -> Result<(), Refusal> {
     let own = if depth == 0 { refused(16, 0, 0) } else { interfaces(gold, gate) };
     bridge::agree_pair(gold, gate, depth, own.err());
     if depth > 64 {
         return refused(17, 0, 0);
+    }
+    if depth > 0 && limit > LEARNED_LIMIT as u64 {
+        return refused(36, 0, 0);
     }
     own?;
     if cost(gold, gate, depth) > 65_535 {

@@ -57,7 +57,7 @@ fn starred() -> Vec<String> {
 }
 
 /// One side of the pair with I = 11, O = 9 and so many nodes and registers.
-fn wide(nodes: usize, registers: usize) -> Design {
+pub fn wide(nodes: usize, registers: usize) -> Design {
     let mut b = Builder::new("g");
     b.input("clk");
     b.input("rst");
@@ -115,7 +115,7 @@ pub fn cases() -> Vec<String> {
 }
 
 /// A toggle on another clock or edge, or with a second register there.
-fn clock_faults() -> Vec<(Design, Design)> {
+pub fn clock_faults() -> Vec<(Design, Design)> {
     let mut falling = toggle("q");
     falling.registers[0].falling = true;
     let mut other_clock = toggle("q");
@@ -142,7 +142,7 @@ fn clock_faults() -> Vec<(Design, Design)> {
 }
 
 /// Registers without reset: the first by name, in record order elsewhere, on either side.
-fn reset_faults() -> Vec<(Design, Design)> {
+pub fn reset_faults() -> Vec<(Design, Design)> {
     let with = |names: &[&str], without: &[&str]| {
         let mut b = Builder::new("g");
         b.input("clk");
@@ -165,7 +165,7 @@ fn reset_faults() -> Vec<(Design, Design)> {
 }
 
 /// Names of ports that differ between the sides.
-fn port_faults() -> Vec<(Design, Design)> {
+pub fn port_faults() -> Vec<(Design, Design)> {
     let ports = |inputs: &[&str], outputs: &[&str]| {
         let mut b = Builder::new("g");
         for name in inputs {
@@ -221,16 +221,21 @@ pub fn refused_checks(rng: &mut Rng, count: usize) -> Vec<String> {
     lines
 }
 
+/// The first listed record with a refusal of 1 to 15.
+pub fn record_with(number: u8) -> Vec<u8> {
+    let faulty = [reads::listed(), reads::names()].concat().iter().find_map(|line| {
+        let bytes = unhex(line.strip_prefix("read ")?);
+        read(&bytes).is_err_and(|refusal| refusal.number == number).then_some(bytes)
+    });
+    faulty.expect("each refusal is listed")
+}
+
 /// A record of each of refusals 1 to 15, as gold and as gate of a check and of a replay.
 pub fn sides() -> Vec<String> {
     let wire = encode(&shapes::wire());
     let mut lines = Vec::new();
     for number in 1..=15 {
-        let faulty = [reads::listed(), reads::names()].concat().iter().find_map(|line| {
-            let bytes = unhex(line.strip_prefix("read ")?);
-            read(&bytes).is_err_and(|refusal| refusal.number == number).then_some(bytes)
-        });
-        let faulty = faulty.expect("each refusal is listed");
+        let faulty = record_with(number);
         for (gold, gate) in [(&faulty, &wire), (&wire, &faulty), (&faulty, &faulty)] {
             lines.push(check_line(gold, gate, u64::from(number) % 3, LENT));
             lines.push(replay_line(gold, gate, 0, &[0, 1]));

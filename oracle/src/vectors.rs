@@ -1,6 +1,6 @@
 //! The vector lines: one case a line, its call left of `=`, its answer right of it.
 use crate::check::{check, check_reporting, CheckAnswer};
-use crate::meter::{Report, Wish};
+use crate::meter::{Report, Wish, LEARNED_LIMIT};
 use crate::pair::{Lent, SCORES, WORDS};
 use crate::record::{read, Refusal};
 use crate::run::{replay, ReplayAnswer};
@@ -34,9 +34,32 @@ pub fn replay_line(gold: &[u8], gate: &[u8], cycle: u64, claim: &[u8]) -> String
     format!("replay {} {} {cycle} {}", hex(gold), hex(gate), hex(claim))
 }
 
-/// The left side of a check.
+/// The left side of a check under a limit of learned literals.
+pub fn limited_line(gold: &[u8], gate: &[u8], depth: u64, limit: u64, lent: Lent) -> String {
+    format!("check {} {} {depth} {limit} {} {} {}", hex(gold), hex(gate), lent.trace, lent.words, lent.scores)
+}
+
+/// The left side of a check under the largest limit.
 pub fn check_line(gold: &[u8], gate: &[u8], depth: u64, lent: Lent) -> String {
-    format!("check {} {} {depth} {} {} {}", hex(gold), hex(gate), lent.trace, lent.words, lent.scores)
+    limited_line(gold, gate, depth, LEARNED_LIMIT as u64, lent)
+}
+
+/// What a check is handed.
+#[derive(Clone, Debug)]
+pub struct CheckCall {
+    pub gold: Vec<u8>,
+    pub gate: Vec<u8>,
+    pub depth: u64,
+    pub limit: u64,
+    pub lent: Lent,
+}
+
+/// The call of a check line's left side; none for another line.
+pub fn check_call(left: &str) -> Option<CheckCall> {
+    let words: Vec<&str> = left.split(' ').collect();
+    let ["check", gold, gate, depth, limit, trace, work, scores] = words[..] else { return None };
+    let lent = Lent { trace: number(trace), words: number(work), scores: number(scores) };
+    Some(CheckCall { gold: unhex(gold), gate: unhex(gate), depth: number(depth), limit: number(limit), lent })
 }
 
 /// Number, side and place.
@@ -54,16 +77,15 @@ fn replay_words(answer: ReplayAnswer) -> String {
 
 /// The right side of a check.
 pub fn check_words(answer: &CheckAnswer) -> String {
-    let CheckAnswer { refusal, status, depth, mismatch, query, learned, learned_depth, learned_query, trace } = answer;
-    let refusal = refusal_words(*refusal);
-    format!("{refusal} {status} {depth} {mismatch} {query} {learned} {learned_depth} {learned_query} {}", hex(trace))
+    let CheckAnswer { refusal, status, depth, mismatch, query, learned, learned_depth, learned_query, equal, through, trace } = answer;
+    let (refusal, equal) = (refusal_words(*refusal), u8::from(*equal));
+    format!("{refusal} {status} {depth} {mismatch} {query} {learned} {learned_depth} {learned_query} {equal} {through} {}", hex(trace))
 }
 
-/// The right side of a check under another limit, with memory enough: the check's words, then each query's depth, number and total.
+/// The right side of a check with memory enough: the check's words, then each query's depth, number and total.
 fn under_words(limit: u64, gold: &[u8], gate: &[u8], depth: u64) -> String {
     let lent = Lent { trace: 65_536, words: WORDS, scores: SCORES };
-    let limit = usize::try_from(limit).expect("a limit fits");
-    let (answer, report) = check_reporting(gold, gate, depth, lent, Wish { limit, ..Wish::default() });
+    let (answer, report) = check_reporting(gold, gate, depth, limit, lent, Wish::default());
     let asked: Vec<String> = report.queries.iter().map(|query| format!("{}.{}.{}", query.depth, query.number, query.learned)).collect();
     format!("{} {}", check_words(&answer), if asked.is_empty() { "-".into() } else { asked.join(",") })
 }
@@ -79,9 +101,9 @@ pub fn answer(left: &str) -> String {
     match words[..] {
         ["read", record] => refusal_words(read(&unhex(record)).err()),
         ["replay", gold, gate, cycle, claim] => replay_words(replay(&unhex(gold), &unhex(gate), number(cycle), &unhex(claim))),
-        ["check", gold, gate, depth, trace, words, scores] => {
-            let lent = Lent { trace: number(trace), words: number(words), scores: number(scores) };
-            check_words(&check(&unhex(gold), &unhex(gate), number(depth), lent))
+        ["check", ..] => {
+            let call = check_call(left).unwrap_or_else(|| panic!("no check: {left}"));
+            check_words(&check(&call.gold, &call.gate, call.depth, call.limit, call.lent))
         }
         ["under", limit, gold, gate, depth] => under_words(number(limit), &unhex(gold), &unhex(gate), number(depth)),
         ["solve", limit, nodes, assumptions] => solving::answer(number(limit), nodes, assumptions),
@@ -110,9 +132,6 @@ pub fn answered(line: &str) -> String {
 
 /// What the search of a check line reported; none for another line.
 pub fn report(left: &str, wish: Wish) -> Option<Report> {
-    let words: Vec<&str> = left.split(' ').collect();
-    let ["check", gold, gate, depth, trace, work, scores] = words[..] else { return None };
-    let parse = |word: &str| word.parse::<u64>().unwrap_or_else(|_| panic!("no number: {word}"));
-    let lent = Lent { trace: parse(trace), words: parse(work), scores: parse(scores) };
-    Some(check_reporting(&unhex(gold), &unhex(gate), parse(depth), lent, wish).1)
+    let call = check_call(left)?;
+    Some(check_reporting(&call.gold, &call.gate, call.depth, call.limit, call.lent, wish).1)
 }

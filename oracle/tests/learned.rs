@@ -18,10 +18,10 @@ fn toggle(name: &str) -> Design {
 #[test]
 fn nothing() {
     for limit in [262_144, 12, 5, 3, 0] {
-        assert_eq!(under(limit, &shapes::wire(), &shapes::zero(), 1), "0 0 0 1 1 1 0 0 1 1 000101 1.1.0");
-        assert_eq!(under(limit, &shapes::wire(), &shapes::inverter(), 1), "0 0 0 1 1 0 0 0 1 1 0001 1.1.0");
+        assert_eq!(under(limit, &shapes::wire(), &shapes::zero(), 1), "0 0 0 1 1 1 0 0 1 1 0 0 000101 1.1.0");
+        assert_eq!(under(limit, &shapes::wire(), &shapes::inverter(), 1), "0 0 0 1 1 0 0 0 1 1 0 0 0001 1.1.0");
         let row = under(limit, &shapes::row(&["p", "q"]), &shapes::holding(), 2);
-        assert_eq!(row, "0 0 0 1 2 2 0 0 1 1 00010000000000000001 1.1.0,1.2.0,1.3.0,1.4.0,2.1.0");
+        assert_eq!(row, "0 0 0 1 2 2 0 0 1 1 0 0 00010000000000000001 1.1.0,1.2.0,1.3.0,1.4.0,2.1.0");
     }
 }
 
@@ -29,9 +29,9 @@ fn nothing() {
 #[test]
 fn toggles() {
     for limit in [262_144, 12, 5, 3, 1] {
-        assert_eq!(under(limit, &toggle("q"), &toggle("p"), 1), "0 0 0 0 1 0 0 1 1 3 - 1.1.0,1.2.0,1.3.1");
+        assert_eq!(under(limit, &toggle("q"), &toggle("p"), 1), "0 0 0 0 1 0 0 1 1 3 0 0 - 1.1.0,1.2.0,1.3.1");
     }
-    assert_eq!(under(0, &toggle("q"), &toggle("p"), 1), "0 0 0 3 1 0 3 0 1 1 - 1.1.0,1.2.0,1.3.0");
+    assert_eq!(under(0, &toggle("q"), &toggle("p"), 1), "0 0 0 3 1 0 3 0 1 1 1 1 - 1.1.0,1.2.0,1.3.0");
 }
 
 /// A query that gives up counts with its total before the clause that would have passed the limit.
@@ -39,12 +39,12 @@ fn toggles() {
 fn exclusive_ors() {
     let (gold, gate) = (shapes::exclusive_or(false), shapes::exclusive_or(true));
     let expected = [
-        (262_144, "0 0 0 0 1 0 0 16 1 1 - 1.1.16,1.2.0,1.3.5"),
-        (16, "0 0 0 0 1 0 0 16 1 1 - 1.1.16,1.2.0,1.3.5"),
-        (12, "0 0 0 3 1 0 1 11 1 1 - 1.1.11"),
-        (5, "0 0 0 3 1 0 1 4 1 1 - 1.1.4"),
-        (3, "0 0 0 3 1 0 1 0 1 1 - 1.1.0"),
-        (0, "0 0 0 3 1 0 1 0 1 1 - 1.1.0"),
+        (262_144, "0 0 0 0 1 0 0 16 1 1 0 0 - 1.1.16,1.2.0,1.3.5"),
+        (16, "0 0 0 0 1 0 0 16 1 1 0 0 - 1.1.16,1.2.0,1.3.5"),
+        (12, "0 0 0 3 1 0 1 11 1 1 0 0 - 1.1.11"),
+        (5, "0 0 0 3 1 0 1 4 1 1 0 0 - 1.1.4"),
+        (3, "0 0 0 3 1 0 1 0 1 1 0 0 - 1.1.0"),
+        (0, "0 0 0 3 1 0 1 0 1 1 0 0 - 1.1.0"),
     ];
     for (limit, told) in expected {
         assert_eq!(under(limit, &gold, &gate, 1), told, "limit {limit}");
@@ -66,8 +66,8 @@ fn give_ups() {
 /// A refused check tells three zeros.
 #[test]
 fn refused() {
-    assert_eq!(under(262_144, &toggle("q"), &shapes::wire(), 1), "18 0 0 0 0 0 0 0 0 0 - -");
-    assert_eq!(under(262_144, &shapes::wire(), &shapes::wire(), 0), "16 0 0 0 0 0 0 0 0 0 - -");
+    assert_eq!(under(262_144, &toggle("q"), &shapes::wire(), 1), "18 0 0 0 0 0 0 0 0 0 0 0 - -");
+    assert_eq!(under(262_144, &shapes::wire(), &shapes::wire(), 0), "16 0 0 0 0 0 0 0 0 0 0 0 - -");
 }
 
 /// The three numbers of an under line are those of its list: no total is larger, and each before the one told is smaller.
@@ -78,7 +78,7 @@ fn first_of_the_largest() {
         let (left, _) = split(&line).expect("a call");
         let words = answer(left);
         let words: Vec<&str> = words.split(' ').collect();
-        let asked: Vec<Vec<usize>> = words[11].split(',').map(|query| query.split('.').map(|word| word.parse().expect("a number")).collect()).collect();
+        let asked: Vec<Vec<usize>> = words[13].split(',').map(|query| query.split('.').map(|word| word.parse().expect("a number")).collect()).collect();
         let told: Vec<usize> = words[7..10].iter().map(|word| word.parse().expect("a number")).collect();
         let place = asked.iter().position(|query| query[..] == [told[1], told[2], told[0]]).expect("it was asked");
         assert!(asked[..place].iter().all(|query| query[2] < told[0]) && asked.iter().all(|query| query[2] <= told[0]));

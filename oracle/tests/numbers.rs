@@ -1,5 +1,5 @@
 //! Numbers that the patched Rust must give again.
-use oracle::check::{check_reporting, prove, CheckAnswer, EQUIVALENT, GAVE_UP, INCONCLUSIVE, NOT_EQUIVALENT};
+use oracle::check::{check, prove, CheckAnswer, EQUIVALENT, GAVE_UP, INCONCLUSIVE, NOT_EQUIVALENT};
 use oracle::families::{generate, give_up_pair, product_pair, Pair};
 use oracle::meter::{Report, Wish, LEARNED_LIMIT};
 use oracle::pair::{cost, Lent, SCORES, WORDS};
@@ -118,7 +118,7 @@ fn feedback() {
 /// Rows named apart are proved at their length, by query 4.
 #[test]
 fn rows() {
-    assert_eq!(answer(&generate("rows", 1, 1)[0]), "0 0 0 0 32 0 0 0 1 1 -");
+    assert_eq!(answer(&generate("rows", 1, 1)[0]), "0 0 0 0 32 0 0 0 1 1 0 0 -");
 }
 
 /// Nothing is learned where a design is checked against itself, whatever the limit.
@@ -126,9 +126,9 @@ fn rows() {
 fn self_check() {
     let bytes = encode(&product_pair(7, 7, 14, true).gold);
     let lent = Lent { trace: 1_000, words: WORDS, scores: SCORES };
-    let (answer, _) = check_reporting(&bytes, &bytes, 64, lent, Wish { limit: 0, ..Wish::default() });
+    let answer = check(&bytes, &bytes, 64, 0, lent);
     assert_eq!(answer.refusal.map(|refusal| refusal.number), Some(23));
-    let (answer, _) = check_reporting(&bytes, &bytes, 8, lent, Wish { limit: 0, ..Wish::default() });
+    let answer = check(&bytes, &bytes, 8, 0, lent);
     assert_eq!((answer.refusal, answer.status, answer.depth, answer.learned, answer.learned_depth, answer.learned_query), (None, EQUIVALENT, 1, 0, 1, 1));
 }
 

@@ -20,9 +20,9 @@ def read(record: bytes) -> ReadAnswer:
     return open_library().read(record)
 
 
-def check(gold: bytes, gate: bytes, depth: int = 8) -> CheckAnswer:
-    """Checks whether two designs can ever differ, by k-induction for depths 1 to `depth`."""
-    return open_library().check(gold, gate, depth)
+def check(gold: bytes, gate: bytes, depth: int = 8, limit: int = LEARNED_LIMIT) -> CheckAnswer:
+    """Checks whether two designs can ever differ, by k-induction for depths 1 to `depth`, in which each query may learn clauses of `limit` literals together."""
+    return open_library().check(gold, gate, depth, limit)
 
 
 def replay(gold: bytes, gate: bytes, cycle: int, claim: bytes) -> ReplayAnswer:

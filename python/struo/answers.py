@@ -6,7 +6,8 @@ from enum import IntEnum
 from typing import Optional
 
 
-# The most literals that the clauses learned by one query have together: a query whose next clause would pass this gives up.
+# The largest limit of learned literals, and the one that a check has unless another is asked for: a query whose next clause would bring the literals of its
+# learned clauses above its limit gives up.
 LEARNED_LIMIT = 262_144
 
 
@@ -94,7 +95,8 @@ class StepAnswer:
 @dataclass(frozen=True)
 class CheckAnswer:
     """What a check answers. `learned` is the largest total of learned literals over the queries asked, `learned_depth` and `learned_query` depth and number of the
-    first of them that has it; `trace` holds the bytes that were written for NotEquivalent, a claim that a replay takes."""
+    first of them that has it. `equal` and `through` say of a GaveUp that the outputs are proved equal in the cycles 0 to `through`; `equal` is false, and `through`
+    0, where no cycle is, and for every other status. `trace` holds the bytes that were written for NotEquivalent, a claim that a replay takes."""
 
     refusal: Optional[Refusal]
     status: Optional[Status]
@@ -104,9 +106,10 @@ class CheckAnswer:
     learned: int
     learned_depth: int
     learned_query: int
+    equal: bool
+    through: int
     trace: bytes
 
-    @property
-    def near_limit(self) -> bool:
-        """Whether a query learned three quarters of what it may, or more."""
-        return self.learned * 4 >= LEARNED_LIMIT * 3
+    def near(self, limit: int = LEARNED_LIMIT) -> bool:
+        """Whether a query learned three quarters of the limit asked for, or more; a check in which none learned a clause is near to no limit."""
+        return self.learned > 0 and self.learned * 4 >= limit * 3

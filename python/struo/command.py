@@ -6,6 +6,7 @@ import json
 import signal
 import sys
 import traceback
+from dataclasses import replace
 from typing import Callable, Dict, List, Optional, Sequence, Tuple
 
 from . import output
@@ -46,22 +47,22 @@ def difference_of(library: Library, report: CheckReport) -> Optional[Difference]
     return None if claim is None else replayed(library, report.gold.record, report.gate.record, claim)
 
 
-def checked(library: Library, gold: RecordFile, gate: RecordFile, depth: int, hunting: bool) -> CheckReport:
+def checked(library: Library, gold: RecordFile, gate: RecordFile, depth: int, limit: int, hunting: bool) -> CheckReport:
     """A check, with a hunt where it is asked for and a verdict is missing, and the trace of a difference in names."""
     with CheckProgress(f"checking to depth {depth}"):
-        answer = library.check(gold.record, gate.record, depth)
+        answer = library.check(gold.record, gate.record, depth, limit)
     found = None
     if hunting and answer.status in (Status.INCONCLUSIVE, Status.GAVE_UP):
         with CheckProgress("hunting for a difference"):
-            found = hunt(library, gold.record, gate.record, answer, depth)
-    report = CheckReport(library, gold, gate, depth, answer, found, None)
-    return CheckReport(library, gold, gate, depth, answer, found, difference_of(library, report))
+            found = hunt(library, gold.record, gate.record, answer, depth, limit)
+    report = CheckReport(library, gold, gate, depth, limit, answer, found, None)
+    return replace(report, difference=difference_of(library, report))
 
 
 def check_command(options: argparse.Namespace) -> Exit:
     """`check GOLD GATE`."""
     gold, gate = load_record(options.gold), load_record(options.gate)
-    report = checked(open_library(), gold, gate, options.depth, options.hunt)
+    report = checked(open_library(), gold, gate, options.depth, options.limit, options.hunt)
     files = [(options.sheet, report.sheet(), True)]
     difference = report.difference
     if difference is not None:

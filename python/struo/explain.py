@@ -5,7 +5,7 @@ from dataclasses import dataclass
 from typing import Callable, Dict, List, Optional
 
 from . import record as form
-from .answers import Refusal, Side
+from .answers import LEARNED_LIMIT, Refusal, Side
 from .pair import LARGEST_DEPTH, Clock, clocks, largest_depth, only_clock, proof_sum
 from .record import Design, Kind, decode, field_at
 from .refusals import BY_NUMBER, OFFSET, NODE, NONE
@@ -27,6 +27,7 @@ class Question:
     trace_length: int = 0
     words_length: int = 0
     scores_length: int = 0
+    limit: int = 0
 
     def record(self, side: Side) -> bytes:
         """The record of a side."""
@@ -286,9 +287,14 @@ def _claim(refusal: Refusal, question: Question) -> str:
     return f"byte {place} of the claim is {question.claim[place]}, and only 0 and 1 are taken"
 
 
+def _learned_limit(refusal: Refusal, question: Question) -> str:
+    """36: the limit."""
+    return f"the limit of learned literals is {question.limit:,}, and the largest is {LEARNED_LIMIT:,}"
+
+
 _WORDS: Dict[int, Callable[[Refusal, Question], str]] = {
     1: _length, 2: _version, 3: _cut, 4: _code, 5: _name, 6: _count, 7: _undefined_net, 8: _duplicate_port, 9: _duplicate_register,
     10: _register_output, 11: _multiple_drivers, 12: _register_net, 13: _unconnected, 14: _late_reset, 15: _clock, 16: _zero_depth,
     17: _depth_limit, 18: _interface(Kind.INPUT), 19: _interface(Kind.OUTPUT), 20: _many_clocks, 21: _clock_domain, 22: _no_reset,
-    23: _too_large, 24: _memory, 25: _claim,
+    23: _too_large, 24: _memory, 25: _claim, 36: _learned_limit,
 }

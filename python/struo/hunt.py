@@ -4,7 +4,7 @@ from __future__ import annotations
 from dataclasses import dataclass, replace
 from typing import Optional, Set
 
-from .answers import CheckAnswer, Status
+from .answers import LEARNED_LIMIT, CheckAnswer, Status
 from .library import Library
 from .pair import largest_depth
 from .record import Design, decode, encode
@@ -33,13 +33,14 @@ def _free_prefix(taken: Set[bytes]) -> bytes:
     return next(pair for pair in pairs if not any(name.startswith(pair) for name in taken))
 
 
-def hunt(library: Library, gold: bytes, gate: bytes, answer: CheckAnswer, depth: int) -> Optional[Hunt]:
-    """Asks again where a verdict is missing. Inconclusive says that there is no difference up to the asked depth, so the hunt then goes as deep as fits."""
+def hunt(library: Library, gold: bytes, gate: bytes, answer: CheckAnswer, depth: int, limit: int = LEARNED_LIMIT) -> Optional[Hunt]:
+    """Asks again where a verdict is missing, under the same limit. Inconclusive says that there is no difference up to the asked depth, so the hunt then goes as
+    deep as fits."""
     if answer.status not in (Status.INCONCLUSIVE, Status.GAVE_UP):
         return None
     designs = decode(gold), decode(gate)
     if answer.status is Status.INCONCLUSIVE:
         depth = largest_depth(*designs)
-    found = library.check(gold, encode(renamed(*designs)), depth)
+    found = library.check(gold, encode(renamed(*designs)), depth, limit)
     confirmed = found.status is Status.NOT_EQUIVALENT and library.replay(gold, gate, found.mismatch, found.trace).yes
     return Hunt(depth, found, confirmed)

@@ -7,7 +7,7 @@ from functools import lru_cache
 from pathlib import Path
 from typing import List, Optional, Tuple
 
-from .answers import BeginAnswer, CheckAnswer, Position, ReadAnswer, Refusal, ReplayAnswer, Side, Status, StepAnswer
+from .answers import LEARNED_LIMIT, BeginAnswer, CheckAnswer, Position, ReadAnswer, Refusal, ReplayAnswer, Side, Status, StepAnswer
 from .build import LibraryMissing, built_library
 
 __all__ = ["Library", "LibraryMissing", "Memory", "open_library"]
@@ -40,7 +40,7 @@ class _Check(ctypes.Structure):
     """struct struo_check_answer."""
 
     _fields_ = [*_Read._fields_, *((name, ctypes.c_uint32) for name in (
-        "status", "depth", "mismatch", "query", "learned", "learned_depth", "learned_query"))]
+        "status", "depth", "mismatch", "query", "learned", "learned_depth", "learned_query")), ("equal", ctypes.c_bool), ("through", ctypes.c_uint32)]
 
 
 class _Position(ctypes.Structure):
@@ -79,7 +79,7 @@ CALLS = {
     ),
     "struo_check": (
         _Check,
-        {"gold": _BYTES, "gate": _BYTES, "depth": _NUMBER, "trace": _LENT_BYTES, "words": _LENT_WORDS, "scores": _LENT_SCORES},
+        {"gold": _BYTES, "gate": _BYTES, "depth": _NUMBER, "limit": _NUMBER, "trace": _LENT_BYTES, "words": _LENT_WORDS, "scores": _LENT_SCORES},
     ),
 }
 
@@ -153,22 +153,23 @@ class Library:
         answer = self._ask("struo_step", gold=gold, gate=gate, cycle=_number(cycle), claim=claim, position=lent.position, bits=lent.bits)
         return StepAnswer(_refusal(answer), bool(answer.yes), lent.after())
 
-    def check(self, gold: bytes, gate: bytes, depth: int, memory: Optional[Memory] = None) -> CheckAnswer:
-        """Checks a pair to a maximum depth: a refusal of 1 to 24, or a verdict."""
+    def check(self, gold: bytes, gate: bytes, depth: int, limit: int = LEARNED_LIMIT, memory: Optional[Memory] = None) -> CheckAnswer:
+        """Checks a pair to a maximum depth, under a limit of learned literals for each query: a refusal of 1 to 24 or 36, or a verdict."""
         if memory is None:
             memory = self._memory = self._memory or Memory()
         memory.unwrite()
-        answer = self._ask("struo_check", gold=gold, gate=gate, depth=_number(depth), trace=memory.trace, words=memory.words, scores=memory.scores)
+        asked = {"depth": _number(depth), "limit": _number(limit)}
+        answer = self._ask("struo_check", gold=gold, gate=gate, **asked, trace=memory.trace, words=memory.words, scores=memory.scores)
         status = None if answer.number else Status(answer.status)
         trace = memory.written() if status is Status.NOT_EQUIVALENT else b""
         learned = answer.learned, answer.learned_depth, answer.learned_query
-        return CheckAnswer(_refusal(answer), status, answer.depth, answer.mismatch, answer.query, *learned, trace)
+        return CheckAnswer(_refusal(answer), status, answer.depth, answer.mismatch, answer.query, *learned, bool(answer.equal), answer.through, trace)
 
 
 def _number(number: int) -> int:
     """A number as the boundary takes it."""
     if number < 0:
-        raise ValueError("a depth or a cycle is not negative")
+        raise ValueError("a depth, a limit or a cycle is not negative")
     return min(number, LARGEST)
 
 

@@ -3,6 +3,7 @@ from __future__ import annotations
 
 import argparse
 
+from .answers import LEARNED_LIMIT
 from .output import answer
 from .text import decimal, shown
 
@@ -30,7 +31,7 @@ class Parser(argparse.ArgumentParser):
 
 
 def number(word: str) -> int:
-    """A depth: a decimal number."""
+    """A depth or a limit: a decimal number."""
     found = decimal(word)
     if found is None:
         raise argparse.ArgumentTypeError(f"{shown(word)} is no number")
@@ -53,6 +54,8 @@ def parser() -> Parser:
     check.add_argument("gate", metavar="GATE", help="the record of the design as reduced")
     check.add_argument("--depth", type=number, default=DEFAULT_DEPTH, metavar="D",
                        help=f"the maximum depth of the induction, 1 to 64 (default {DEFAULT_DEPTH})")
+    check.add_argument("--limit", type=number, default=LEARNED_LIMIT, metavar="N",
+                       help=f"how many literals one query may learn before the check gives up, 0 to {LEARNED_LIMIT} (the default)")
     check.add_argument("--hunt", action="store_true", help="after GaveUp or Inconclusive, look for a difference alone")
     check.add_argument("--claim", metavar="FILE", help="where they differ: the trace, as replay takes it")
     check.add_argument("--vcd", metavar="FILE", help="where they differ: the trace on both sides as a waveform")

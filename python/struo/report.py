@@ -16,7 +16,7 @@ from .library import Library
 from .pair import largest_depth, named_alike
 from .record import decode
 from .refusals import BY_NUMBER
-from .text import counted, json_text, listed, shown
+from .text import counted, either, json_text, listed, shown
 from .trace import Claim, Difference
 from .version import RECORD_VERSION, VERSION
 
@@ -65,20 +65,35 @@ def outputs_words(found: List[bytes]) -> str:
     return f"output {listed(found)} differs" if len(found) == 1 else f"outputs {listed(found)} differ"
 
 
-def learned_words(answer: CheckAnswer) -> str:
+def learned_words(answer: CheckAnswer, limit: int) -> str:
     """How near a check came to giving up: `learned 11,643 of 262,144 literals, most in query 1 of depth 37`."""
     if answer.refusal is not None:
         return "learned nothing: no query was asked"
+    if answer.learned == 0 and answer.status is Status.GAVE_UP:
+        return f"learned nothing: the first clause, in query {answer.query} of depth {answer.depth}, would have passed the limit of {counted(limit, 'literal')}"
     if answer.learned == 0:
         return "learned nothing: no query had to learn a clause"
     where = f"query {answer.learned_query} of depth {answer.learned_depth}"
-    return f"learned {answer.learned:,} of {LEARNED_LIMIT:,} literals, most in {where}"
+    return f"learned {answer.learned:,} of {counted(limit, 'literal')}, most in {where}"
 
 
 def learned_json(answer: CheckAnswer) -> Dict[str, Any]:
     """What was learned as JSON has it."""
     asked = answer.refusal is None
     return {name: getattr(answer, name) if asked else None for name in ("learned", "learned_depth", "learned_query")}
+
+
+def proved_words(answer: CheckAnswer) -> str:
+    """How far a check that gave up has proved the outputs equal: `proved equal in cycles 0 to 5`."""
+    if answer.status is not Status.GAVE_UP:
+        return "no query was asked" if answer.status is None else "no query gave up"
+    return f"proved equal in cycles 0 to {answer.through}" if answer.equal else "proved equal in no cycle"
+
+
+def proved_json(answer: CheckAnswer) -> Dict[str, Any]:
+    """The same as JSON has it: null where it is not used."""
+    gave_up = answer.status is Status.GAVE_UP
+    return {"equal": answer.equal if gave_up else None, "through": answer.through if gave_up and answer.equal else None}
 
 
 @dataclass(frozen=True)
@@ -89,6 +104,7 @@ class CheckReport:
     gold: RecordFile
     gate: RecordFile
     depth: int
+    limit: int
     answer: CheckAnswer
     hunt: Optional[Hunt]
     difference: Optional[Difference]
@@ -96,7 +112,7 @@ class CheckReport:
     @property
     def question(self) -> Question:
         """What was asked."""
-        return Question(self.gold.record, self.gate.record, self.depth)
+        return Question(self.gold.record, self.gate.record, self.depth, limit=self.limit)
 
     @property
     def hunted(self) -> bool:
@@ -134,7 +150,9 @@ class CheckReport:
         alike = named_alike(decode(self.gold.record), decode(self.gate.record)).words
         if self.status is Status.INCONCLUSIVE:
             return f"no pass: neither a difference nor a proof up to depth {self.depth}; {alike}"
-        return f"no pass: query {self.answer.query} at depth {self.answer.depth} reached the limit of learned literals; {alike}"
+        beyond = ", and nothing is proved of later ones" if self.answer.equal else ""
+        return (f"no pass: query {self.answer.query} at depth {self.answer.depth} reached the limit of {counted(self.limit, 'learned literal')}; "
+                f"the outputs are {proved_words(self.answer)}{beyond}; {alike}")
 
     def how(self) -> str:
         """How a difference was found."""
@@ -151,11 +169,12 @@ class CheckReport:
         """How near an accepted check came to giving up, and what helps where that was near."""
         if self.answer.refusal is not None:
             return []
-        lines = [learned_words(self.answer)]
-        if self.answer.near_limit:
-            came = "to" if self.answer.status is Status.GAVE_UP else "near"
-            smaller = " or a smaller depth" if self.answer.learned_depth > 1 else ""
-            lines.append(f"The search came {came} its limit: splitting the design{smaller} helps.")
+        gave_up = self.answer.status is Status.GAVE_UP
+        lines = [learned_words(self.answer, self.limit)]
+        if gave_up or self.answer.near(self.limit):
+            deep = self.answer.depth if gave_up else self.answer.learned_depth
+            helps = ["a larger limit"] * (self.limit < LEARNED_LIMIT) + ["splitting the design"] + ["a smaller depth"] * (deep > 1)
+            lines.append(f"The search came {'to' if gave_up else 'near'} its limit: {either(helps)} helps.")
         return lines
 
     def advice(self) -> List[str]:
@@ -166,7 +185,10 @@ class CheckReport:
         fits, alike = largest_depth(gold, gate), named_alike(gold, gate)
         lines = ["This is no pass: nothing may be written on the release sheet on its strength. What can be tried:"]
         if self.status is Status.INCONCLUSIVE and self.depth < fits:
-            lines.append(f"- a larger depth: up to --depth {fits} fits this pair{', though a query may then give up' if self.answer.near_limit else ''}")
+            lines.append(f"- a larger depth: up to --depth {fits} fits this pair{', though a query may then give up' if self.answer.near(self.limit) else ''}")
+        gave_up = Status.GAVE_UP in (self.status, self.hunt.answer.status if self.hunt else None)
+        if gave_up and self.limit < LEARNED_LIMIT:
+            lines.append(f"- a larger limit, up to --limit {LEARNED_LIMIT}: it never gets less far")
         if alike.count < min(alike.gold, alike.gate):
             lines.append("- register names kept by the tools, so that more registers are named alike")
         if self.hunt is None and self.answer.query != 1:
@@ -190,7 +212,7 @@ class CheckReport:
             return None
         answer = self.hunt.answer
         word = None if answer.status is None else answer.status.word
-        return {"asked_depth": self.hunt.depth, "status": word, "depth": answer.depth, "query": answer.query, **learned_json(answer),
+        return {"asked_depth": self.hunt.depth, "status": word, "depth": answer.depth, "query": answer.query, **learned_json(answer), **proved_json(answer),
                 "confirmed_by_replay": self.hunt.confirmed}
 
     def json(self) -> str:
@@ -199,8 +221,8 @@ class CheckReport:
         first = self.answer.status
         told: Dict[str, Any] = {
             "exit_status": int(self.exit), "words": self.detail(), "refusal": refusal_json(self.answer.refusal, self.question),
-            "asked_depth": self.depth, "depth": self.deciding.depth, "mismatch": self.deciding.mismatch if self.claim else None,
-            "query": self.answer.query or None, **learned_json(self.answer),
+            "asked_depth": self.depth, "limit": self.limit, "depth": self.deciding.depth, "mismatch": self.deciding.mismatch if self.claim else None,
+            "query": self.answer.query or None, **learned_json(self.answer), **proved_json(self.answer),
             "gold": side_json(self.gold, accepted), "gate": side_json(self.gate, accepted),
             "found_by": None if self.claim is None else "hunt" if self.hunted else "check",
             "first_status": None if first is None else int(first), "hunt": self.hunt_json(), "trace": self.trace_json(),
@@ -226,7 +248,8 @@ class CheckReport:
         columns += [f"asked depth {self.depth}", f"depth {self.deciding.depth}"]
         for side, file in (("gold", self.gold), ("gate", self.gate)):
             columns += [f"{side} {shown(file.path)}", f"{side} SHA-256 {file.sha256 or 'none, the file is longer than a record'}"]
-        columns += [f"struo {VERSION}", f"record version {RECORD_VERSION}", f"library SHA-256 {made['library_sha256']}", learned_words(self.answer)]
+        columns += [f"struo {VERSION}", f"record version {RECORD_VERSION}", f"library SHA-256 {made['library_sha256']}"]
+        columns += [learned_words(self.answer, self.limit), f"limit {self.limit:,}", proved_words(self.answer)]
         return "\t".join(columns) + "\n"
 
 

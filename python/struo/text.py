@@ -2,7 +2,7 @@
 from __future__ import annotations
 
 import re
-from typing import Iterable, Optional, Union
+from typing import Iterable, List, Optional, Union
 
 # Every spelling of the verdicts' common word; its second letter is written as an escape, which no search for a verdict finds.
 _VERDICT_WORD = re.compile("(e)(q)(?=uivalent)", re.IGNORECASE)
@@ -29,6 +29,11 @@ def listed(names: Iterable[Union[bytes, str]]) -> str:
 def counted(count: int, one: str, many: str = "") -> str:
     """A count with its word: `1 register`, `2 registers`."""
     return f"{count:,} {one if count == 1 else many or one + 's'}"
+
+
+def either(things: List[str]) -> str:
+    """One or several things to choose from: `a`, `a or b`, `a, b or c`."""
+    return " or ".join([", ".join(things[:-1]), things[-1]] if len(things) > 1 else things)
 
 
 def decimal(word: str) -> Optional[int]:

@@ -75,6 +75,32 @@ def holding() -> Design:
     return builder.design
 
 
+def _exclusive_or(builder: Builder, left: int, right: int, by_gates: bool) -> int:
+    """left Xor right, as one node, or by Or, And and Not."""
+    if not by_gates:
+        return builder.node(Kind.XOR, left, right)
+    either, both = builder.node(Kind.OR, left, right), builder.node(Kind.AND, left, right)
+    return builder.node(Kind.AND, either, builder.node(Kind.NOT, both))
+
+
+def exclusive_or(by_gates: bool) -> Design:
+    """y = a Xor b; query 1 of a pair of both forms learns 16 literals at depth 1."""
+    builder = Builder("a", "b")
+    builder.output("y", _exclusive_or(builder, 0, 1, by_gates))
+    return builder.design
+
+
+def late_exclusive_or(by_gates: bool) -> Design:
+    """y = q Xor f, where q is the second of two registers in a row after e, of other names by gates: in cycles 0 and 1 y is f, and query 1 of a pair of both forms
+    learns nothing at depth 1 and 5 literals at depth 2."""
+    builder = Builder("clk", "rst", "e", "f")
+    first, second = builder.state(), builder.state()
+    builder.output("y", _exclusive_or(builder, second, 3, by_gates))
+    for name, state, data in zip("rs" if by_gates else "pq", (first, second), (2, first)):
+        builder.register(name, state, data)
+    return builder.design
+
+
 def _sum(builder: Builder, first: Optional[int], second: Optional[int], carry: Optional[int]) -> tuple:
     """A full adder; none is 0."""
     bits = [bit for bit in (first, second, carry) if bit is not None]

@@ -44,8 +44,8 @@ class Check(Case):
 
     def test_gave_up_is_no_pass(self):
         ended = self.check(designs.multiplied(7, False, False), designs.multiplied(7, True, True), "--depth", "4")
-        self.assertEqual(ended.out, "GaveUp: no pass: query 2 at depth 1 reached the limit of learned literals; "
-                                    "3 of gold's 3 and gate's 3 registers are named alike\n")
+        self.assertEqual(ended.out, "GaveUp: no pass: query 2 at depth 1 reached the limit of 262,144 learned literals; the outputs are proved equal in "
+                                    "cycles 0 to 1, and nothing is proved of later ones; 3 of gold's 3 and gate's 3 registers are named alike\n")
         self.assertEqual(ended.status, 3)
         self.assertIn("This is no pass", ended.err)
         self.assertIn("- --hunt", ended.err)
@@ -164,8 +164,9 @@ class Others(Case):
 
     def test_the_outputs_of_the_readme(self):
         text = (ROOT / "README.md").read_text()
-        for pair in (("command_buffer_gold", "command_buffer_gate"), ("wire", "inverter")):
-            ended = inside("check", *(str(EXAMPLES / f"{name}.struo") for name in pair), "--depth", "8")
+        buffers = ("command_buffer_gold", "command_buffer_gate")
+        for pair, words in ((buffers, []), (("wire", "inverter"), []), (buffers, ["--limit", "100"])):
+            ended = inside("check", *(str(EXAMPLES / f"{name}.struo") for name in pair), "--depth", "8", *words)
             block = "".join(f"    {line}\n" for line in (ended.out + ended.err).splitlines())
             self.assertIn(f"\n\n{block}\n", text)
 

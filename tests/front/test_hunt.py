@@ -30,13 +30,22 @@ class Hunts(Case):
         told = json.loads(inside("check", *pair, "--depth", "4", "--hunt", "--json").out)
         self.assertEqual((told["verdict"], told["found_by"], told["first_status"], told["mismatch"]), ("NOT EQUIVALENT", "hunt", 3, 2))
         self.assertEqual(told["hunt"], {"asked_depth": 4, "status": "NOT EQUIVALENT", "depth": 2, "query": 0, "learned": 0, "learned_depth": 1,
-                                        "learned_query": 1, "confirmed_by_replay": True})
+                                        "learned_query": 1, "equal": None, "through": None, "confirmed_by_replay": True})
         self.assertEqual((told["learned"], told["learned_depth"], told["learned_query"]), (262_144, 1, 2))
+        self.assertEqual((told["equal"], told["through"]), (True, 1))
 
     def test_the_hunt_keeps_to_the_asked_depth_after_a_give_up(self):
         ended = inside("check", *self.hard(True), "--depth", "1", "--hunt")
         self.assertEqual(ended.status, 3)
         self.assertIn("The hunt to depth 1 with gate's registers renamed found no difference", ended.err)
+
+    def test_the_hunt_keeps_to_the_asked_limit(self):
+        pair = self.file("gold", designs.late_exclusive_or(False)), self.file("gate", designs.late_exclusive_or(True))
+        for limit, status, through in ((4, "GaveUp", 1), (5, "Equivalent", None)):
+            told = json.loads(inside("check", *pair, "--depth", "1", "--limit", str(limit), "--hunt", "--json").out)
+            self.assertEqual((told["verdict"], told["hunt"]["status"], told["hunt"]["through"]), ("Inconclusive", status, through))
+        self.assertIn("- a larger limit, up to --limit 262144", inside("check", *pair, "--depth", "1", "--limit", "4", "--hunt").err)
+        self.assertNotIn("- a larger limit", inside("check", *pair, "--depth", "1", "--limit", "5", "--hunt").err)
 
     def test_a_proof_for_the_renamed_record_is_no_verdict(self):
         ended = inside("check", *self.hard(False), "--depth", "3", "--hunt")

@@ -4,11 +4,10 @@ from __future__ import annotations
 import random
 import unittest
 from functools import lru_cache
-from itertools import islice
 
 from support import EXAMPLES, ROOT
 from struo import Memory, Question, explain, open_library
-from struo.answers import Status
+from struo.answers import LEARNED_LIMIT, Status
 from struo.explain import reference
 
 RECORDED = ROOT / "crates" / "vectors" / "data" / "recorded.txt"
@@ -53,21 +52,26 @@ class Recorded(unittest.TestCase):
             self.same(answer.refusal, answered, question)
             self.assertEqual(answer.yes, answered[3] == "yes")
 
-    def test_every_fourth_check(self):
-        count = 0
-        for (gold, gate, depth, trace, words, scores), answered in islice(self.lines("check"), 0, None, 4):
-            if int(answered[7]) > QUICK:
+    def test_every_fourth_check_and_all_of_other_limits(self):
+        count, refused, proved = 0, set(), set()
+        for place, ((gold, gate, depth, limit, trace, words, scores), answered) in enumerate(self.lines("check")):
+            if int(answered[7]) > QUICK or (place % 4 and int(limit) == LEARNED_LIMIT):
                 continue
             lent = int(trace), int(words), int(scores)
-            question = Question(data(gold), data(gate), int(depth), 0, b"", *lent)
-            answer = open_library().check(question.gold, data(gate), question.depth, memory(*lent))
+            question = Question(data(gold), data(gate), int(depth), 0, b"", *lent, limit=int(limit))
+            answer = open_library().check(question.gold, data(gate), question.depth, question.limit, memory(*lent))
             self.same(answer.refusal, answered, question)
             if answer.refusal is None:
-                told = (int(answer.status), answer.depth, answer.mismatch, answer.query, answer.learned, answer.learned_depth, answer.learned_query)
-                self.assertEqual(told, tuple(map(int, answered[3:10])))
-                self.assertEqual(answer.trace, data(answered[10]) if answer.status is Status.NOT_EQUIVALENT else b"")
+                told = (int(answer.status), answer.depth, answer.mismatch, answer.query, answer.learned, answer.learned_depth, answer.learned_query,
+                        int(answer.equal), answer.through)
+                self.assertEqual(told, tuple(map(int, answered[3:12])))
+                self.assertEqual(answer.trace, data(answered[12]) if answer.status is Status.NOT_EQUIVALENT else b"")
             count += 1
+            refused.add(int(answered[0]))
+            proved.add((answer.status is Status.GAVE_UP, answer.equal, answer.through))
         self.assertGreater(count, 100)
+        self.assertLessEqual({0, 16, 17, 18, 24, 36}, refused)
+        self.assertLessEqual({(False, False, 0), (True, False, 0), (True, True, 1), (True, True, 2)}, proved)
 
 
 class Damaged(unittest.TestCase):

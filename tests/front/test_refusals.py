@@ -1,4 +1,4 @@
-"""Refusals 1 to 25: each one met, with its words, its names and its place; and the one table of them beside the documents."""
+"""Refusals 1 to 25 and 36: each one met, with its words, its names and its place; and the one table of them beside the documents."""
 from __future__ import annotations
 
 import re
@@ -15,7 +15,8 @@ from struo.refusals import TABLE, markdown
 
 NAMES = ("Length Version Cut Code Name Count UndefinedNet DuplicatePortName DuplicateRegisterName InvalidRegisterOutput MultipleDrivers RegisterNet "
          "UnconnectedRegister UnsupportedAsyncReset UnsupportedClock ZeroDepth DepthLimit InputInterface OutputInterface MultipleClockDomains "
-         "ClockDomain UnknownInitialState TooLarge Memory Claim").split()
+         "ClockDomain UnknownInitialState TooLarge Memory Claim LearnedLimit").split()
+NUMBERS = [*range(1, 26), 36]
 
 WIRE = encode(wire())
 
@@ -198,7 +199,7 @@ class Refusals(Case):
         for lent, words in (((8, 8_388_608, 65_536), "the trace has 8 bytes, and 9 are needed"),
                             ((80, 8_388_607, 65_536), "the work memory has 8,388,607 words, and 8,388,608 are needed"),
                             ((80, 8_388_608, 65_535), "the work memory has 65,535 scores, and 65,536 are needed")):
-            refusal = library.check(WIRE, WIRE, 7, Memory(*lent)).refusal
+            refusal = library.check(WIRE, WIRE, 7, memory=Memory(*lent)).refusal
             self.assertEqual(refusal.number, 24)
             self.assertEqual(explain(refusal, Question(WIRE, WIRE, 7, trace_length=lent[0], words_length=lent[1], scores_length=lent[2])), words)
             self.assertEqual(reference(refusal), "24 Memory")
@@ -214,9 +215,20 @@ class Refusals(Case):
             self.assertEqual(explain(refusal, Question(WIRE, WIRE, cycle=cycle, claim=claim)), words)
             self.assertEqual(reference(refusal), "25 Claim")
 
+    def test_limits(self):
+        library, other = open_library(), encode(only("b", "y"))
+        for limit, words in ((262_145, "262,145"), (2**32 + 5, "4,294,967,301"), (2**64 - 1, "18,446,744,073,709,551,615"), (2**64, "18,446,744,073,709,551,616")):
+            refusal = library.check(WIRE, other, 1, limit, Memory(0, 0, 0)).refusal
+            self.assertEqual((refusal.number, refusal.side, refusal.place), (36, 0, 0))
+            self.assertEqual(explain(refusal, Question(WIRE, other, 1, limit=limit)), f"the limit of learned literals is {words}, and the largest is 262,144")
+            self.assertEqual(reference(refusal), "36 LearnedLimit")
+        for depth, limit, number in ((0, 262_145, 16), (65, 262_145, 17), (1, 262_144, 18)):
+            self.assertEqual(library.check(WIRE, other, depth, limit).refusal.number, number)
+        self.assertIsNone(library.check(WIRE, WIRE, 1, 262_144).refusal)
+
     def test_every_number_is_met_here(self):
-        met = {row[0] for row in RECORDS} | {row[0] for row in PAIRS} | {24, 25}
-        self.assertEqual(met, set(range(1, 26)))
+        met = {row[0] for row in RECORDS} | {row[0] for row in PAIRS} | {24, 25, 36}
+        self.assertEqual(met, set(NUMBERS))
 
     def test_the_command_says_the_same(self):
         gold, gate = self.file("gold", toggle()), self.file("gate", with_second(name=b"s[0]", reset=None))
@@ -232,17 +244,17 @@ class Table(unittest.TestCase):
     """The one table."""
 
     def test_numbers_and_names(self):
-        self.assertEqual([row.number for row in TABLE], list(range(1, 26)))
+        self.assertEqual([row.number for row in TABLE], NUMBERS)
         self.assertEqual([row.name for row in TABLE], NAMES)
 
     def test_calls_are_those_that_give_it(self):
         calls = {row.number: row.calls for row in TABLE}
-        for number in range(1, 26):
+        for number in NUMBERS:
             self.assertEqual("read" in calls[number], number <= 15)
-            self.assertEqual("check" in calls[number], number <= 24)
+            self.assertEqual("check" in calls[number], number <= 24 or number == 36)
             self.assertEqual("replay" in calls[number], number <= 15 or 18 <= number <= 22 or number == 25)
             self.assertEqual("begin" in calls[number], number <= 15 or 18 <= number <= 22 or number == 24)
-            self.assertEqual("step" in calls[number], number <= 15 or 18 <= number <= 22 or number >= 24)
+            self.assertEqual("step" in calls[number], number <= 15 or 18 <= number <= 22 or number in (24, 25))
 
     def test_the_specification_has_the_same_rows(self):
         path = ROOT / "docs" / "SPECIFICATION.md"
@@ -263,7 +275,7 @@ class Table(unittest.TestCase):
 
     def test_the_table_as_the_documents_have_it(self):
         lines = markdown().splitlines()
-        self.assertEqual(len(lines), 27)
+        self.assertEqual(len(lines), 28)
         self.assertTrue(lines[2].startswith("| 1 | Length | read, check, replay, begin, step | "))
 
 

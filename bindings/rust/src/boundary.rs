@@ -64,7 +64,7 @@ pub struct Position {
 #[repr(C)]
 #[derive(Clone, Copy, Debug, Default, Eq, PartialEq)]
 pub struct CheckAnswer {
-    /// 0 for an accepted check, else the refusal's number, 1 to 24.
+    /// 0 for an accepted check, else the refusal's number, 1 to 24 or 36.
     pub number: u32,
     /// 0 gold, 1 gate, and 0 where neither record alone is at fault.
     pub side: u32,
@@ -78,12 +78,16 @@ pub struct CheckAnswer {
     pub mismatch: u32,
     /// For GaveUp the number of the query that gave up, 1 to 4.
     pub query: u32,
-    /// The largest total of learned literals over the queries asked, at most `LEARNED_LIMIT`: how near the check came to giving up.
+    /// The largest total of learned literals over the queries asked, at most the limit: how near the check came to giving up.
     pub learned: u32,
     /// The depth of the first query asked that has this total; 1 where nothing was learned.
     pub learned_depth: u32,
     /// The number of that query, 1 to 4; 1 where nothing was learned.
     pub learned_query: u32,
+    /// For GaveUp whether the outputs are proved equal in the cycles 0 to `through`; false where no query was answered, and nothing is proved of any cycle.
+    pub equal: bool,
+    /// The last cycle up to which they are; 0 where `equal` is false.
+    pub through: u32,
 }
 
 impl CheckAnswer {
@@ -101,6 +105,12 @@ impl CheckAnswer {
             Some(refused) => Err(refused),
             None => Ok(Status::from_number(self.status).expect("an accepted check has a status")),
         }
+    }
+
+    /// For GaveUp the cycle through which the outputs are proved equal; none where no cycle is, and for every other status.
+    #[must_use]
+    pub fn proved_through(self) -> Option<u32> {
+        self.equal.then_some(self.through)
     }
 }
 
@@ -142,6 +152,7 @@ extern "C" {
         gate: *const u8,
         gate_length: usize,
         depth: u64,
+        limit: u64,
         trace: *mut u8,
         trace_length: usize,
         words: *mut u32,

@@ -1,7 +1,7 @@
 //! A checker that owns the memory which a check is lent.
 use crate::refusal::Refused;
 use crate::status::Status;
-use crate::{check, SCORES, TRACE, WORDS};
+use crate::{check, LEARNED_LIMIT, SCORES, TRACE, WORDS};
 
 /// A byte that no trace has: what a check writes ends at the first one left.
 const UNWRITTEN: u8 = 0xff;
@@ -12,6 +12,29 @@ pub struct Checker {
     trace: Vec<u8>,
     words: Vec<u32>,
     scores: Vec<f64>,
+}
+
+/// What a check is asked for beside the pair.
+#[derive(Clone, Copy, Debug, Eq, PartialEq, Hash)]
+pub struct Options {
+    /// The maximum depth, 1 to 64.
+    pub depth: u64,
+    /// How many literals the clauses learned by one query may have together, 0 to `LEARNED_LIMIT`: a query whose next clause would pass this gives up.
+    pub limit: u64,
+}
+
+impl Options {
+    /// A maximum depth, under the largest limit.
+    #[must_use]
+    pub const fn to_depth(depth: u64) -> Self {
+        Self { depth, limit: LEARNED_LIMIT as u64 }
+    }
+
+    /// The same under another limit.
+    #[must_use]
+    pub const fn limit(self, limit: u64) -> Self {
+        Self { limit, ..self }
+    }
 }
 
 /// What an accepted check found.
@@ -25,12 +48,14 @@ pub struct Verdict {
     pub difference: Option<Difference>,
     /// For GaveUp the number of the query that gave up, 1 to 4.
     pub query: Option<u32>,
-    /// The largest total of learned literals over the queries asked, at most `LEARNED_LIMIT`: how near the check came to giving up.
+    /// The largest total of learned literals over the queries asked, at most the limit: how near the check came to giving up.
     pub learned: u32,
     /// The depth of the first query asked that has this total; 1 where nothing was learned.
     pub learned_depth: u32,
     /// The number of that query, 1 to 4; 1 where nothing was learned.
     pub learned_query: u32,
+    /// For GaveUp the cycle through which the outputs are proved equal, so that the first mismatch, if there is one, lies beyond it; none where no cycle is.
+    pub proved_through: Option<u32>,
 }
 
 /// A difference: a claim to which `replay` answers yes.
@@ -49,14 +74,14 @@ impl Checker {
         Self { trace: vec![UNWRITTEN; TRACE], words: vec![0; WORDS], scores: vec![0.0; SCORES] }
     }
 
-    /// Checks whether two designs can ever differ, by k-induction for depths 1 to `depth`.
+    /// Checks whether two designs can ever differ, by k-induction for depths 1 to the depth of the options, under their limit of learned literals.
     ///
     /// # Errors
     ///
-    /// The first refusal of 1 to 23 in checking order.
-    pub fn check(&mut self, gold: &[u8], gate: &[u8], depth: u64) -> Result<Verdict, Refused> {
+    /// The first refusal in checking order: of 1 to 17, then 36, then of 18 to 23.
+    pub fn check(&mut self, gold: &[u8], gate: &[u8], options: Options) -> Result<Verdict, Refused> {
         self.trace.fill(UNWRITTEN);
-        let answer = check(gold, gate, depth, &mut self.trace, &mut self.words, &mut self.scores);
+        let answer = check(gold, gate, options.depth, options.limit, &mut self.trace, &mut self.words, &mut self.scores);
         let status = answer.result()?;
         let written = self.trace.iter().position(|byte| *byte == UNWRITTEN).unwrap_or(TRACE);
         let difference = Difference { cycle: answer.mismatch, trace: self.trace[..written].to_vec() };
@@ -68,6 +93,7 @@ impl Checker {
             learned: answer.learned,
             learned_depth: answer.learned_depth,
             learned_query: answer.learned_query,
+            proved_through: answer.proved_through(),
         })
     }
 }

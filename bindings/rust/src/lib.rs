@@ -5,21 +5,21 @@
 //! `Checker` owns the memory that a check is lent:
 //!
 //! ```
-//! use struo_formal::{replay, Checker, Refusal, Status};
+//! use struo_formal::{replay, Checker, Options, Refusal, Status};
 //!
 //! // Input a, output y = a; and the same with a Not before y.
 //! let wire = b"\x01\0\0\0\x13\x01g\0\x02\0\x01a\x11\x01y\0\0\0\0";
 //! let inverter = b"\x01\0\0\0\x16\x01g\0\x03\0\x01a\x10\0\0\x11\x01y\0\x01\0\0";
 //!
 //! let mut checker = Checker::new();
-//! assert_eq!(checker.check(wire, wire, 8)?.status, Status::Equivalent);
+//! assert_eq!(checker.check(wire, wire, Options::to_depth(8))?.status, Status::Equivalent);
 //!
-//! let verdict = checker.check(wire, inverter, 8)?;
+//! let verdict = checker.check(wire, inverter, Options::to_depth(8))?;
 //! assert_eq!(verdict.status, Status::NotEquivalent);
 //! let difference = verdict.difference.expect("a difference has a trace");
 //! assert!(replay(wire, inverter, difference.cycle.into(), &difference.trace).yes);
 //!
-//! let refused = checker.check(wire, b"", 8).unwrap_err();
+//! let refused = checker.check(wire, b"", Options::to_depth(8).limit(1_000)).unwrap_err();
 //! assert_eq!(refused.refusal, Refusal::Length);
 //! # Ok::<(), struo_formal::Refused>(())
 //! ```
@@ -29,7 +29,7 @@ mod refusal;
 mod status;
 
 pub use boundary::{CheckAnswer, Position, ReadAnswer, ReplayAnswer};
-pub use checker::{Checker, Difference, Verdict};
+pub use checker::{Checker, Difference, Options, Verdict};
 pub use refusal::{Refusal, Refused, Side};
 pub use status::Status;
 
@@ -42,7 +42,7 @@ pub const SCORES: usize = 65_536;
 /// A trace of this length is enough for every pair: 64 inputs in each of 65 cycles, and 64 outputs.
 pub const TRACE: usize = 65 * 64 + 64;
 
-/// The most literals that the clauses learned by one query have together: a query whose next clause would pass this gives up.
+/// The largest limit that a check can be given: the most literals that the clauses learned by one query may have together.
 pub const LEARNED_LIMIT: u32 = 262_144;
 
 /// How many bytes of stored bits a begin and a step need, and the byte where gate's begin.
@@ -70,9 +70,10 @@ pub fn read(record: &[u8]) -> ReadAnswer {
     unsafe { boundary::struo_read(record.as_ptr(), record.len()) }
 }
 
-/// Checks whether two designs can ever differ, by k-induction for depths 1 to `depth`: a refusal of 1 to 24, which leaves all buffers as they were, or
-/// a verdict. The trace is written for NotEquivalent; after an accepted check all of `words` and `scores` is zero.
-pub fn check(gold: &[u8], gate: &[u8], depth: u64, trace: &mut [u8], words: &mut [u32], scores: &mut [f64]) -> CheckAnswer {
+/// Checks whether two designs can ever differ, by k-induction for depths 1 to `depth`, in which each query may learn clauses of `limit` literals together: a
+/// refusal of 1 to 24 or 36, which leaves all buffers as they were, or a verdict. The trace is written for NotEquivalent; after an accepted check all of `words`
+/// and `scores` is zero.
+pub fn check(gold: &[u8], gate: &[u8], depth: u64, limit: u64, trace: &mut [u8], words: &mut [u32], scores: &mut [f64]) -> CheckAnswer {
     // The library reads the two records and writes the three buffers, as far as their lengths say; the borrows keep them apart.
     unsafe {
         boundary::struo_check(
@@ -81,6 +82,7 @@ pub fn check(gold: &[u8], gate: &[u8], depth: u64, trace: &mut [u8], words: &mut
             gate.as_ptr(),
             gate.len(),
             depth,
+            limit,
             trace.as_mut_ptr(),
             trace.len(),
             words.as_mut_ptr(),
@@ -139,6 +141,9 @@ mod tests {
         CheckAnswer { status: status as u32, depth: 1, learned_depth: 1, learned_query: 1, ..CheckAnswer::default() }
     }
 
+    /// The largest limit.
+    const LARGEST: u64 = LEARNED_LIMIT as u64;
+
     /// Memory for a check, none of it zero.
     fn memory() -> (Vec<u8>, Vec<u32>, Vec<f64>) {
         (vec![7; 80], vec![7; WORDS + 1], vec![7.0; SCORES + 1])
@@ -165,7 +170,7 @@ mod tests {
     #[test]
     fn a_difference_is_found_with_its_trace() {
         let (mut trace, mut words, mut scores) = memory();
-        let answer = check(WIRE, INVERTER, 1, &mut trace, &mut words, &mut scores);
+        let answer = check(WIRE, INVERTER, 1, LARGEST, &mut trace, &mut words, &mut scores);
         assert_eq!(answer, nothing_learned(Status::NotEquivalent));
         assert_eq!(trace[..2], [0, 1]);
         assert!(trace[2..].iter().all(|byte| *byte == 7));
@@ -176,7 +181,7 @@ mod tests {
     #[test]
     fn a_design_is_equivalent_to_itself() {
         let (mut trace, mut words, mut scores) = memory();
-        let answer = check(WIRE, WIRE, 64, &mut trace, &mut words, &mut scores);
+        let answer = check(WIRE, WIRE, 64, 0, &mut trace, &mut words, &mut scores);
         assert_eq!(answer, nothing_learned(Status::Equivalent));
         assert!(trace.iter().all(|byte| *byte == 7));
     }
@@ -185,10 +190,12 @@ mod tests {
     fn a_refused_check_changes_nothing() {
         let (mut trace, mut words, mut scores) = memory();
         words.truncate(WORDS - 1);
-        let answer = check(WIRE, INVERTER, 1, &mut trace, &mut words, &mut scores);
-        assert_eq!(answer, CheckAnswer { number: 24, ..CheckAnswer::default() });
-        assert!(trace.iter().all(|byte| *byte == 7) && words.iter().all(|word| *word == 7) && scores.iter().all(|score| *score == 7.0));
-        let answer = check(WIRE, &[], u64::MAX, &mut [], &mut [], &mut []);
+        for (depth, limit, number) in [(1, LARGEST, 24), (1, LARGEST + 1, 36), (1, (1 << 32) + 5, 36), (0, u64::MAX, 16), (65, u64::MAX, 17)] {
+            let answer = check(WIRE, INVERTER, depth, limit, &mut trace, &mut words, &mut scores);
+            assert_eq!(answer, CheckAnswer { number, ..CheckAnswer::default() });
+            assert!(trace.iter().all(|byte| *byte == 7) && words.iter().all(|word| *word == 7) && scores.iter().all(|score| *score == 7.0));
+        }
+        let answer = check(WIRE, &[], u64::MAX, u64::MAX, &mut [], &mut [], &mut []);
         assert_eq!(answer, CheckAnswer { number: 1, side: 1, ..CheckAnswer::default() });
     }
 
@@ -196,13 +203,12 @@ mod tests {
     fn a_checker_owns_its_memory() {
         let mut checker = Checker::new();
         for _ in 0..2 {
-            let verdict = checker.check(WIRE, INVERTER, 64).expect("both are accepted");
+            let verdict = checker.check(WIRE, INVERTER, Options::to_depth(64)).expect("both are accepted");
             assert_eq!(verdict.difference, Some(Difference { cycle: 0, trace: vec![0, 1] }));
-            let verdict = checker.check(WIRE, WIRE, 64).expect("both are accepted");
-            let expected = Verdict { status: Status::Equivalent, depth: 1, difference: None, query: None, learned: 0, learned_depth: 1, learned_query: 1 };
-            assert_eq!(verdict, expected);
+            let verdict = checker.check(WIRE, WIRE, Options::to_depth(64)).expect("both are accepted");
+            assert_eq!(verdict, equivalent(1, 0, (1, 1)));
         }
-        let refused = checker.check(WIRE, &WIRE[..5], 1).unwrap_err();
+        let refused = checker.check(WIRE, &WIRE[..5], Options::to_depth(1)).unwrap_err();
         assert_eq!(refused, Refused { refusal: Refusal::Length, side: Side::Gate, place: 0 });
     }
 
@@ -213,17 +219,72 @@ mod tests {
     const XOR: &[u8] = b"\x01\0\0\0\x1b\x01x\0\x04\0\x01a\0\x01b\x22\0\0\0\x01\x11\x01y\0\x02\0\0";
     const BY_GATES: &[u8] = b"\x01\0\0\0\x28\x01y\0\x07\0\x01a\0\x01b\x21\0\0\0\x01\x20\0\0\0\x01\x10\0\x03\x20\0\x02\0\x04\x11\x01y\0\x05\0\0";
 
+    /// y = q Xor f, where q is the second of two registers in a row after e, as one node, and by Or, And and Not over registers of other names.
+    const LATE: &[u8] = b"\x01\0\0\0\x45\x01l\0\x08\0\x03clk\0\x03rst\0\x01e\0\x01f\x02\x02\x22\0\x05\0\x03\x11\x01y\0\x06\0\x02\
+        \x01p\0\x04\0\x02\0\0\0\0\x01\0\x01\0\0\x01q\0\x05\0\x04\0\0\0\0\x01\0\x01\0\0";
+    const LATE_BY_GATES: &[u8] = b"\x01\0\0\0\x52\x01l\0\x0b\0\x03clk\0\x03rst\0\x01e\0\x01f\x02\x02\x21\0\x05\0\x03\x20\0\x05\0\x03\x10\0\x07\x20\0\x06\0\x08\
+        \x11\x01y\0\x09\0\x02\x01r\0\x04\0\x02\0\0\0\0\x01\0\x01\0\0\x01s\0\x05\0\x04\0\0\0\0\x01\0\x01\0\0";
+
+    /// The toggle with its register named p.
+    fn renamed() -> Vec<u8> {
+        let mut toggle = TOGGLE.to_vec();
+        toggle[31] = b'p';
+        toggle
+    }
+
+    /// A verdict Equivalent at a depth, in which the query of a depth and number learned most.
+    fn equivalent(depth: u32, learned: u32, (learned_depth, learned_query): (u32, u32)) -> Verdict {
+        Verdict { status: Status::Equivalent, depth, difference: None, query: None, learned, learned_depth, learned_query, proved_through: None }
+    }
+
+    #[test]
+    fn an_answer_is_laid_out_as_c_has_it() {
+        assert_eq!(std::mem::size_of::<CheckAnswer>(), 48);
+        assert_eq!((std::mem::offset_of!(CheckAnswer, learned_query), std::mem::offset_of!(CheckAnswer, equal), std::mem::offset_of!(CheckAnswer, through)), (36, 40, 44));
+    }
+
     #[test]
     fn the_most_learned_is_told_with_its_query() {
-        assert_eq!(std::mem::size_of::<CheckAnswer>(), 40);
-        let mut renamed = TOGGLE.to_vec();
-        renamed[31] = b'p';
+        let renamed = renamed();
         let mut checker = Checker::new();
-        for (gold, gate, learned, query) in [(TOGGLE, &renamed[..], 1, 3), (XOR, BY_GATES, 16, 1)] {
-            let verdict = checker.check(gold, gate, 1).expect("both are accepted");
-            assert_eq!((verdict.status, verdict.depth), (Status::Equivalent, 1));
-            assert_eq!((verdict.learned, verdict.learned_depth, verdict.learned_query), (learned, 1, query));
+        for (gold, gate, verdict) in [
+            (TOGGLE, &renamed[..], equivalent(1, 1, (1, 3))),
+            (XOR, BY_GATES, equivalent(1, 16, (1, 1))),
+            (LATE, LATE_BY_GATES, equivalent(2, 5, (2, 1))),
+        ] {
+            for limit in [u64::from(verdict.learned), LARGEST] {
+                assert_eq!(checker.check(gold, gate, Options::to_depth(8).limit(limit)), Ok(verdict.clone()));
+            }
         }
+    }
+
+    #[test]
+    fn a_give_up_tells_how_far_it_got() {
+        let renamed = renamed();
+        let mut checker = Checker::new();
+        for (gold, gate, limit, (depth, query), (learned, learned_depth), proved_through) in [
+            (TOGGLE, &renamed[..], 0, (1, 3), (0, 1), Some(1)),
+            (XOR, BY_GATES, 12, (1, 1), (11, 1), None),
+            (XOR, BY_GATES, 0, (1, 1), (0, 1), None),
+            (LATE, LATE_BY_GATES, 3, (2, 1), (3, 2), Some(1)),
+        ] {
+            let query = Some(query);
+            let expected = Verdict { status: Status::GaveUp, depth, difference: None, query, learned, learned_depth, learned_query: 1, proved_through };
+            assert_eq!(checker.check(gold, gate, Options::to_depth(8).limit(limit)), Ok(expected));
+        }
+    }
+
+    #[test]
+    fn a_limit_above_the_largest_is_refused() {
+        let mut checker = Checker::new();
+        assert_eq!(Options::to_depth(8), Options { depth: 8, limit: 262_144 });
+        assert!(checker.check(WIRE, WIRE, Options::to_depth(8)).is_ok());
+        for limit in [LARGEST + 1, (1 << 32) + 5, u64::MAX] {
+            let refused = checker.check(WIRE, TOGGLE, Options::to_depth(8).limit(limit)).unwrap_err();
+            assert_eq!(refused, Refused { refusal: Refusal::LearnedLimit, side: Side::Gold, place: 0 });
+            assert_eq!(refused.to_string(), "refused: 36 LearnedLimit: the limit of learned literals is over 262,144");
+        }
+        assert_eq!(checker.check(WIRE, TOGGLE, Options::to_depth(8)).unwrap_err().refusal, Refusal::InputInterface);
     }
 
     #[test]
@@ -266,9 +327,9 @@ mod tests {
         own[16] = 1;
         let refused = read(&own).result().unwrap_err();
         assert_eq!(refused.to_string(), "refused: 7 UndefinedNet: a node's input number is not below the node's own (gold node 1)");
-        assert_eq!(check(WIRE, WIRE, 0, &mut [], &mut [], &mut []).result().unwrap_err().to_string(), "refused: 16 ZeroDepth: the depth is 0");
-        assert!((1..=25).all(|number| Refusal::from_number(number).is_some_and(|refusal| refusal as u32 == number)));
-        assert!(Refusal::from_number(0).is_none() && Refusal::from_number(26).is_none());
+        assert_eq!(check(WIRE, WIRE, 0, 0, &mut [], &mut [], &mut []).result().unwrap_err().to_string(), "refused: 16 ZeroDepth: the depth is 0");
+        assert!((1..=25).chain([36]).all(|number| Refusal::from_number(number).is_some_and(|refusal| refusal as u32 == number)));
+        assert!([0, 26, 35, 37].into_iter().all(|number| Refusal::from_number(number).is_none()));
         assert!((0..4).all(|number| Status::from_number(number).is_some_and(|status| status as u32 == number)));
         assert!(Status::from_number(4).is_none());
         assert!(Status::Equivalent.to_string().starts_with("Equivalent: ") && Status::NotEquivalent.to_string().starts_with("NOT EQUIVALENT: "));

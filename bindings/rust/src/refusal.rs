@@ -1,4 +1,4 @@
-//! The refusals of the calls, in checking order, with side and place.
+//! The refusals of the calls by number, with side and place; that is the checking order but for 36, which a check tests after 17 and before 18.
 use std::error::Error;
 use std::fmt;
 
@@ -56,10 +56,12 @@ pub enum Refusal {
     Memory = 24,
     /// The cycle is over 64, the claim's length is not (cycle+1)×I + O, or a byte of it is neither 0 nor 1; of a step, also a register's stored bit.
     Claim = 25,
+    /// The limit of learned literals is over 262,144.
+    LearnedLimit = 36,
 }
 
-/// The refusals by number, from 1 on.
-const ALL: [Refusal; 25] = [
+/// The refusals by number.
+const ALL: [Refusal; 26] = [
     Refusal::Length,
     Refusal::Version,
     Refusal::Cut,
@@ -85,10 +87,11 @@ const ALL: [Refusal; 25] = [
     Refusal::TooLarge,
     Refusal::Memory,
     Refusal::Claim,
+    Refusal::LearnedLimit,
 ];
 
 impl Refusal {
-    /// The refusal of a number from 1 to 25.
+    /// The refusal of a number, 1 to 25 or 36.
     #[must_use]
     pub fn from_number(number: u32) -> Option<Self> {
         ALL.into_iter().find(|refusal| *refusal as u32 == number)
@@ -123,6 +126,7 @@ impl Refusal {
             Self::TooLarge => "(D+1)×F + R is over 65,535, where F = I + 3×N + 10×R + 4×O + 1",
             Self::Memory => "the trace buffer is under (D+1)×I + O bytes, or the work memory is under 8,388,608 words of 32 bits or under 65,536 f64; of a begin or a step, the bits are under 256 bytes",
             Self::Claim => "the cycle is over 64, the claim's length is not (cycle+1)×I + O, or a byte of it is neither 0 nor 1; of a step, also a register's stored bit",
+            Self::LearnedLimit => "the limit of learned literals is over 262,144",
         }
     }
 }

@@ -1,5 +1,6 @@
 -- What the calls answer, in the specification's numbers. Definitions only.
 use mathlib.Core.List.{List}
+use mathlib.Core.Option.{Option, none, some}
 use Prim.Native.Nat.{ℕ}
 use lib.Ieee.{Float}
 use Rattle.model.specs.Answers as Answers
@@ -7,6 +8,8 @@ use Rattle.model.specs.Check.{CheckResult}
 use Rattle.calls.specs.declared.answers.ReadAnswer.{ReadAnswer}
 use Rattle.calls.specs.declared.answers.ReplayAnswer.{ReplayAnswer}
 use Rattle.calls.specs.declared.answers.Asked.{Asked}
+use Rattle.calls.specs.declared.answers.Proved.{Proved}
+use Rattle.calls.specs.declared.answers.Proved.the-variants.{Nothing, Through}
 use Rattle.calls.specs.declared.answers.CheckAnswer.{CheckAnswer}
 
 -- the three numbers of a read
@@ -21,7 +24,12 @@ replayOf r = record { refusal = record { number = r .number; side = r .side; pla
 unfoldable pub askedOf : Asked → Answers.Asked
 askedOf a = record { depth = a .depth; query = a .query; learned = a .learned }
 
--- the ten numbers of a check
+-- through which cycle outputs are proved equal, or none
+unfoldable pub provedOf : Proved → Option ℕ
+provedOf Nothing = none
+provedOf (Through c) = some c
+
+-- the twelve numbers of a check
 unfoldable pub checkOf : CheckAnswer → Answers.CheckAnswer
 checkOf r =
     record {
@@ -35,6 +43,8 @@ checkOf r =
       learned = r .learned;
       learnedDepth = r .«learned_depth»;
       learnedQuery = r .«learned_query»;
+      equal = r .equal;
+      through = r .through;
     }
 
 -- the numbers of a check, and trace, words and scores after the call

@@ -1,5 +1,6 @@
 // Runs the specification's cases that are run, and writes what each check answers.
 use calls::answers::CheckAnswer;
+use calls::options::LIMIT;
 use designs::conjunction;
 use designs::counter;
 use designs::holding;
@@ -14,8 +15,9 @@ fn tell_number(name: &[u8], value: u32) {
     io::print_decimal(STDOUT_FILENO, value as u64);
 }
 
-// All ten numbers of an answer.
+// All numbers of an answer, `equal` as 0 or 1.
 fn tell(what: &[u8], answer: CheckAnswer) {
+    let equal = if answer.equal { 1 } else { 0 };
     io::write_all(STDOUT_FILENO, what);
     tell_number(b": number ", answer.number);
     tell_number(b", side ", answer.side);
@@ -27,10 +29,12 @@ fn tell(what: &[u8], answer: CheckAnswer) {
     tell_number(b", learned ", answer.learned);
     tell_number(b", learned_depth ", answer.learned_depth);
     tell_number(b", learned_query ", answer.learned_query);
+    tell_number(b", equal ", equal);
+    tell_number(b", through ", answer.through);
     io::write_all(STDOUT_FILENO, b"\n");
 }
 
-// Checks one record against another and writes the answer after its name.
+// Checks one record against another under the largest limit and writes the answer after its name.
 fn run(
     what: &[u8],
     gold: Record,
@@ -46,6 +50,7 @@ fn run(
         first(&ours, gold.length),
         first(&theirs, gate.length),
         depth,
+        LIMIT,
         trace,
         words,
         scores,

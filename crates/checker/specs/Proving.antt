@@ -5,7 +5,7 @@ use mathlib.Core.Bool.{Bool}
 use mathlib.Core.List.{List}
 use native.Mathlib.Omega.{arith}
 use lib.Ieee.{Float}
-use Rattle.words.specs.Layout.{MOST-NODES, MOST-LEARNED}
+use Rattle.words.specs.Layout.{MOST-NODES}
 use Rattle.model.specs.Netlist.{inputCount, outputCount, registerCount}
 use Rattle.model.specs.Options.{Options}
 use Rattle.model.specs.Pair.{nodesPerCycle, proofNodes, traceLength}
@@ -26,7 +26,7 @@ use Rattle.checker.specs.Room.{side-small, cycles-fit}
 use Rattle.checker.specs.Sides.{SidesMade}
 
 module _ (s : List ℕ) (x : Design) (g : List Bool) (t : List ℕ) (y : Design) (h : List Bool) (p : Problem) (w : List ℕ) (o : Options) (trace words : List ℕ) (scores : List Float)
-    (v : Sided s x) (u : Sided t y) (limited : o .limit ≤ MOST-LEARNED) (m : SidesMade s x g t y h p w)
+    (v : Sided s x) (u : Sided t y) (m : SidesMade s x g t y h p w)
     (k : Accepted (decoded s (x .netlist)) (decoded t (y .netlist)) o (Model.lentOf trace words scores)) where
   inputs-are : p .gold .«input_count» ≡ inputCount (decoded s (x .netlist))
   inputs-are = m .gold-inputs ∙ count-inputs s x (v .ordered)
@@ -71,7 +71,7 @@ module _ (s : List ℕ) (x : Design) (g : List Bool) (t : List ℕ) (y : Design)
         long = m .long;
         scores-long = k .scores-long;
         trace-long = rw (inputs-are, outputs-are) (k .trace-long);
-        limited = limited;
+        limited = k .limit-small;
         some = k .depth-some;
         shallow = k .depth-small;
         paired = paired;

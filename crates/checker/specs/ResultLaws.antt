@@ -1,31 +1,38 @@
 -- The result of a check from its parts: the pair read, the first refusal, the verdict and the cleared memory. Assumes nothing.
 use Prim.Native.Nat.{ℕ, _-_, _≤_}
-use mathlib.Core.Path.{_≡_, refl, ap, ap₂, _∙_}
-use mathlib.Core.Bool.{Bool}
+use mathlib.Core.Path.{_≡_, refl, sym, ap, ap₂, _∙_}
+use mathlib.Core.Bool.{Bool, cond}
 use mathlib.Core.List.{List, [], _∷_, map}
 use mathlib.Core.Option.{Option, none, some}
 use native.Mathlib.Omega.{arith}
+use lib.Dec.{eqb}
 use lib.Ieee.{Float}
 use lib.ListN.{length}
 use Rattle.words.specs.Layout.{LENT, MOST-LEARNED}
-use Rattle.model.specs.Answers.{Refusal}
+use Rattle.model.specs.Answers.{Refusal, statusNumber, acceptedAnswer}
 use Rattle.model.specs.Answers as Numbers
 use Rattle.model.specs.Options.{Options}
 use Rattle.model.specs.Netlist.{Design, registersByName}
 use Rattle.model.specs.Names.{Place}
 use Rattle.model.specs.Sat.{scoreZero}
 use Rattle.model.specs.Run.{StoredBits, bitAt, initialBits, byName}
-use Rattle.model.specs.Equivalence.{Problem, Outcome, proveSequentialEquivalence, largestLearned}
+use Rattle.model.specs.Equivalence as Model
+use Rattle.model.specs.Equivalence.{Problem, Outcome, proveSequentialEquivalence, largestLearned, provedThrough}
 use Rattle.model.specs.Pair.{Lent, both, refusedPair, readPair, checkFault}
 use Rattle.model.specs.Check.{CheckResult, refusedCheck, acceptedCheck, problemOf, checkDesigns, checkPair, checkRead, checkOutcome, verdictAnswer, verdictTrace, checkAnswer, traceAfter, clearedAfter, checkResult, lentOf}
+use Rattle.laws.specs.Terms.{provedByPlace}
 use Rattle.laws.specs.Check.Asked.{largest-within}
+use Rattle.laws.specs.Check.Proved.{prove-place}
 use Rattle.calls.specs.Answers.{askedOf, checkOf, checkedOf}
 use Rattle.calls.specs.declared.answers.Asked.{Asked}
 use Rattle.calls.specs.declared.answers.CheckAnswer.{CheckAnswer}
 use Rattle.run.specs.RunTables.{padded}
 use Rattle.run.specs.RunLaws.{Alike, bitAt-append}
 use Rattle.refusals.specs.RefusalLaws.{accepted}
-use Rattle.checker.specs.Results.{Cleared}
+use Rattle.queries.specs.Problem.{answerOfVerdict}
+use Rattle.queries.specs.declared.problem.Verdict.{Verdict}
+use Rattle.queries.specs.declared.problem.Verdict.the-variants as Verdicts
+use Rattle.checker.specs.Results.{Cleared, provedBy}
 
 -- ---- a call that is refused
 
@@ -61,6 +68,48 @@ pub pair-accepted : (r : CheckResult) (trace words : List ℕ) (scores : List Fl
 unfolding checkPair
 pair-accepted r trace words scores o gold gate f e h = rw e h
 
+-- ---- what is proved
+
+-- by the status, depth and query of an answer
+provedIn : Numbers.CheckAnswer → Option ℕ
+provedIn c = cond (eqb (c .status) 3) (provedByPlace (c .depth) (c .query)) none
+
+verdict-in : (u : Verdict) (a : Numbers.Asked) → provedBy u ≡ provedIn (answerOfVerdict u a none)
+unfolding provedBy provedIn answerOfVerdict acceptedAnswer statusNumber
+verdict-in (Verdicts.Equivalent d) a = refl
+verdict-in (Verdicts.NotEquivalent d m) a = refl
+verdict-in (Verdicts.Inconclusive d) a = refl
+verdict-in (Verdicts.GaveUp d q) a = refl
+
+-- the model's verdict has proved what its answer's numbers say
+outcome-in : (limit : ℕ) (p : Problem) (D : ℕ) (a : Numbers.Asked)
+    → provedIn (verdictAnswer (proveSequentialEquivalence limit p D .verdict) a none) ≡ provedThrough (proveSequentialEquivalence limit p D .verdict) (proveSequentialEquivalence limit p D .asked)
+unfolding provedIn verdictAnswer acceptedAnswer statusNumber provedThrough
+outcome-in limit p D a = go (proveSequentialEquivalence limit p D .verdict) refl
+  where
+    go : (v : Model.Verdict) → proveSequentialEquivalence limit p D .verdict ≡ v → provedIn (verdictAnswer v a none) ≡ provedThrough v (proveSequentialEquivalence limit p D .asked)
+    go (Model.Equivalent d) e = refl
+    go (Model.NotEquivalent d m bytes) e = refl
+    go (Model.Inconclusive d) e = refl
+    go (Model.GaveUp d q) e = sym (prove-place limit p D d q e) ∙ ap (λ (v : Model.Verdict). provedThrough v (proveSequentialEquivalence limit p D .asked)) e
+    go Model.OutOfFuel e = refl
+
+-- the verdict alone tells what the queries asked have proved
+proved-by-verdict : (limit : ℕ) (p : Problem) (D : ℕ) (u : Verdict) (a : Numbers.Asked) → answerOfVerdict u a ≡ verdictAnswer (proveSequentialEquivalence limit p D .verdict) a
+    → provedBy u ≡ provedThrough (proveSequentialEquivalence limit p D .verdict) (proveSequentialEquivalence limit p D .asked)
+proved-by-verdict limit p D u a e = verdict-in u a ∙ ap (λ (f : Option ℕ → Numbers.CheckAnswer). provedIn (f none)) e ∙ outcome-in limit p D a
+
+-- so the answer is that of the model's outcome
+pub answer-of : (limit : ℕ) (p : Problem) (D : ℕ) (u : Verdict) (m : Asked) → ((a : Numbers.Asked) → answerOfVerdict u a ≡ verdictAnswer (proveSequentialEquivalence limit p D .verdict) a)
+    → askedOf m ≡ largestLearned (proveSequentialEquivalence limit p D .asked)
+    → answerOfVerdict u (askedOf m) (provedBy u)
+    ≡ verdictAnswer (proveSequentialEquivalence limit p D .verdict) (largestLearned (proveSequentialEquivalence limit p D .asked)) (provedThrough (proveSequentialEquivalence limit p D .verdict) (proveSequentialEquivalence limit p D .asked))
+answer-of limit p D u m e h =
+    ap (λ (f : Option ℕ → Numbers.CheckAnswer). f (provedBy u)) (e (askedOf m))
+    ∙ ap₂ (verdictAnswer (proveSequentialEquivalence limit p D .verdict)) h (proved-by-verdict limit p D u (askedOf m) (e (askedOf m)))
+
+-- ---- what was learned
+
 -- the most that a query learns is within every limit
 pub most-small : (limit : ℕ) (p : Problem) (D : ℕ) (m : Asked) → limit ≤ MOST-LEARNED → askedOf m ≡ largestLearned (proveSequentialEquivalence limit p D .asked) → m .learned ≤ 262144
 unfolding askedOf
@@ -68,9 +117,11 @@ most-small limit p D m h e =
     let same : m .learned ≡ largestLearned (proveSequentialEquivalence limit p D .asked) .learned = ap (λ (a : Numbers.Asked). a .learned) e in
     omega (arith, same, largest-within limit p D, h)
 
--- the verdict is answered with the query that learned most, its trace is written, and all work memory is zero
+-- ---- the whole result
+
+-- the verdict is answered with the query that learned most and what is proved, its trace is written, and all work memory is zero
 pub proved : (r : CheckAnswer) (o : Outcome) (trace trace′ words words₁ words′ : List ℕ) (scores scores₁ scores′ : List Float)
-    → checkOf r ≡ verdictAnswer (o .verdict) (largestLearned (o .asked)) → trace′ ≡ verdictTrace (o .verdict) trace → Cleared 0 words₁ words′ → Cleared scoreZero scores₁ scores′
+    → checkOf r ≡ verdictAnswer (o .verdict) (largestLearned (o .asked)) (provedThrough (o .verdict) (o .asked)) → trace′ ≡ verdictTrace (o .verdict) trace → Cleared 0 words₁ words′ → Cleared scoreZero scores₁ scores′
     → length words₁ ≡ length words → length scores₁ ≡ length scores
     → checkedOf r trace′ words′ scores′ ≡ checkResult (acceptedCheck o) trace words scores
 unfolding checkedOf checkResult checkAnswer traceAfter clearedAfter

@@ -1,8 +1,20 @@
--- Cleared memory. Definitions only.
+-- Cleared memory, and what a verdict has proved. Definitions only.
+use Prim.Native.Nat.{ℕ}
 use mathlib.Core.Path.{_≡_}
 use mathlib.Core.List.{List}
+use mathlib.Core.Option.{Option, none}
 use lib.ListN.{length, replicate}
+use Rattle.laws.specs.Terms.{provedByPlace}
+use Rattle.queries.specs.declared.problem.Verdict.{Verdict}
+use Rattle.queries.specs.declared.problem.Verdict.the-variants.{Equivalent, NotEquivalent, Inconclusive, GaveUp}
 
 -- ys is as long as xs, and all of it is z
 pub record Cleared {A : Type 0} (z : A) (xs ys : List A) : Type 0 where
   pub is : ys ≡ replicate (length xs) z
+
+-- through which cycle outputs are proved equal, by the verdict alone
+unfoldable pub provedBy : Verdict → Option ℕ
+provedBy (Equivalent d) = none
+provedBy (NotEquivalent d m) = none
+provedBy (Inconclusive d) = none
+provedBy (GaveUp d q) = provedByPlace d q

@@ -1,8 +1,6 @@
-// The check of two accepted records: the first refusal of 16 to 24, or the proof, after which all work memory is zero.
+// The check of two accepted records: the first refusal of the pair, or the proof, after which all work memory is zero.
 ghost use mathlib.Core.Path.{_≡_};
 ghost use mathlib.Core.Option.{none};
-ghost use Prim.Native.Nat.{_≤_};
-ghost use Rattle.words.specs.Layout.{MOST-LEARNED};
 ghost use Rattle.model.specs.Check as Model;
 ghost use Rattle.model.specs.Check.{acceptedCheck, checkDesigns, checkPair, checkResult};
 ghost use Rattle.model.specs.Pair.{checkFault};
@@ -47,7 +45,7 @@ fn prove(
     words: &mut [u32],
     scores: &mut [f64],
 ) -> CheckAnswer
-    requires { ⌜ (Sided (now gold) «gold_design») × (Sided (now gate) «gate_design») × (options .limit ≤ MOST-LEARNED)
+    requires { ⌜ (Sided (now gold) «gold_design») × (Sided (now gate) «gate_design»)
         × (checkFault (decoded (now gold) («gold_design» .netlist)) (decoded (now gate) («gate_design» .netlist)) (optionsOf options) (Model.lentOf (now trace) (now words) (now scores)) ≡ none) ⌝ }
     ensures { λ r. ⌜ checkedOf r (now (trace .exit)) (now (words .exit)) (now (scores .exit))
         ≡ checkResult (acceptedCheck (checkDesigns (optionsOf options) (decoded (now (gold .entry)) («gold_design» .netlist)) (decoded (now (gate .entry)) («gate_design» .netlist)) «gold_row» «gate_row»))
@@ -67,7 +65,7 @@ fn prove(
     answered(outcome)
 }
 
-// The check of two accepted records from their initial states: the first refusal of 16 to 24, or the proof.
+// The check of two accepted records from their initial states: the first refusal of 16, 17, 36 and 18 to 24, or the proof.
 pub fn check_pair(
     gold: &[u8],
     gold_design: Design,
@@ -78,7 +76,7 @@ pub fn check_pair(
     words: &mut [u32],
     scores: &mut [f64],
 ) -> CheckAnswer
-    requires { ⌜ (Sided (now gold) «gold_design») × (Sided (now gate) «gate_design») × (options .limit ≤ MOST-LEARNED) ⌝ }
+    requires { ⌜ (Sided (now gold) «gold_design») × (Sided (now gate) «gate_design») ⌝ }
     ensures { λ r. ⌜ checkedOf r (now (trace .exit)) (now (words .exit)) (now (scores .exit))
         ≡ checkResult (checkPair (optionsOf options) (decoded (now (gold .entry)) («gold_design» .netlist)) (decoded (now (gate .entry)) («gate_design» .netlist))
         (checkFault (decoded (now (gold .entry)) («gold_design» .netlist)) (decoded (now (gate .entry)) («gate_design» .netlist)) (optionsOf options) (Model.lentOf (now (trace .entry)) (now (words .entry)) (now (scores .entry)))))

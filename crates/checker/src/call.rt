@@ -1,21 +1,17 @@
 // The call check: both records are read, gold wholly, then gate; two accepted records are checked as a pair.
 ghost use mathlib.Core.Path.{_≡_};
-ghost use Prim.Native.Nat.{_≤_};
-ghost use Rattle.words.specs.Layout.{MOST-LEARNED};
 ghost use Rattle.model.specs.Check as Model;
-ghost use Rattle.model.specs.Check.{checkOutcome, checkResult};
 ghost use Rattle.calls.specs.Answers.{checkedOf};
 ghost use Rattle.calls.specs.Options.{optionsOf};
 use crate::accepted::check_pair;
 use calls::answers::CheckAnswer;
 use calls::answers::refused_check;
 use calls::fault::Fault;
-use calls::options::LIMIT;
 use calls::options::Options;
 use pair::reading::read_pair;
 
-// The check of a pair under a caller's options, from the bytes of both records and the buffers lent.
-pub fn check_under(
+// The check of a pair under a caller's options: nothing is asked of records, options or buffers.
+pub fn check(
     gold: &[u8],
     gate: &[u8],
     options: Options,
@@ -23,9 +19,8 @@ pub fn check_under(
     words: &mut [u32],
     scores: &mut [f64],
 ) -> CheckAnswer
-    requires { ⌜ options .limit ≤ MOST-LEARNED ⌝ }
     ensures { λ r. ⌜ checkedOf r (now (trace .exit)) (now (words .exit)) (now (scores .exit))
-        ≡ checkResult (checkOutcome (now (gold .entry)) (now (gate .entry)) (optionsOf options) (Model.lentOf (now (trace .entry)) (now (words .entry)) (now (scores .entry)))) (now (trace .entry)) (now (words .entry)) (now (scores .entry)) ⌝ }
+        ≡ Model.check (now (gold .entry)) (now (gate .entry)) (optionsOf options) (now (trace .entry)) (now (words .entry)) (now (scores .entry)) ⌝ }
 {
     let reading = read_pair(gold, gate);
     let fault = reading.fault;
@@ -46,23 +41,4 @@ pub fn check_under(
             )
         }
     }
-}
-
-// The check of a pair to a maximum depth, under the limit of learned literals: nothing is asked of records, depth or buffers.
-pub fn check(
-    gold: &[u8],
-    gate: &[u8],
-    depth: u64,
-    trace: &mut [u8],
-    words: &mut [u32],
-    scores: &mut [f64],
-) -> CheckAnswer
-    ensures { λ r. ⌜ checkedOf r (now (trace .exit)) (now (words .exit)) (now (scores .exit))
-        ≡ Model.check (now (gold .entry)) (now (gate .entry)) depth (now (trace .entry)) (now (words .entry)) (now (scores .entry)) ⌝ }
-{
-    let options = Options {
-        depth,
-        limit: LIMIT,
-    };
-    check_under(gold, gate, options, trace, words, scores)
 }

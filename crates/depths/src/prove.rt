@@ -20,7 +20,7 @@ pub fn prove_sequential_equivalence(
     requires { ⌜ Provable problem (options .limit) (options .depth) (now words) (now scores) (now trace) ⌝ }
     ensures { λ r. ⌜ Proves problem (options .limit) (options .depth) (now (words .entry)) (now (trace .entry)) r (now (trace .exit)) ⌝ }
 {
-    let limit = options.limit;
+    let limit = options.limit as usize;
     let max_depth = options.depth as usize;
     let mut depth: usize = 0;
     let mut most = Asked {

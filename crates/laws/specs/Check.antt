@@ -14,10 +14,14 @@ pub mod Replaying
 pub mod Queries
 pub mod Walk
 pub mod Asked
+pub mod Learned
+pub mod Limited
 pub mod LargerLimit
 pub mod GiveUp
-pub mod Learned
 -- the call, and demand 3 in its numbers
 pub mod Self
 pub mod Numbers
 pub mod Demand3
+-- what a check that gives up has proved, and how far a larger limit gets
+pub mod Proved
+pub mod GoingOn

@@ -4,7 +4,7 @@ use native.Mathlib.Omega.{arith}
 use mathlib.Core.Path.{_≡_, refl, sym, ap, subst, _∙_}
 use mathlib.Core.Logic.{_⊎_, inl, inr}
 use mathlib.Core.Bool.{Bool, true, false, _||_}
-use mathlib.Core.List.{List, [], _∷_, List·Memᴰ, List·Memᴰ·cases-cons, List·Memᴰ·not-nil}
+use mathlib.Core.List.{List, [], _∷_, _++_, List·Memᴰ, List·Memᴰ·head, List·Memᴰ·tail, List·Memᴰ·cases-cons, List·Memᴰ·not-nil, Memᴰ·cast}
 use lib.ListN.{length, getD, List·getD-append, length-append}
 use lib.Seq.{getD-append-seam}
 use lib.Dec.{eqb}
@@ -83,3 +83,25 @@ last-is a (y ∷ ys) x = last-is y ys x
 -- two lists that are equal have the same last element
 pub last-same : {A : Type 0} (xs ys : List A) (x y : A) → snoc xs x ≡ snoc ys y → x ≡ y
 last-same xs ys x y e = sym (last-is x xs x) ∙ ap (lastOf x) e ∙ last-is x ys y
+
+last-after : {A : Type 0} (c : A) (before : List A) (a : A) (after : List A) → lastOf c (before ++ (a ∷ after)) ≡ lastOf a after
+unfolding lastOf
+last-after c [] a after = refl
+last-after c (b ∷ before) a after = last-after b before a after
+
+last-among : {A : Type 0} (a : A) (after : List A) → (lastOf a after ≡ a) ⊎ List·Memᴰ (lastOf a after) after
+unfolding lastOf
+last-among a [] = inl refl
+last-among a (b ∷ after) = inr (go (last-among b after))
+  where
+    go : (lastOf b after ≡ b) ⊎ List·Memᴰ (lastOf b after) after → List·Memᴰ (lastOf b after) (b ∷ after)
+    go (inl e) = List·Memᴰ·head e
+    go (inr m) = List·Memᴰ·tail m
+
+-- an element of a list is the last one, or the last one stands after it
+pub last-or-later : {A : Type 0} (before after xs : List A) (a x : A) → before ++ (a ∷ after) ≡ snoc xs x → (a ≡ x) ⊎ List·Memᴰ x after
+last-or-later before after xs a x e = go (sym (last-after a before a after) ∙ ap (lastOf a) e ∙ last-is a xs x) (last-among a after)
+  where
+    go : lastOf a after ≡ x → (lastOf a after ≡ a) ⊎ List·Memᴰ (lastOf a after) after → (a ≡ x) ⊎ List·Memᴰ x after
+    go z (inl k) = inl (sym k ∙ z)
+    go z (inr m) = inr (Memᴰ·cast (sym z) m)

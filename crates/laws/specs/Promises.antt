@@ -1,9 +1,9 @@
--- What is promised of the check, of replay, of the stepping call and of read, on one page and with nothing assumed. Every word here is of `model`, or of `Terms` and `StepTerms`, which add a few definitions over `model` alone. `checked` is the definition of the check of two records under a caller's options (maximum depth and limit of learned literals), as a refusal or a status and a depth; `check` is the call, to a depth D under the specification's limit 262,144, with every number and every lent byte; `checkDesigns` is the check of two designs, each from its own start bits. Assumes nothing.
+-- What is promised of the check, of replay, of the stepping call and of read, on one page and with nothing assumed. Every word here is of `model`, or of `Terms` and `StepTerms`, which add a few definitions over `model` alone. `checked` is the definition of the check of two records under a caller's options (maximum depth and limit of learned literals), as a refusal or a status and a depth; `check` is the call, under the same options, with every number and every lent byte; `checkDesigns` is the check of two designs, each from its own start bits. Assumes nothing.
 use Prim.Native.Nat.{ℕ, suc, _/_, _≤_, _<_}
 use mathlib.Core.Path.{_≡_}
 use mathlib.Core.Logic.{_≢_, _⊎_, _↔_}
 use mathlib.Core.Bool.{Bool, true, false}
-use mathlib.Core.List.{List, _∷_, _++_, List·Memᴰ}
+use mathlib.Core.List.{List, [], _∷_, _++_, List·Memᴰ}
 use mathlib.Core.Option.{none, some}
 use lib.ListN.{length, getD, drop, replicate}
 use lib.Ieee.{Float}
@@ -21,11 +21,11 @@ use Rattle.model.specs.Induction.{Query1, Says, Begun, initially, SameOutputs, 
 use Rattle.model.specs.Literal.{Literal}
 use Rattle.model.specs.Aig.{Aig, evaluate, aigNodeValues}
 use Rattle.model.specs.Sat.{Solver, scoreZero, model, noModel, gaveUp, outOfFuel, encode, solve}
-use Rattle.model.specs.Equivalence.{Problem, Query, ask, largestLearned}
+use Rattle.model.specs.Equivalence.{Problem, Query, ask, largestLearned, provedThrough}
 use Rattle.model.specs.Equivalence as Search
 use Rattle.model.specs.Check.{problemOf, checkDesigns, acceptedCheck, checkOutcome, checkResult, lentOf, check, checked}
 use Rattle.laws.specs.Search.Limits.{give-up-needed}
-use Rattle.laws.specs.Terms.{Within, OfRecord, UpToKind, OfReplay, replayRefusal, RefusedWith, UnusedZero, learnedOf, AsBefore, Called, TraceLeft, CalledEquivalent, Comparable, checkedDesigns, LargerLimit, Linked, JoinedDesigns, TraceGood, Yes, Settled, answerTotal, literalCount, Reached, GivesUp, QueryOf, Asks, StopsAt, Told, Sooner, FirstLargest, LastGivesUp}
+use Rattle.laws.specs.Terms.{OfRecord, UpToKind, OfCheck, OfReplay, replayRefusal, RefusedWith, UnusedZero, learnedOf, provedOf, AsOutcome, Called, TraceLeft, CalledEquivalent, Comparable, checkedDesigns, LargerLimit, outcomeTo, OverLimit, Linked, JoinedDesigns, TraceGood, Yes, Settled, answerTotal, literalCount, Reached, GivesUp, QueryOf, Asks, StopsAt, Told, Sooner, FirstLargest, LastGivesUp, EqualThrough, provedByPlace, GoesOn, AsFar}
 use Rattle.laws.specs.StepTerms.{beginRefusal, stepRefusal, OfBegin, OfStep, afterBegin, stepAnswer, afterSteps, runPosition, heldAt, movedFrom, BytesKept, SameBits}
 use Rattle.laws.specs.Record.KindBytes.{node-counted, unlisted-refused}
 use Rattle.laws.specs.Induction.Chain.{chain-outputs}
@@ -35,8 +35,10 @@ use Rattle.laws.specs.Check.Self.{designs-self, check-self-depth, check-
 use Rattle.laws.specs.Check.Designs.{designs-sound, designs-said, designs-find, designs-equivalent, designs-trace, designs-swap, designs-chain}
 use Rattle.laws.specs.Check.Records.{check-sound, check-said, check-finds, check-equivalent, check-replays, check-swap, check-chain}
 use Rattle.laws.specs.Check.Ending.{designs-answer, check-answers}
-use Rattle.laws.specs.Check.LargerLimit.{designs-larger, check-larger, result-larger}
+use Rattle.laws.specs.Check.LargerLimit.{designs-larger, check-larger, result-larger, call-larger}
+use Rattle.laws.specs.Check.GoingOn.{designs-go-on, call-as-far}
 use Rattle.laws.specs.Check.Refusals.{check-within, replay-within, begin-within, step-within}
+use Rattle.laws.specs.Check.Limited.{over-limit, above-refused, refuse-alike, call-as-none}
 use Rattle.laws.specs.Check.Reading.{read-zero, read-answers, gold-refused, gate-refused}
 use Rattle.laws.specs.Replay.{steps-replay, agree-every, every-agree}
 use Rattle.laws.specs.Stepping.{begin-zero, step-zero, begin-refuses, step-refuses, steps-run, steps-no, steps-answer, step-past, step-runs, begin-kept, step-kept, step-alike}
@@ -44,7 +46,8 @@ use Rattle.laws.specs.Check.Replaying.{replay-rule, replay-refused-with,
 use Rattle.laws.specs.Check.Queries.{query-ends, query-refutes, query-evaluates, query-gives-up, query-total, no-model-no, model-yes, query-size, query-fits}
 use Rattle.laws.specs.Check.GiveUp.{designs-give-up, designs-last, call-gives-up}
 use Rattle.laws.specs.Check.Asked.{designs-first, designs-ordered, designs-told}
-use Rattle.laws.specs.Check.Learned.{designs-largest, call-largest, call-within, call-nothing, call-as-before}
+use Rattle.laws.specs.Check.Learned.{designs-largest, call-largest, call-within, call-nothing, call-as-outcome}
+use Rattle.laws.specs.Check.Proved.{designs-proved, designs-place, call-proved, call-beyond, call-found-beyond, call-place, call-proved-nothing}
 use Rattle.laws.specs.Check.Numbers.{called, call-checked, unused-zero, trace-left, trace-kept}
 use Rattle.laws.specs.Check.Demand3.{number-zero, call-joins, call-joins-back, call-never, calls-join, calls-never, call-swap, call-swap-refused, call-self}
 
@@ -58,13 +61,13 @@ refused-exactly = check-refuses
 pub else-answered : (a b : List ℕ) (o : Options) (lent : Lent) → checkRefusal a b o lent ≡ none → (status : Status) × (d : ℕ) × (checked a b o lent ≡ answered status d)
 else-answered = check-answers
 
--- every refusal of a check has a number from 1 to 24: 25 is a replay's alone
-pub refusal-numbered : (a b : List ℕ) (o : Options) (lent : Lent) (r : Refusal) → checkRefusal a b o lent ≡ some r → Within 1 24 r
+-- every refusal of a check has a number from 1 to 24, or is 36 with side and place 0
+pub refusal-numbered : (a b : List ℕ) (o : Options) (lent : Lent) (r : Refusal) → checkRefusal a b o lent ≡ some r → OfCheck r
 refusal-numbered = check-within
 
 -- so the call answers number 0 exactly where no refusal applies
-pub number-zero-exactly : (a b : List ℕ) (D : ℕ) (trace words : List ℕ) (scores : List Float)
-    → (check a b D trace words scores .answer .number ≡ 0) ↔ (checkRefusal a b (toDepth D) (lentOf trace words scores) ≡ none)
+pub number-zero-exactly : (a b : List ℕ) (o : Options) (trace words : List ℕ) (scores : List Float)
+    → (check a b o trace words scores .answer .number ≡ 0) ↔ (checkRefusal a b o (lentOf trace words scores) ≡ none)
 number-zero-exactly = number-zero
 
 -- the call read answers number 0 exactly where the bytes are parsed to a design that no check refuses
@@ -92,32 +95,32 @@ pub gate-refused-next : (a b : List ℕ) → read a .number ≡ 0 → read b .nu
 gate-refused-next = gate-refused
 
 -- a refused call: the refusal's three numbers, the others 0, and every lent buffer as it was
-pub refusal-leaves-memory : (gold gate : List ℕ) (D : ℕ) (trace words : List ℕ) (scores : List Float) (r : Refusal)
-    → checkRefusal gold gate (toDepth D) (lentOf trace words scores) ≡ some r
-    → check gold gate D trace words scores
+pub refusal-leaves-memory : (gold gate : List ℕ) (o : Options) (trace words : List ℕ) (scores : List Float) (r : Refusal)
+    → checkRefusal gold gate o (lentOf trace words scores) ≡ some r
+    → check gold gate o trace words scores
     ≡ record { answer = refusedAnswer r; trace = trace; words = words; scores = scores }
 refusal-leaves-memory = check-refused
 
--- an accepted call: side and place are 0, the mismatch unless the status is 1, and the query unless it is 3
-pub unused-numbers-zero : (a b : List ℕ) (D : ℕ) (trace words : List ℕ) (scores : List Float) → checkRefusal a b (toDepth D) (lentOf trace words scores) ≡ none
-    → UnusedZero (check a b D trace words scores .answer)
+-- an accepted call: side and place are 0, the mismatch unless the status is 1, the query and what is proved unless it is 3
+pub unused-numbers-zero : (a b : List ℕ) (o : Options) (trace words : List ℕ) (scores : List Float) → checkRefusal a b o (lentOf trace words scores) ≡ none
+    → UnusedZero (check a b o trace words scores .answer)
 unused-numbers-zero = unused-zero
 
 -- an accepted call leaves words and scores zero over their whole length
-pub acceptance-clears-memory : (gold gate : List ℕ) (D : ℕ) (trace words : List ℕ) (scores : List Float)
-    → checkRefusal gold gate (toDepth D) (lentOf trace words scores) ≡ none
-    → (check gold gate D trace words scores .words ≡ replicate (length words) 0)
-    × (check gold gate D trace words scores .scores ≡ replicate (length scores) scoreZero)
+pub acceptance-clears-memory : (gold gate : List ℕ) (o : Options) (trace words : List ℕ) (scores : List Float)
+    → checkRefusal gold gate o (lentOf trace words scores) ≡ none
+    → (check gold gate o trace words scores .words ≡ replicate (length words) 0)
+    × (check gold gate o trace words scores .scores ≡ replicate (length scores) scoreZero)
 acceptance-clears-memory = check-cleared
 
 -- after status 1 the trace buffer begins with bytes that replay answers with yes at the mismatch answered, which is at most the depth answered, and all its other bytes stay
-pub call-leaves-trace : (a b : List ℕ) (D : ℕ) (trace words : List ℕ) (scores : List Float) → checkRefusal a b (toDepth D) (lentOf trace words scores) ≡ none
-    → check a b D trace words scores .answer .status ≡ 1 → TraceLeft a b D trace words scores
+pub call-leaves-trace : (a b : List ℕ) (o : Options) (trace words : List ℕ) (scores : List Float) → checkRefusal a b o (lentOf trace words scores) ≡ none
+    → check a b o trace words scores .answer .status ≡ 1 → TraceLeft a b o trace words scores
 call-leaves-trace = trace-left
 
 -- after any other status every byte of the trace buffer stays
-pub call-keeps-trace : (a b : List ℕ) (D : ℕ) (trace words : List ℕ) (scores : List Float) → checkRefusal a b (toDepth D) (lentOf trace words scores) ≡ none
-    → check a b D trace words scores .answer .status ≢ 1 → check a b D trace words scores .trace ≡ trace
+pub call-keeps-trace : (a b : List ℕ) (o : Options) (trace words : List ℕ) (scores : List Float) → checkRefusal a b o (lentOf trace words scores) ≡ none
+    → check a b o trace words scores .answer .status ≢ 1 → check a b o trace words scores .trace ≡ trace
 call-keeps-trace = trace-kept
 
 -- refusals 18 and 19 compare the sets of names, whatever their order in the records
@@ -153,13 +156,13 @@ pub equivalent-never-differs : (a b : List ℕ) (o : Options) (lent : Lent) (d :
 equivalent-never-differs = check-equivalent
 
 -- an accepted call answers number 0, with the status and the depth that k-induction says, or GaveUp
-pub call-is-said : (a b : List ℕ) (D : ℕ) (trace words : List ℕ) (scores : List Float) → checkRefusal a b (toDepth D) (lentOf trace words scores) ≡ none → Called a b D trace words scores
+pub call-is-said : (a b : List ℕ) (o : Options) (trace words : List ℕ) (scores : List Float) → checkRefusal a b o (lentOf trace words scores) ≡ none → Called a b o trace words scores
 call-is-said = called
 
 -- the numbers of an accepted call are what the laws above speak of
-pub call-is-checked : (a b : List ℕ) (D : ℕ) (trace words : List ℕ) (scores : List Float) → checkRefusal a b (toDepth D) (lentOf trace words scores) ≡ none
-    → (status : Status) → check a b D trace words scores .answer .status ≡ statusNumber status
-    → checked a b (toDepth D) (lentOf trace words scores) ≡ answered status (check a b D trace words scores .answer .depth)
+pub call-is-checked : (a b : List ℕ) (o : Options) (trace words : List ℕ) (scores : List Float) → checkRefusal a b o (lentOf trace words scores) ≡ none
+    → (status : Status) → check a b o trace words scores .answer .status ≡ statusNumber status
+    → checked a b o (lentOf trace words scores) ≡ answered status (check a b o trace words scores .answer .depth)
 call-is-checked = call-checked
 
 -- behind it, of each query that the check asks: its search ends
@@ -202,19 +205,19 @@ pub check-gives-up-exactly : (o : Options) (gold gate : Design) (s t : StoredBit
     → (checkDesigns o gold gate s t .verdict ≡ Search.GaveUp d q) ↔ StopsAt o (problemOf gold gate s t) d q
 check-gives-up-exactly = designs-give-up
 
--- the same of the call: status 3, with that depth and that query, and the mismatch 0, whatever it learned
-pub call-gives-up-exactly : (a b : List ℕ) (D : ℕ) (trace words : List ℕ) (scores : List Float) (gold gate : Design)
-    → checkRefusal a b (toDepth D) (lentOf trace words scores) ≡ none → readPair a b ≡ both gold gate
-    → (d q : ℕ) → (check a b D trace words scores .answer ≡ acceptedAnswer 3 d 0 q (learnedOf (check a b D trace words scores .answer))) ↔ StopsAt (toDepth D) (problemOf gold gate (initialBits gold) (initialBits gate)) d q
+-- the same of the call: status 3, with that depth and that query, and the mismatch 0, whatever it learned and proved
+pub call-gives-up-exactly : (a b : List ℕ) (o : Options) (trace words : List ℕ) (scores : List Float) (gold gate : Design)
+    → checkRefusal a b o (lentOf trace words scores) ≡ none → readPair a b ≡ both gold gate
+    → (d q : ℕ) → (check a b o trace words scores .answer ≡ acceptedAnswer 3 d 0 q (learnedOf (check a b o trace words scores .answer)) (provedOf (check a b o trace words scores .answer))) ↔ StopsAt o (problemOf gold gate (initialBits gold) (initialBits gate)) d q
 call-gives-up-exactly = call-gives-up
 
--- a larger limit changes no status and no depth but those of a give-up
-pub larger-limit : (o larger : Options) → LargerLimit o larger → (a b : List ℕ) (lent : Lent) (status : Status) (d : ℕ) → checked a b o lent ≡ answered status d → status ≢ GaveUp
+-- a larger limit, up to 262,144, changes no status and no depth but those of a give-up
+pub larger-limit : (o larger : Options) → LargerLimit o larger → larger .limit ≤ 262144 → (a b : List ℕ) (lent : Lent) (status : Status) (d : ℕ) → checked a b o lent ≡ answered status d → status ≢ GaveUp
     → checked a b larger lent ≡ answered status d
 larger-limit = check-larger
 
 -- nor anything else that the call leaves: mismatch, query, what was learned, trace, words and scores
-pub larger-limit-result : (o larger : Options) → LargerLimit o larger → (a b : List ℕ) (lent : Lent) (status : Status) (d : ℕ) → checked a b o lent ≡ answered status d → status ≢ GaveUp
+pub larger-limit-result : (o larger : Options) → LargerLimit o larger → larger .limit ≤ 262144 → (a b : List ℕ) (lent : Lent) (status : Status) (d : ℕ) → checked a b o lent ≡ answered status d → status ≢ GaveUp
     → (trace words : List ℕ) (scores : List Float) → checkResult (checkOutcome a b larger lent) trace words scores ≡ checkResult (checkOutcome a b o lent) trace words scores
 larger-limit-result = result-larger
 
@@ -249,25 +252,97 @@ pub largest-is-first : (o : Options) (gold gate : Design) (s t : StoredBits) →
 largest-is-first = designs-largest
 
 -- an accepted call tells of that query, whatever its status
-pub call-tells-largest : (a b : List ℕ) (D : ℕ) (trace words : List ℕ) (scores : List Float) (gold gate : Design)
-    → checkRefusal a b (toDepth D) (lentOf trace words scores) ≡ none → readPair a b ≡ both gold gate
-    → FirstLargest (checkDesigns (toDepth D) gold gate (initialBits gold) (initialBits gate) .asked) (learnedOf (check a b D trace words scores .answer))
+pub call-tells-largest : (a b : List ℕ) (o : Options) (trace words : List ℕ) (scores : List Float) (gold gate : Design)
+    → checkRefusal a b o (lentOf trace words scores) ≡ none → readPair a b ≡ both gold gate
+    → FirstLargest (checkDesigns o gold gate (initialBits gold) (initialBits gate) .asked) (learnedOf (check a b o trace words scores .answer))
 call-tells-largest = call-largest
 
--- whose total is at most 262,144
-pub call-learned-within : (a b : List ℕ) (D : ℕ) (trace words : List ℕ) (scores : List Float) → check a b D trace words scores .answer .learned ≤ 262144
+-- whose total is within the limit, and so at most 262,144
+pub call-learned-within : (a b : List ℕ) (o : Options) (trace words : List ℕ) (scores : List Float)
+    → (check a b o trace words scores .answer .learned ≤ o .limit) × (check a b o trace words scores .answer .learned ≤ 262144)
 call-learned-within = call-within
 
 -- where no query learned anything it tells 0, depth 1 and query 1
-pub call-learned-nothing : (a b : List ℕ) (D : ℕ) (trace words : List ℕ) (scores : List Float) (gold gate : Design)
-    → checkRefusal a b (toDepth D) (lentOf trace words scores) ≡ none → readPair a b ≡ both gold gate
-    → ((x : Asked) → List·Memᴰ x (checkDesigns (toDepth D) gold gate (initialBits gold) (initialBits gate) .asked) → x .learned ≡ 0)
-    → learnedOf (check a b D trace words scores .answer) ≡ record { depth = 1; query = 1; learned = 0 }
+pub call-learned-nothing : (a b : List ℕ) (o : Options) (trace words : List ℕ) (scores : List Float) (gold gate : Design)
+    → checkRefusal a b o (lentOf trace words scores) ≡ none → readPair a b ≡ both gold gate
+    → ((x : Asked) → List·Memᴰ x (checkDesigns o gold gate (initialBits gold) (initialBits gate) .asked) → x .learned ≡ 0)
+    → learnedOf (check a b o trace words scores .answer) ≡ record { depth = 1; query = 1; learned = 0 }
 call-learned-nothing = call-nothing
 
--- of any call, refused or not, the seven other numbers and every lent byte are those of its refusal or verdict alone
-pub learned-changes-nothing : (a b : List ℕ) (D : ℕ) (trace words : List ℕ) (scores : List Float) → AsBefore a b D trace words scores
-learned-changes-nothing = call-as-before
+-- of any call, refused or not, the seven other numbers and every lent byte are those of its refusal or verdict alone, and what was learned is that of the queries asked
+pub learned-changes-nothing : (a b : List ℕ) (o : Options) (trace words : List ℕ) (scores : List Float) → AsOutcome (checkOutcome a b o (lentOf trace words scores)) a b o trace words scores
+learned-changes-nothing = call-as-outcome
+
+-- ==== the limit that a caller sets, and as far as a check got that gives up
+
+-- 36, on side and place 0, is the refusal exactly where both records are accepted, the maximum depth is 1 to 64, and the limit is above 262,144
+pub limit-refused-exactly : (a b : List ℕ) (o : Options) (lent : Lent) → (checkRefusal a b o lent ≡ some (record { number = 36; side = 0; place = 0 })) ↔ OverLimit a b o
+limit-refused-exactly = over-limit
+
+-- so no check is accepted under a larger limit than 262,144
+pub limit-above-refused : (a b : List ℕ) (o : Options) (lent : Lent) → 262144 < o .limit → checkRefusal a b o lent ≢ none
+limit-above-refused = above-refused
+
+-- up to 262,144 the limit changes no refusal
+pub limits-refuse-alike : (a b : List ℕ) (o other : Options) (lent : Lent) → o .depth ≡ other .depth → o .limit ≤ 262144 → other .limit ≤ 262144 → checkRefusal a b o lent ≡ checkRefusal a b other lent
+limits-refuse-alike = refuse-alike
+
+-- at 262,144 every number but what is proved, and every lent byte, is that of a check whose caller sets no limit
+pub largest-limit-as-none : (a b : List ℕ) (D : ℕ) (trace words : List ℕ) (scores : List Float) → AsOutcome (outcomeTo a b D (lentOf trace words scores)) a b (toDepth D) trace words scores
+largest-limit-as-none = call-as-none
+
+-- a check of comparable designs, from any start bits, that gives up having proved a cycle: outputs differ in no cycle up to it, whatever the inputs
+pub proved-holds : (o : Options) (gold gate : Design) → Comparable gold gate → (s t : StoredBits) (through : ℕ)
+    → provedThrough (checkDesigns o gold gate s t .verdict) (checkDesigns o gold gate s t .asked) ≡ some through → EqualThrough gold gate s t through
+proved-holds = designs-proved
+
+-- the same of a call's numbers
+pub call-proved-holds : (a b : List ℕ) (o : Options) (trace words : List ℕ) (scores : List Float) (gold gate : Design) → readPair a b ≡ both gold gate
+    → check a b o trace words scores .answer .equal ≡ true → EqualThrough gold gate (initialBits gold) (initialBits gate) (check a b o trace words scores .answer .through)
+call-proved-holds = call-proved
+
+-- so the first mismatch, if one exists, lies beyond it
+pub mismatch-lies-beyond : (a b : List ℕ) (o : Options) (trace words : List ℕ) (scores : List Float) (gold gate : Design) → readPair a b ≡ both gold gate
+    → check a b o trace words scores .answer .equal ≡ true
+    → (ins : InputSequence) (c : ℕ) → differAt gold gate (initialBits gold) (initialBits gate) ins c ≡ true → check a b o trace words scores .answer .through < c
+mismatch-lies-beyond = call-beyond
+
+-- and so does the mismatch that a call under any other options answers
+pub found-lies-beyond : (a b : List ℕ) (o : Options) (trace words : List ℕ) (scores : List Float) (other : Options) (t w : List ℕ) (s : List Float)
+    → check a b o trace words scores .answer .equal ≡ true → check a b other t w s .answer .status ≡ 1
+    → check a b o trace words scores .answer .through < check a b other t w s .answer .mismatch
+found-lies-beyond = call-found-beyond
+
+-- the cycle by the place of the give-up: after query 1 its depth, in query 1 the depth before it, and none at depth 1
+pub proved-by-place : (o : Options) (gold gate : Design) (s t : StoredBits) (d q : ℕ) → checkDesigns o gold gate s t .verdict ≡ Search.GaveUp d q
+    → provedThrough (checkDesigns o gold gate s t .verdict) (checkDesigns o gold gate s t .asked) ≡ provedByPlace d q
+proved-by-place = designs-place
+
+-- the same of a call's numbers
+pub call-proved-by-place : (a b : List ℕ) (o : Options) (trace words : List ℕ) (scores : List Float) → check a b o trace words scores .answer .status ≡ 3
+    → provedOf (check a b o trace words scores .answer) ≡ provedByPlace (check a b o trace words scores .answer .depth) (check a b o trace words scores .answer .query)
+call-proved-by-place = call-place
+
+-- of a call that gives up nothing is proved exactly where no query was asked but the one that gave up
+pub nothing-proved-exactly : (a b : List ℕ) (o : Options) (trace words : List ℕ) (scores : List Float) (gold gate : Design) → readPair a b ≡ both gold gate
+    → check a b o trace words scores .answer .status ≡ 3
+    → (check a b o trace words scores .answer .equal ≡ false) ↔ ((x : Asked) × (checkDesigns o gold gate (initialBits gold) (initialBits gate) .asked ≡ x ∷ []))
+nothing-proved-exactly = call-proved-nothing
+
+-- a larger limit, up to 262,144, keeps every number and every lent byte of a call, refused or not, that does not give up
+pub larger-limit-keeps : (a b : List ℕ) (o larger : Options) → LargerLimit o larger → larger .limit ≤ 262144 → (trace words : List ℕ) (scores : List Float)
+    → check a b o trace words scores .answer .status ≢ 3 → check a b larger trace words scores ≡ check a b o trace words scores
+larger-limit-keeps = call-larger
+
+-- where a check gives up, a larger limit asks the same queries up to the one that gave up, and that one too, which learns no less
+pub larger-limit-goes-on : (o larger : Options) → LargerLimit o larger → (gold gate : Design) (s t : StoredBits) (d q : ℕ) → checkDesigns o gold gate s t .verdict ≡ Search.GaveUp d q
+    → GoesOn (checkDesigns o gold gate s t) (checkDesigns larger gold gate s t) d q
+larger-limit-goes-on = designs-go-on
+
+-- so where both give up it never lowers the cycle proved, none being the lowest, nor stops in an earlier query, nor tells of less learned
+pub larger-limit-gets-as-far : (a b : List ℕ) (o larger : Options) → LargerLimit o larger → (trace words : List ℕ) (scores : List Float) (t w : List ℕ) (s : List Float)
+    → check a b o trace words scores .answer .status ≡ 3 → check a b larger t w s .answer .status ≡ 3 → AsFar (check a b o trace words scores .answer) (check a b larger t w s .answer)
+larger-limit-gets-as-far = call-as-far
 
 -- ==== P4 and P5, demand 3: lists of any length
 
@@ -276,18 +351,18 @@ pub chain-law : ChainLaw checked
 chain-law = check-chain
 
 -- in the call's numbers: a call that answers number 0 and status 0 joins its two records for the chain law
-pub equivalent-joins : (a b : List ℕ) (D : ℕ) (trace words : List ℕ) (scores : List Float) → check a b D trace words scores .answer .number ≡ 0
-    → check a b D trace words scores .answer .status ≡ 0 → Checked checked a b
+pub equivalent-joins : (a b : List ℕ) (o : Options) (trace words : List ℕ) (scores : List Float) → check a b o trace words scores .answer .number ≡ 0
+    → check a b o trace words scores .answer .status ≡ 0 → Checked checked a b
 equivalent-joins = call-joins
 
 -- and the same two named the other way round
-pub equivalent-joins-back : (a b : List ℕ) (D : ℕ) (trace words : List ℕ) (scores : List Float) → check b a D trace words scores .answer .number ≡ 0
-    → check b a D trace words scores .answer .status ≡ 0 → Checked checked a b
+pub equivalent-joins-back : (a b : List ℕ) (o : Options) (trace words : List ℕ) (scores : List Float) → check b a o trace words scores .answer .number ≡ 0
+    → check b a o trace words scores .answer .status ≡ 0 → Checked checked a b
 equivalent-joins-back a b = call-joins-back b a
 
 -- a call on any two records of a chain, if it answers number 0, does not answer status 1
-pub chain-never-different : (a b : List ℕ) (D : ℕ) (trace words : List ℕ) (scores : List Float) → check a b D trace words scores .answer .number ≡ 0
-    → (l : List (List ℕ)) → Chain (Checked checked) l → List·Memᴰ a l → List·Memᴰ b l → check a b D trace words scores .answer .status ≢ 1
+pub chain-never-different : (a b : List ℕ) (o : Options) (trace words : List ℕ) (scores : List Float) → check a b o trace words scores .answer .number ≡ 0
+    → (l : List (List ℕ)) → Chain (Checked checked) l → List·Memᴰ a l → List·Memᴰ b l → check a b o trace words scores .answer .status ≢ 1
 chain-never-different = call-never
 
 -- a chain of calls that answered number 0 and status 0, each on two neighbours given either way: any two of the list show the same outputs, and no check of them says NotEquivalent
@@ -295,8 +370,8 @@ pub calls-chain-law : (l : List (List ℕ)) → Chain CalledEquivalent l → (a 
 calls-chain-law = calls-join
 
 -- and no call on them that answers number 0 answers status 1
-pub calls-never-different : (a b : List ℕ) (D : ℕ) (trace words : List ℕ) (scores : List Float) → check a b D trace words scores .answer .number ≡ 0
-    → (l : List (List ℕ)) → Chain CalledEquivalent l → List·Memᴰ a l → List·Memᴰ b l → check a b D trace words scores .answer .status ≢ 1
+pub calls-never-different : (a b : List ℕ) (o : Options) (trace words : List ℕ) (scores : List Float) → check a b o trace words scores .answer .number ≡ 0
+    → (l : List (List ℕ)) → Chain CalledEquivalent l → List·Memᴰ a l → List·Memᴰ b l → check a b o trace words scores .answer .status ≢ 1
 calls-never-different = calls-never
 
 -- ==== P6 and P7, demand 3: swapped pairs
@@ -306,15 +381,15 @@ pub swap-law : SwapLaw checked
 swap-law = check-swap
 
 -- calls on a pair and on the swapped pair, to one depth, with buffers of the same lengths: the same status and depth, unless one gives up
-pub swap-keeps-numbers : (a b : List ℕ) (D : ℕ) (t w : List ℕ) (s : List Float) (t' w' : List ℕ) (s' : List Float) → lentOf t' w' s' ≡ lentOf t w s
-    → check a b D t w s .answer .number ≡ 0 → check b a D t' w' s' .answer .number ≡ 0
-    → check a b D t w s .answer .status ≢ 3 → check b a D t' w' s' .answer .status ≢ 3
-    → (check a b D t w s .answer .status ≡ check b a D t' w' s' .answer .status) × (check a b D t w s .answer .depth ≡ check b a D t' w' s' .answer .depth)
+pub swap-keeps-numbers : (a b : List ℕ) (o : Options) (t w : List ℕ) (s : List Float) (t' w' : List ℕ) (s' : List Float) → lentOf t' w' s' ≡ lentOf t w s
+    → check a b o t w s .answer .number ≡ 0 → check b a o t' w' s' .answer .number ≡ 0
+    → check a b o t w s .answer .status ≢ 3 → check b a o t' w' s' .answer .status ≢ 3
+    → (check a b o t w s .answer .status ≡ check b a o t' w' s' .answer .status) × (check a b o t w s .answer .depth ≡ check b a o t' w' s' .answer .depth)
 swap-keeps-numbers = call-swap
 
 -- and where one is not refused, the other is not
-pub swap-keeps-refusal : (a b : List ℕ) (D : ℕ) (t w : List ℕ) (s : List Float) (t' w' : List ℕ) (s' : List Float) → lentOf t' w' s' ≡ lentOf t w s
-    → check b a D t' w' s' .answer .number ≡ 0 → check a b D t w s .answer .number ≡ 0
+pub swap-keeps-refusal : (a b : List ℕ) (o : Options) (t w : List ℕ) (s : List Float) (t' w' : List ℕ) (s' : List Float) → lentOf t' w' s' ≡ lentOf t w s
+    → check b a o t' w' s' .answer .number ≡ 0 → check a b o t w s .answer .number ≡ 0
 swap-keeps-refusal = call-swap-refused
 
 -- ==== P8, demand 3: a design against itself
@@ -328,8 +403,8 @@ pub call-self-law : SelfLaw checked
 call-self-law = check-self
 
 -- a record against itself, not refused: status 0 at depth 1
-pub self-is-equivalent : (a : List ℕ) (D : ℕ) (t w : List ℕ) (s : List Float) → check a a D t w s .answer .number ≡ 0
-    → (check a a D t w s .answer .status ≡ 0) × (check a a D t w s .answer .depth ≡ 1)
+pub self-is-equivalent : (a : List ℕ) (o : Options) (t w : List ℕ) (s : List Float) → check a a o t w s .answer .number ≡ 0
+    → (check a a o t w s .answer .status ≡ 0) × (check a a o t w s .answer .depth ≡ 1)
 self-is-equivalent = call-self
 
 -- ==== P9: replay

@@ -1,11 +1,12 @@
--- The words of `Promises` that `model` does not have: which designs are compared and linked, what a give-up is, which queries are asked and what they learn, and what a call leaves. Definitions only, over `model` alone. Assumes nothing.
-use Prim.Native.Nat.{ℕ, suc, _+_, _*_, _≤_, _<_}
+-- The words of `Promises` that `model` does not have: which designs are compared and linked, what a give-up is, which queries are asked and what they learn, what a give-up has proved, and what a call leaves. Definitions only, over `model` alone. Assumes nothing.
+use Prim.Native.Nat.{ℕ, suc, _+_, _-_, _*_, _≤_, _<_}
 use mathlib.Core.Path.{_≡_}
 use mathlib.Core.Logic.{_≢_, _⊎_}
-use mathlib.Core.Bool.{Bool, true, false, xor}
+use mathlib.Core.Bool.{Bool, true, false, cond, xor}
 use mathlib.Core.List.{List, [], _∷_, _++_, List·Memᴰ}
 use mathlib.Core.Option.{Option, none, some}
 use lib.ListN.{length, getD, drop}
+use lib.Dec.{eqb, ltb}
 use lib.Ieee.{Float}
 use Rattle.model.specs.Answers.{Refusal, accepted, Status, statusNumber, Asked, CheckAnswer, refusedAnswer}
 use Rattle.model.specs.Answers as Answers
@@ -14,18 +15,18 @@ use Rattle.model.specs.Options.{Options, toDepth}
 use Rattle.model.specs.Names.{Name, namesOf}
 use Rattle.model.specs.Netlist.{Node, Design, inputs, outputs, inputCount}
 use Rattle.model.specs.Record.{got, number, name, listedKind, nodesFrom, lengthFits}
-use Rattle.model.specs.Validate.{validate}
-use Rattle.model.specs.Run.{StoredBits, bitAt, outputsAt, initialBits}
-use Rattle.model.specs.Pair.{traceLength, allBits, replayFault, ReadPair, both, refusedPair, readPair}
+use Rattle.model.specs.Validate.{_otherwise_, refuseIf, validate}
+use Rattle.model.specs.Run.{StoredBits, InputSequence, bitAt, outputsAt, initialBits}
+use Rattle.model.specs.Pair.{Lent, interfaceFault, initialFault, proofNodes, traceLength, tooShort, allBits, replayFault, ReadPair, both, refusedPair, readPair}
 use Rattle.model.specs.Replay.{claimBit, claimInputs, differAt, replays, replay}
 use Rattle.model.specs.Induction.{Query1, Query2, Query3, Query4, Says, Begun, SameOutputs, Verdict, answered}
 use Rattle.model.specs.Literal.{Literal}
 use Rattle.model.specs.Aig.{Aig}
 use Rattle.model.specs.Sat.{Clause, Solver, decisionLevel, conflict, propagate, Analysis, resolved, analyze, Answer, model, noModel, gaveUp, outOfFuel, searching, step, start, encode}
 use Rattle.model.specs.Sat as Sat
-use Rattle.model.specs.Equivalence.{Problem, Query, baseCounterexample, basePreservesNamedState, inductionCloses, ask}
+use Rattle.model.specs.Equivalence.{Problem, Query, baseCounterexample, basePreservesNamedState, inductionCloses, ask, Outcome, largestLearned}
 use Rattle.model.specs.Equivalence as Equivalence
-use Rattle.model.specs.Check.{problemOf, checkDesigns, CheckOutcome, refusedCheck, acceptedCheck, checkOutcome, traceAfter, clearedAfter, lentOf, check, verdictSays}
+use Rattle.model.specs.Check.{problemOf, checkDesigns, CheckOutcome, refusedCheck, acceptedCheck, checkPair, traceAfter, clearedAfter, check, verdictSays}
 
 -- ---- refusals, and the numbers of a call
 
@@ -55,6 +56,11 @@ pub record UpToKind (s : List ℕ) (m place : ℕ) : Type 0 where
   pub nodesBefore : nodesFrom listedKind m [] s (countAt + 2) ≡ got before place
   pub within : place < length s
 
+-- a refusal of a check: 1 to 24, or 36 with side and place 0
+pub data OfCheck (r : Refusal) : Type 0 where
+  of-list : Within 1 24 r → OfCheck r
+  of-limit : r ≡ record { number = 36; side = 0; place = 0 } → OfCheck r
+
 -- a refusal of a replay: 1 to 15, 18 to 22, or 25
 pub data OfReplay (r : Refusal) : Type 0 where
   of-record : Within 1 15 r → OfReplay r
@@ -72,7 +78,7 @@ replayRefusal gold gate cycle claim = replayRefusalOf (readPair gold gate) cycle
 
 -- every check of two records and every replay is refused with these three numbers
 pub record RefusedWith (a b : List ℕ) (r : Refusal) : Type 0 where
-  pub checks : (D : ℕ) (trace words : List ℕ) (scores : List Float) → check a b D trace words scores .answer ≡ refusedAnswer r
+  pub checks : (o : Options) (trace words : List ℕ) (scores : List Float) → check a b o trace words scores .answer ≡ refusedAnswer r
   pub replays : (cycle : ℕ) (claim : List ℕ) → replay a b cycle claim ≡ record { refusal = r; yes = false }
 
 -- an accepted answer's number, status and depth
@@ -81,18 +87,24 @@ pub record Numbered (c : CheckAnswer) (status : Status) (d : ℕ) : Type 0 where
   pub status-number : c .status ≡ statusNumber status
   pub depth : c .depth ≡ d
 
--- the numbers that an accepted answer does not use are 0: side and place, the mismatch unless the status is 1, and the query unless it is 3
+-- the numbers that an accepted answer does not use are 0: side and place, the mismatch unless the status is 1, the query unless it is 3, and what is proved unless it is 3; the cycle is 0 where nothing is proved
 pub record UnusedZero (c : CheckAnswer) : Type 0 where
   pub side : c .side ≡ 0
   pub place : c .place ≡ 0
   pub mismatch : c .status ≢ 1 → c .mismatch ≡ 0
   pub query : c .status ≢ 3 → c .query ≡ 0
+  pub equal : c .status ≢ 3 → c .equal ≡ false
+  pub through : c .equal ≡ false → c .through ≡ 0
 
 -- the query that an answer says learned most
 unfoldable pub learnedOf : CheckAnswer → Asked
 learnedOf c = record { depth = c .learnedDepth; query = c .learnedQuery; learned = c .learned }
 
--- the seven numbers of an answer that do not tell what was learned
+-- through which cycle an answer says that outputs are proved equal
+unfoldable pub provedOf : CheckAnswer → Option ℕ
+provedOf c = cond (c .equal) (some (c .through)) none
+
+-- the seven numbers of an answer that tell neither what was learned nor what is proved
 pub record SevenNumbers : Type 0 where
   pub number : ℕ
   pub side : ℕ
@@ -126,35 +138,41 @@ outcomeSeven (refusedCheck r) =
     record { number = r .number; side = r .side; place = r .place; status = 0; depth = 0; mismatch = 0; query = 0 }
 outcomeSeven (acceptedCheck o) = verdictSeven (o .verdict)
 
--- the seven numbers of a call, and what it leaves in each lent buffer, by the refusal or the verdict alone
-pub record AsBefore (a b : List ℕ) (D : ℕ) (trace words : List ℕ) (scores : List Float) : Type 0 where
-  pub seven : sevenOf (check a b D trace words scores .answer) ≡ outcomeSeven (checkOutcome a b (toDepth D) (lentOf trace words scores))
-  pub traced : check a b D trace words scores .trace ≡ traceAfter (checkOutcome a b (toDepth D) (lentOf trace words scores)) trace
-  pub words-left : check a b D trace words scores .words ≡ clearedAfter 0 (checkOutcome a b (toDepth D) (lentOf trace words scores)) words
-  pub scores-left : check a b D trace words scores .scores ≡ clearedAfter Sat.scoreZero (checkOutcome a b (toDepth D) (lentOf trace words scores)) scores
+-- the query that learned most: of no query where the check is refused
+unfoldable pub outcomeLearned : CheckOutcome → Asked
+outcomeLearned (refusedCheck r) = record { depth = 0; query = 0; learned = 0 }
+outcomeLearned (acceptedCheck o) = largestLearned (o .asked)
+
+-- the numbers of a call, but for what is proved, and what it leaves in each lent buffer are those of an outcome
+pub record AsOutcome (outcome : CheckOutcome) (a b : List ℕ) (o : Options) (trace words : List ℕ) (scores : List Float) : Type 0 where
+  pub seven : sevenOf (check a b o trace words scores .answer) ≡ outcomeSeven outcome
+  pub learned : learnedOf (check a b o trace words scores .answer) ≡ outcomeLearned outcome
+  pub traced : check a b o trace words scores .trace ≡ traceAfter outcome trace
+  pub words-left : check a b o trace words scores .words ≡ clearedAfter 0 outcome words
+  pub scores-left : check a b o trace words scores .scores ≡ clearedAfter Sat.scoreZero outcome scores
 
 -- an accepted call: the designs of both records, and the status and depth that its numbers are; the status is what k-induction says unless it is GaveUp
-pub record Called (a b : List ℕ) (D : ℕ) (trace words : List ℕ) (scores : List Float) : Type 0 where
+pub record Called (a b : List ℕ) (o : Options) (trace words : List ℕ) (scores : List Float) : Type 0 where
   pub gold : Design
   pub gate : Design
   pub pair : readPair a b ≡ both gold gate
   pub status : Status
   pub depth : ℕ
-  pub numbered : Numbered (check a b D trace words scores .answer) status depth
-  pub says : status ≢ Answers.GaveUp → Says gold gate (initialBits gold) (initialBits gate) D status depth
+  pub numbered : Numbered (check a b o trace words scores .answer) status depth
+  pub says : status ≢ Answers.GaveUp → Says gold gate (initialBits gold) (initialBits gate) (o .depth) status depth
 
 -- bytes written at the front of the trace buffer, which replay answers with yes at a mismatch that is at most the depth
-pub record TraceLeft (a b : List ℕ) (D : ℕ) (trace words : List ℕ) (scores : List Float) : Type 0 where
+pub record TraceLeft (a b : List ℕ) (o : Options) (trace words : List ℕ) (scores : List Float) : Type 0 where
   pub bytes : List ℕ
   pub fits : length bytes ≤ length trace
-  pub written : check a b D trace words scores .trace ≡ bytes ++ drop (length bytes) trace
-  pub yes : replay a b (check a b D trace words scores .answer .mismatch) bytes ≡ record { refusal = accepted; yes = true }
-  pub early : check a b D trace words scores .answer .mismatch ≤ check a b D trace words scores .answer .depth
+  pub written : check a b o trace words scores .trace ≡ bytes ++ drop (length bytes) trace
+  pub yes : replay a b (check a b o trace words scores .answer .mismatch) bytes ≡ record { refusal = accepted; yes = true }
+  pub early : check a b o trace words scores .answer .mismatch ≤ check a b o trace words scores .answer .depth
 
--- a call on two records answered number 0 and status 0, either of them as gold, to a depth and with buffers of its own
+-- a call on two records answered number 0 and status 0, either of them as gold, under options and with buffers of its own
 pub data CalledEquivalent (a b : List ℕ) : Type 0 where
-  as-given : (D : ℕ) (trace words : List ℕ) (scores : List Float) → check a b D trace words scores .answer .number ≡ 0 → check a b D trace words scores .answer .status ≡ 0 → CalledEquivalent a b
-  swapped : (D : ℕ) (trace words : List ℕ) (scores : List Float) → check b a D trace words scores .answer .number ≡ 0 → check b a D trace words scores .answer .status ≡ 0 → CalledEquivalent a b
+  as-given : (o : Options) (trace words : List ℕ) (scores : List Float) → check a b o trace words scores .answer .number ≡ 0 → check a b o trace words scores .answer .status ≡ 0 → CalledEquivalent a b
+  swapped : (o : Options) (trace words : List ℕ) (scores : List Float) → check b a o trace words scores .answer .number ≡ 0 → check b a o trace words scores .answer .status ≡ 0 → CalledEquivalent a b
 
 -- ---- two designs, each from its own start bits
 
@@ -173,6 +191,38 @@ checkedDesigns o gold gate s t = verdictSays (checkDesigns o gold gate s t .verd
 pub record LargerLimit (o larger : Options) : Type 0 where
   pub depth : o .depth ≡ larger .depth
   pub limit : o .limit ≤ larger .limit
+
+-- ---- a check to a maximum depth alone, where a caller sets no limit
+
+-- its first refusal: 16, 17, 18 to 24
+unfoldable pub faultTo : Design → Design → ℕ → Lent → Option Refusal
+faultTo gold gate D lent =
+    refuseIf 16 0 0 (eqb D 0)
+    otherwise refuseIf 17 0 0 (ltb 64 D)
+    otherwise interfaceFault gold gate
+    otherwise initialFault gold gate
+    otherwise refuseIf 23 0 0 (ltb 65535 (proofNodes gold gate D))
+    otherwise refuseIf 24 0 0 (tooShort gold D lent)
+
+-- its outcome, of two records read
+unfoldable pub outcomeToOf : ReadPair → ℕ → Lent → CheckOutcome
+outcomeToOf (refusedPair r) D lent = refusedCheck r
+outcomeToOf (both gold gate) D lent = checkPair (toDepth D) gold gate (faultTo gold gate D lent)
+
+-- its outcome
+unfoldable pub outcomeTo : List ℕ → List ℕ → ℕ → Lent → CheckOutcome
+outcomeTo a b D lent = outcomeToOf (readPair a b) D lent
+
+-- both records are accepted, the maximum depth is 1 to 64, and the limit is above the largest
+pub record OverLimit (a b : List ℕ) (o : Options) : Type 0 where
+  pub gold : Design
+  pub gate : Design
+  pub pair : readPair a b ≡ both gold gate
+  pub low : 1 ≤ o .depth
+  pub high : o .depth ≤ 64
+  pub above : 262144 < o .limit
+
+-- ---- links of a chain
 
 -- two begun designs are comparable, and were checked with the verdict Equivalent, either of them as gold, under options of the check's own
 pub data Linked (a b : Begun) : Type 0 where
@@ -338,3 +388,35 @@ pub record LastGivesUp (limit : ℕ) (p : Problem) (asked : List Asked) (d q : �
   pub named : QueryOf p d q query
   pub gives-up : GivesUp limit (query .aig) (query .assumptions) total
   pub within : total ≤ limit
+
+-- ---- what a check that gives up has proved
+
+-- in no cycle up to this one do outputs differ, whatever the inputs
+abbrev pub EqualThrough : Design → Design → StoredBits → StoredBits → ℕ → Type 0
+EqualThrough gold gate s t through = (ins : InputSequence) (c : ℕ) → c ≤ through → differAt gold gate s t ins c ≡ false
+
+-- the cycle by the place of the give-up: after query 1 its depth, in query 1 the depth before it, and none at depth 1
+unfoldable pub provedByPlace : ℕ → ℕ → Option ℕ
+provedByPlace d q = cond (ltb 1 q) (some d) (cond (ltb 1 d) (some (d - 1)) none)
+
+-- the second cycle is not below the first; none is the lowest
+abbrev pub NotBelow : Option ℕ → Option ℕ → Type 0
+NotBelow none second = Unit {0}
+NotBelow (some c) none = ⊥
+NotBelow (some c) (some e) = c ≤ e
+
+-- an outcome that gave up at depth d in query q, and one under a larger limit: it asked the same queries up to that one, and that one too, which learned no less
+pub record GoesOn (gave larger : Outcome) (d q : ℕ) : Type 0 where
+  pub before : List Asked
+  pub after : List Asked
+  pub total : ℕ
+  pub larger-total : ℕ
+  pub stopped : gave .asked ≡ snoc before (record { depth = d; query = q; learned = total })
+  pub went-on : larger .asked ≡ before ++ (record { depth = d; query = q; learned = larger-total } ∷ after)
+  pub no-less : total ≤ larger-total
+
+-- of two calls that gave up the second got as far as the first: not in an earlier query, with no lower cycle proved, and having learned no less
+pub record AsFar (first second : CheckAnswer) : Type 0 where
+  pub place : (first .depth < second .depth) ⊎ ((first .depth ≡ second .depth) × (first .query ≤ second .query))
+  pub proved : NotBelow (provedOf first) (provedOf second)
+  pub learned : first .learned ≤ second .learned

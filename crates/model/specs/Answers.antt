@@ -1,6 +1,7 @@
 -- What the calls answer, in the specification's numbers. Definitions only.
 use Prim.Native.Nat.{ℕ}
-use mathlib.Core.Bool.{Bool}
+use mathlib.Core.Bool.{Bool, true, false}
+use mathlib.Core.Option.{Option, none, some}
 
 -- the three numbers that every call answers: 0 or the refusal's number, the side (0 gold, 1 gate) and the place
 pub record Refusal : Type 0 where
@@ -46,6 +47,8 @@ pub record CheckAnswer : Type 0 where
   pub learned : ℕ
   pub learnedDepth : ℕ
   pub learnedQuery : ℕ
+  pub equal : Bool
+  pub through : ℕ
 
 -- the answer of a refused check: all numbers but the refusal's are 0
 unfoldable pub refusedAnswer : Refusal → CheckAnswer
@@ -61,11 +64,23 @@ refusedAnswer r =
       learned = 0;
       learnedDepth = 0;
       learnedQuery = 0;
+      equal = false;
+      through = 0;
     }
 
--- the answer of an accepted check, of whose queries `most` learned most
-unfoldable pub acceptedAnswer : ℕ → ℕ → ℕ → ℕ → Asked → CheckAnswer
-acceptedAnswer status depth mismatch query most =
+-- whether outputs are proved equal through a cycle
+unfoldable pub isProved : Option ℕ → Bool
+isProved none = false
+isProved (some c) = true
+
+-- that cycle, 0 where there is none
+unfoldable pub provedCycle : Option ℕ → ℕ
+provedCycle none = 0
+provedCycle (some c) = c
+
+-- the answer of an accepted check, of whose queries `most` learned most, and which proved outputs equal through a cycle, or through none
+unfoldable pub acceptedAnswer : ℕ → ℕ → ℕ → ℕ → Asked → Option ℕ → CheckAnswer
+acceptedAnswer status depth mismatch query most proved =
     record {
       number = 0;
       side = 0;
@@ -77,9 +92,11 @@ acceptedAnswer status depth mismatch query most =
       learned = most .learned;
       learnedDepth = most .depth;
       learnedQuery = most .query;
+      equal = isProved proved;
+      through = provedCycle proved;
     }
 
 -- naming this opens them all
 unfoldable pub all : Unit {0}
-unfolding accepted statusNumber refusedAnswer acceptedAnswer
+unfolding accepted statusNumber refusedAnswer isProved provedCycle acceptedAnswer
 all = tt

@@ -7,7 +7,7 @@ use mathlib.Core.Option.{Option, none, some}
 use lib.ListN.{length, drop, replicate}
 use lib.Ieee.{Float}
 use Rattle.model.specs.Answers.{Refusal, ReplayAnswer, Asked, CheckAnswer}
-use Rattle.model.specs.Options.{toDepth}
+use Rattle.model.specs.Options.{Options, toDepth}
 use Rattle.model.specs.Names.{Name}
 use Rattle.model.specs.Netlist.{Node, Input, Constant, RegisterOutput, Not, Output, And, Rising, High, Reset, Register, Design}
 use Rattle.model.specs.Encode.{recordOf}
@@ -117,7 +117,7 @@ lone = design (Input a ∷ []) []
 -- the three calls; a check's words and scores are given by their lengths
 pub data Call : Type 0 where
   toRead : (bytes : List ℕ) → Call
-  toCheck : (gold gate : List ℕ) (D : ℕ) (trace : List ℕ) (words scores : ℕ) → Call
+  toCheck : (gold gate : List ℕ) (options : Options) (trace : List ℕ) (words scores : ℕ) → Call
   toReplay : (gold gate : List ℕ) (cycle : ℕ) (claim : List ℕ) → Call
 
 -- what they answer; a check also leaves a trace
@@ -133,16 +133,16 @@ replyOf outcome trace = fromCheck (checkAnswer outcome) (traceAfter outcome trac
 -- what a call answers
 unfoldable pub run : Call → Reply
 run (toRead s) = fromRead (read s)
-run (toCheck gold gate D trace words scores) =
-    replyOf (checkOutcome gold gate (toDepth D) (record { trace = length trace; words = words; scores = scores })) trace
+run (toCheck gold gate options trace words scores) =
+    replyOf (checkOutcome gold gate options (record { trace = length trace; words = words; scores = scores })) trace
 run (toReplay gold gate cycle claim) = fromReplay (replay gold gate cycle claim)
 
 -- for words and scores of these lengths, that is what the call check answers, and its trace
-check-run : (gold gate : List ℕ) (D : ℕ) (trace words : List ℕ) (scores : List Float)
-    → run (toCheck gold gate D trace (length words) (length scores))
-    ≡ fromCheck (check gold gate D trace words scores .answer) (check gold gate D trace words scores .trace)
+check-run : (gold gate : List ℕ) (options : Options) (trace words : List ℕ) (scores : List Float)
+    → run (toCheck gold gate options trace (length words) (length scores))
+    ≡ fromCheck (check gold gate options trace words scores .answer) (check gold gate options trace words scores .trace)
 unfolding run replyOf check checkResult lentOf
-check-run gold gate D trace words scores = refl
+check-run gold gate options trace words scores = refl
 
 -- ---- the table
 
@@ -150,17 +150,25 @@ check-run gold gate D trace words scores = refl
 unfoldable pub refusal : ℕ → ℕ → Refusal
 refusal n place = record { number = n; side = 0; place = place }
 
--- a check to depth D, with n bytes of trace, each 7, and just enough words and scores
+-- a check under options, with n bytes of trace, each 7, and just enough words and scores
+unfoldable pub checkingUnder : List ℕ → List ℕ → Options → ℕ → Call
+checkingUnder gold gate options n = toCheck gold gate options (replicate n 7) 8388608 65536
+
+-- to depth D, under the largest limit
 unfoldable pub checking : List ℕ → List ℕ → ℕ → ℕ → Call
-checking gold gate D n = toCheck gold gate D (replicate n 7) 8388608 65536
+checking gold gate D n = checkingUnder gold gate (toDepth D) n
+
+-- to depth 1, under a limit
+unfoldable pub limiting : List ℕ → List ℕ → ℕ → ℕ → Call
+limiting gold gate limit n = checkingUnder gold gate (record { depth = 1; limit = limit }) n
 
 -- a query by its depth, its number and its total
 unfoldable pub asking : ℕ → ℕ → ℕ → Asked
 asking depth query learned = record { depth = depth; query = query; learned = learned }
 
--- an answer by its ten numbers
-unfoldable pub numbers : (number side place status depth mismatch query : ℕ) (most : Asked) → CheckAnswer
-numbers number side place status depth mismatch query most =
+-- an answer by its twelve numbers
+unfoldable pub numbers : (number side place status depth mismatch query : ℕ) (most : Asked) (equal : Bool) (through : ℕ) → CheckAnswer
+numbers number side place status depth mismatch query most equal through =
     record {
       number = number;
       side = side;
@@ -172,15 +180,21 @@ numbers number side place status depth mismatch query most =
       learned = most .learned;
       learnedDepth = most .depth;
       learnedQuery = most .query;
+      equal = equal;
+      through = through;
     }
 
 -- status, depth, mismatch, the query that learned most, and the first bytes of a trace that has n more, each 7
 unfoldable pub saying : ℕ → ℕ → ℕ → Asked → List ℕ → ℕ → Reply
-saying status depth mismatch most bytes n = fromCheck (numbers 0 0 0 status depth mismatch 0 most) (bytes ++ replicate n 7)
+saying status depth mismatch most bytes n = fromCheck (numbers 0 0 0 status depth mismatch 0 most false 0) (bytes ++ replicate n 7)
 
 -- a refusal by its number, at place 0, with the n bytes of trace as they were
 unfoldable pub refusing : ℕ → ℕ → Reply
-refusing number n = fromCheck (numbers number 0 0 0 0 0 0 (asking 0 0 0)) (replicate n 7)
+refusing number n = fromCheck (numbers number 0 0 0 0 0 0 (asking 0 0 0) false 0) (replicate n 7)
+
+-- a give-up at depth 1 in a query, the query that learned most, and what is proved, with the n bytes of trace as they were
+unfoldable pub givingUp : ℕ → Asked → Bool → ℕ → ℕ → Reply
+givingUp query most equal through n = fromCheck (numbers 0 0 0 3 1 0 query most equal through) (replicate n 7)
 
 -- an accepted replay's yes or no
 unfoldable pub replaying : Bool → Reply
@@ -214,11 +228,19 @@ table =
     ∷ (checking (recordOf (toggle q)) (recordOf constant) 1 5 gives refusing 21 5)
     ∷ (checking (recordOf unreset) (recordOf (toggle q)) 1 5 gives refusing 22 5)
     ∷ (checking (recordOf lone) (recordOf lone) 1 2 gives saying 0 1 0 (asking 1 1 0) [] 2)
+    ∷ (limiting (recordOf (toggle q)) (recordOf (toggle p)) 1 5 gives saying 0 1 0 (asking 1 3 1) [] 5)
+    ∷ (limiting (recordOf (toggle q)) (recordOf (toggle p)) 0 5 gives givingUp 3 (asking 1 1 0) true 1 5)
+    ∷ (limiting (recordOf (toggle q)) (recordOf (toggle p)) 262145 5 gives refusing 36 5)
+    ∷ (limiting (recordOf (toggle q)) (recordOf (toggle p)) 4294967301 5 gives refusing 36 5)
+    ∷ (limiting (recordOf (toggle q)) wire 262145 5 gives refusing 36 5)
+    ∷ (limiting (recordOf (toggle q)) wire 262144 5 gives refusing 18 5)
+    ∷ (checkingUnder wire wire (record { depth = 65; limit = 262145 }) 67 gives refusing 17 67)
+    ∷ (checkingUnder wire wire (record { depth = 0; limit = 262145 }) 66 gives refusing 16 66)
     ∷ []
 
 -- naming this opens the definitions of this file and those it uses
 unfoldable pub all : Unit {0}
-unfolding design sync reg reset0 wire wireReading inverter toggling toggle unreset constant row holding conjunction lone replyOf run refusal checking asking numbers saying refusing replaying _gives_ table Encode.all Replay.all Check.all
+unfolding design sync reg reset0 wire wireReading inverter toggling toggle unreset constant row holding conjunction lone replyOf run refusal checkingUnder checking limiting asking numbers saying refusing givingUp replaying _gives_ table Encode.all Replay.all Check.all
 all = tt
 
 -- the specification's bytes of the wire are the record of its design
@@ -231,7 +253,7 @@ cases : map (λ (c : Case). run (c .call)) table ≡ map (λ (c : Case). c .repl
 unfolding all
 cases = refl
 
--- the limit of learned literals, which is the specification's whatever the depth
+-- the largest limit of learned literals, whatever the depth
 limit : toDepth 3 ≡ record { depth = 3; limit = 262144 }
 unfolding all
 limit = refl

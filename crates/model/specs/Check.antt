@@ -6,7 +6,7 @@ use lib.ListN.{length, drop, replicate}
 use lib.Ieee.{Float}
 use Rattle.model.specs.Answers.{Refusal, Asked, CheckAnswer, refusedAnswer, acceptedAnswer, statusNumber}
 use Rattle.model.specs.Answers as Answers
-use Rattle.model.specs.Options.{Options, toDepth}
+use Rattle.model.specs.Options.{Options}
 use Rattle.model.specs.Options as Options
 use Rattle.model.specs.Netlist.{Design}
 use Rattle.model.specs.Run.{StoredBits, initialBits, byName}
@@ -16,7 +16,7 @@ use Rattle.model.specs.Induction as Induction
 use Rattle.model.specs.Sat.{scoreZero}
 use Rattle.model.specs.Transition.{fromNetlist}
 use Rattle.model.specs.Transition as Transition
-use Rattle.model.specs.Equivalence.{Problem, Verdict, Equivalent, NotEquivalent, Inconclusive, GaveUp, OutOfFuel, Outcome, proveSequentialEquivalence, largestLearned}
+use Rattle.model.specs.Equivalence.{Problem, Verdict, Equivalent, NotEquivalent, Inconclusive, GaveUp, OutOfFuel, Outcome, proveSequentialEquivalence, largestLearned, provedThrough}
 use Rattle.model.specs.Equivalence as Equivalence
 
 -- ---- two designs that passed validation
@@ -36,7 +36,7 @@ pub data CheckOutcome : Type 0 where
   refusedCheck : Refusal → CheckOutcome
   acceptedCheck : Outcome → CheckOutcome
 
--- the outcome for two designs from their initial states, given the first refusal of 16 to 24
+-- the outcome for two designs from their initial states, given the first refusal of the pair
 unfoldable pub checkPair : Options → Design → Design → Option Refusal → CheckOutcome
 checkPair options gold gate (some r) = refusedCheck r
 checkPair options gold gate none = acceptedCheck (checkDesigns options gold gate (initialBits gold) (initialBits gate))
@@ -52,8 +52,8 @@ checkOutcome gold gate options lent = checkRead options (readPair gold gate) len
 
 -- ---- what is answered
 
--- the answer of a verdict, and of the query that learned most; OutOfFuel has a status of its own, which no check answers
-unfoldable pub verdictAnswer : Verdict → Asked → CheckAnswer
+-- the answer of a verdict, of the query that learned most and of what is proved; OutOfFuel has a status of its own, which no check answers
+unfoldable pub verdictAnswer : Verdict → Asked → Option ℕ → CheckAnswer
 verdictAnswer (Equivalent d) = acceptedAnswer (statusNumber Answers.Equivalent) d 0 0
 verdictAnswer (NotEquivalent d m bytes) = acceptedAnswer (statusNumber Answers.NotEquivalent) d m 0
 verdictAnswer (Inconclusive d) = acceptedAnswer (statusNumber Answers.Inconclusive) d 0 0
@@ -63,7 +63,7 @@ verdictAnswer OutOfFuel = acceptedAnswer 4 0 0 0
 -- the answer of an outcome
 unfoldable pub checkAnswer : CheckOutcome → CheckAnswer
 checkAnswer (refusedCheck r) = refusedAnswer r
-checkAnswer (acceptedCheck o) = verdictAnswer (o .verdict) (largestLearned (o .asked))
+checkAnswer (acceptedCheck o) = verdictAnswer (o .verdict) (largestLearned (o .asked)) (provedThrough (o .verdict) (o .asked))
 
 -- ---- the lent memory after the call
 
@@ -112,9 +112,9 @@ checkResult outcome trace words scores =
 unfoldable pub lentOf : List ℕ → List ℕ → List Float → Lent
 lentOf trace words scores = record { trace = length trace; words = length words; scores = length scores }
 
--- check: gold's record, gate's record, the maximum depth D, and the buffers lent
-unfoldable pub check : (gold gate : List ℕ) (D : ℕ) (trace : List ℕ) (words : List ℕ) (scores : List Float) → CheckResult
-check gold gate D trace words scores = checkResult (checkOutcome gold gate (toDepth D) (lentOf trace words scores)) trace words scores
+-- check: gold's record, gate's record, the options asked, and the buffers lent
+unfoldable pub check : (gold gate : List ℕ) (options : Options) (trace : List ℕ) (words : List ℕ) (scores : List Float) → CheckResult
+check gold gate options trace words scores = checkResult (checkOutcome gold gate options (lentOf trace words scores)) trace words scores
 
 -- ---- as Induction's laws see it
 

@@ -1,5 +1,5 @@
 -- The four queries of equivalence.rs, and the loop over depths. Definitions only.
-use Prim.Native.Nat.{ℕ, zero, suc}
+use Prim.Native.Nat.{ℕ, zero, suc, _-_}
 use mathlib.Core.Bool.{Bool, true, false, cond, xor as xorBool}
 use mathlib.Core.List.{List, [], _∷_, _++_, map}
 use mathlib.Core.Option.{Option, none, some}
@@ -455,7 +455,21 @@ unfoldable pub largestLearned : List Asked → Asked
 largestLearned [] = record { depth = 0; query = 0; learned = 0 }
 largestLearned (a ∷ rest) = largestFrom a rest
 
+-- through which cycle the outputs are proved equal by the queries asked, of which the last, query q of depth d, gave up: through d where it comes after query 1, which said no, else through d - 1; through none where no other was asked
+unfoldable pub provedBefore : ℕ → ℕ → List Asked → Option ℕ
+provedBefore d q [] = none
+provedBefore d q (a ∷ []) = none
+provedBefore d q (a ∷ b ∷ rest) = some (cond (ltb 1 q) d (d - 1))
+
+-- what is told of it: a cycle for GaveUp alone
+unfoldable pub provedThrough : Verdict → List Asked → Option ℕ
+provedThrough (Equivalent d) asked = none
+provedThrough (NotEquivalent d m bytes) asked = none
+provedThrough (Inconclusive d) asked = none
+provedThrough (GaveUp d q) asked = provedBefore d q asked
+provedThrough OutOfFuel asked = none
+
 -- naming this in an `unfolding` line opens the definitions of this file and those it uses
 unfoldable pub all : Unit {0}
-unfolding remapLiteral withImported importNode importNodes importAig frameVariables frameOf importFrame withBuilt newVariables proofInputs stateLiteral consPair namedPairs orMismatch anyDifference comparePairs compareNamedState compareOutputs importFrames cycleOf comparedCycle baseStart baseQuery counterexampleNext counterexampleCompared counterexampleCycle counterexampleCycles baseCounterexample namedStateNext namedStateCompared namedStateCycle namedStateCycles basePreservesNamedState gateVariable matched gateVariables freeProductState cycleMismatch assumed inductionNext inductionCompared inductionCycle inductionCycles inductionQuery inductionCloses ask byte firstMismatch inputBytes markBytes firstMarks traceBytes askedToo notEquivalentAt afterQuery4 query4 afterQuery3 afterQuery2 afterQuery1 query1 atDepth depths proveSequentialEquivalence largerLearned largestFrom largestLearned Solving.all Graph.all Names.all xorBool
+unfolding remapLiteral withImported importNode importNodes importAig frameVariables frameOf importFrame withBuilt newVariables proofInputs stateLiteral consPair namedPairs orMismatch anyDifference comparePairs compareNamedState compareOutputs importFrames cycleOf comparedCycle baseStart baseQuery counterexampleNext counterexampleCompared counterexampleCycle counterexampleCycles baseCounterexample namedStateNext namedStateCompared namedStateCycle namedStateCycles basePreservesNamedState gateVariable matched gateVariables freeProductState cycleMismatch assumed inductionNext inductionCompared inductionCycle inductionCycles inductionQuery inductionCloses ask byte firstMismatch inputBytes markBytes firstMarks traceBytes askedToo notEquivalentAt afterQuery4 query4 afterQuery3 afterQuery2 afterQuery1 query1 atDepth depths proveSequentialEquivalence largerLearned largestFrom largestLearned provedBefore provedThrough Solving.all Graph.all Names.all xorBool
 all = tt

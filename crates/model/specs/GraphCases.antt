@@ -3,14 +3,14 @@ use Prim.Native.Nat.{ℕ}
 use mathlib.Core.Path.{_≡_, refl}
 use mathlib.Core.Bool.{true, false}
 use mathlib.Core.List.{List, [], _∷_, map}
-use mathlib.Core.Option.{some}
+use mathlib.Core.Option.{none, some}
 use Rattle.model.specs.Netlist.{Input, RegisterOutput, Not, Output, And, Or, Xor, Low, Design}
 use Rattle.model.specs.Literal.{Literal}
 use Rattle.model.specs.Aig.{Constant, Variable, Aig, Built, and, or, xor, mux}
 use Rattle.model.specs.Aig as Graph
 use Rattle.model.specs.Run.{initialBits}
 use Rattle.model.specs.Sat.{outOfFuel}
-use Rattle.model.specs.Equivalence.{Problem, Outcome, OutOfFuel, decided, afterQuery1, afterQuery2, afterQuery3, afterQuery4, baseCounterexample, basePreservesNamedState, inductionCloses, largestLearned}
+use Rattle.model.specs.Equivalence.{Problem, Verdict, Equivalent, NotEquivalent, Inconclusive, GaveUp, OutOfFuel, Outcome, decided, afterQuery1, afterQuery2, afterQuery3, afterQuery4, baseCounterexample, basePreservesNamedState, inductionCloses, largestLearned, provedThrough}
 use Rattle.model.specs.Check.{problemOf, checkDesigns, acceptedCheck, verdictAnswer, checkAnswer}
 use Rattle.model.specs.Cases.{a, b, e, h, p, q, y, clk, rst, design, sync, reg, reset0, toggle, holding, conjunction, asking, numbers}
 use Rattle.model.specs.Cases as Cases
@@ -107,7 +107,7 @@ unfolding Cases.all
 largest = refl
 
 -- under a limit of 0 the first literal is one too many: query 3 gives up, and the first query asked learned as much, nothing
-gives-up : checkAnswer (acceptedCheck (outcome 0 (toggle q) (toggle p))) ≡ numbers 0 0 0 3 1 0 3 (asking 1 1 0)
+gives-up : checkAnswer (acceptedCheck (outcome 0 (toggle q) (toggle p))) ≡ numbers 0 0 0 3 1 0 3 (asking 1 1 0) true 1
 unfolding outcome Cases.all
 gives-up = refl
 
@@ -121,9 +121,26 @@ gated = design (Input a ∷ Input b ∷ Or 0 1 ∷ And 0 1 ∷ Not 3 ∷ And 2 4
 
 -- query 1 learns 16 literals; under a smaller limit its total is the one before the clause that would pass it
 limited : map (λ limit. checkAnswer (acceptedCheck (outcome limit exclusive gated))) (262144 ∷ 12 ∷ 5 ∷ 3 ∷ [])
-    ≡ numbers 0 0 0 0 1 0 0 (asking 1 1 16) ∷ map (λ total. numbers 0 0 0 3 1 0 1 (asking 1 1 total)) (11 ∷ 4 ∷ 0 ∷ [])
+    ≡ numbers 0 0 0 0 1 0 0 (asking 1 1 16) false 0 ∷ map (λ total. numbers 0 0 0 3 1 0 1 (asking 1 1 total) false 0) (11 ∷ 4 ∷ 0 ∷ [])
 unfolding outcome exclusive gated Cases.all
 limited = refl
+
+-- what a give-up has proved: nothing where its query alone was asked, whatever its number; after others, the depth before it in query 1, be it 0, and its own depth after query 1
+proved : provedThrough (GaveUp 1 1) (asking 1 1 0 ∷ []) ∷ provedThrough (GaveUp 1 0) (asking 1 0 0 ∷ []) ∷ provedThrough (GaveUp 1 1) [] ∷ []
+    ≡ none ∷ none ∷ none ∷ []
+unfolding Cases.all
+proved = refl
+
+proved-after : map (λ (v : Verdict). provedThrough v (asking 1 0 0 ∷ asking 1 1 0 ∷ [])) (GaveUp 1 1 ∷ GaveUp 1 2 ∷ GaveUp 1 3 ∷ GaveUp 1 4 ∷ GaveUp 6 1 ∷ GaveUp 6 2 ∷ [])
+    ≡ map (λ c. some c) (0 ∷ 1 ∷ 1 ∷ 1 ∷ 5 ∷ 6 ∷ [])
+unfolding Cases.all
+proved-after = refl
+
+-- it is told of a give-up alone
+proved-otherwise : map (λ (v : Verdict). provedThrough v (asking 1 1 0 ∷ asking 1 2 0 ∷ [])) (Equivalent 2 ∷ NotEquivalent 2 2 [] ∷ Inconclusive 2 ∷ OutOfFuel ∷ [])
+    ≡ none ∷ none ∷ none ∷ none ∷ []
+unfolding Cases.all
+proved-otherwise = refl
 
 -- a search without an end, which none is, would stand among the queries asked with its depth, number and total
 out-of-fuel : (p : Problem) → afterQuery1 9 p 5 [] [] (outOfFuel 7) ∷ afterQuery2 9 p 5 [] (outOfFuel 7) ∷ afterQuery3 9 p 5 [] (outOfFuel 7) ∷ afterQuery4 5 [] (outOfFuel 7) ∷ []
@@ -132,6 +149,6 @@ unfolding Cases.all
 out-of-fuel p = refl
 
 -- and would be answered with a status of its own
-no-end : verdictAnswer OutOfFuel (asking 2 3 9) ≡ numbers 0 0 0 4 0 0 0 (asking 2 3 9)
+no-end : verdictAnswer OutOfFuel (asking 2 3 9) (some 6) ≡ numbers 0 0 0 4 0 0 0 (asking 2 3 9) true 6
 unfolding Cases.all
 no-end = refl

@@ -6,11 +6,11 @@ pub record Options : Type 0 where
   pub depth : ℕ
   pub limit : ℕ
 
--- the specification's limit
+-- the largest limit
 unfoldable pub learnedLimit : ℕ
 learnedLimit = 262144
 
--- a maximum depth, under the specification's limit
+-- a maximum depth, under the largest limit
 unfoldable pub toDepth : ℕ → Options
 toDepth depth = record { depth = depth; limit = learnedLimit }
 

@@ -1,4 +1,4 @@
--- The checks of a pair of accepted designs: refusals 16 to 24 for a check, 18 to 22 and 25 for a replay. Definitions only.
+-- The checks of a pair of accepted designs: refusals 16 to 24 and 36 for a check, 18 to 22 and 25 for a replay. Definitions only.
 use Prim.Native.Nat.{ℕ, suc, _+_, _*_}
 use mathlib.Core.Bool.{Bool, true, false, not, _&&_, _||_}
 use mathlib.Core.List.{List, [], _∷_}
@@ -6,7 +6,8 @@ use mathlib.Core.Option.{Option, none, some}
 use lib.ListN.{length, getElem?}
 use lib.Dec.{eqb, ltb}
 use Rattle.model.specs.Answers.{Refusal}
-use Rattle.model.specs.Options.{Options}
+use Rattle.model.specs.Options.{Options, learnedLimit}
+use Rattle.model.specs.Options as Options
 use Rattle.model.specs.Names.{Name, Place, sameName, sameNames, namesOf}
 use Rattle.model.specs.Netlist.{Node, Edge, Rising, Falling, Reset, Register, Design, inputName, inputs, outputs, registersByName, inputCount, outputCount, nodeCount, registerCount}
 use Rattle.model.specs.Record.{Read, parsed, refusedRecord}
@@ -129,11 +130,12 @@ traceLength d c = suc c * inputCount d + outputCount d
 unfoldable pub tooShort : Design → ℕ → Lent → Bool
 tooShort gold depth lent = ltb (lent .trace) (traceLength gold depth) || ltb (lent .words) 8388608 || ltb (lent .scores) 65536
 
--- the first refusal of 16 to 24, for a check under its options
+-- the first refusal of a check under its options: 16, 17, 36 a limit above the largest, 18 to 24
 unfoldable pub checkFault : Design → Design → Options → Lent → Option Refusal
 checkFault gold gate options lent =
     refuseIf 16 0 0 (eqb (options .depth) 0)
     otherwise refuseIf 17 0 0 (ltb 64 (options .depth))
+    otherwise refuseIf 36 0 0 (ltb learnedLimit (options .limit))
     otherwise interfaceFault gold gate
     otherwise initialFault gold gate
     otherwise refuseIf 23 0 0 (ltb 65535 (proofNodes gold gate (options .depth)))
@@ -191,5 +193,5 @@ checkRefusal gold gate options lent = checkRefusalOf (readPair gold gate) option
 
 -- naming this opens them all
 unfoldable pub all : Unit {0}
-unfolding onGate withGate withGold readPair checkRefusalOf checkRefusal inputsDiffer outputsDiffer nameOr nameAt domainOf sameEdge sameDomain allIn manyDomains domain domainsDiffer interfaceFault noReset noResetAt resetsFault initialFault nodesPerCycle proofNodes traceLength tooShort checkFault allBits badClaim replayFault Validate.all
+unfolding onGate withGate withGold readPair checkRefusalOf checkRefusal inputsDiffer outputsDiffer nameOr nameAt domainOf sameEdge sameDomain allIn manyDomains domain domainsDiffer interfaceFault noReset noResetAt resetsFault initialFault nodesPerCycle proofNodes traceLength tooShort checkFault allBits badClaim replayFault Options.all Validate.all
 all = tt

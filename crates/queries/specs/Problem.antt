@@ -1,6 +1,7 @@
 -- What a problem by value and the words stand for, and what is asked and promised of its proof. Definitions only.
 use mathlib.Core.Path.{_≡_}
 use mathlib.Core.List.{List, map}
+use mathlib.Core.Option.{Option}
 use Prim.Native.Nat.{ℕ, suc, _+_, _*_, _≤_}
 use lib.ListN.{length}
 use lib.Ieee.{Float}
@@ -46,8 +47,8 @@ pub record Provable (x : Problem) (limit D : ℕ) (w : List ℕ) (scores : List 
   pub problem : Model.Problem
   pub stands : StandsFor x w problem
 
--- a verdict as the specification answers it, with the query that learned most
-unfoldable pub answerOfVerdict : Verdict → Asked → CheckAnswer
+-- a verdict as the specification answers it, with the query that learned most and what is proved
+unfoldable pub answerOfVerdict : Verdict → Asked → Option ℕ → CheckAnswer
 answerOfVerdict (Equivalent d) = acceptedAnswer (statusNumber Answers.Equivalent) d 0 0
 answerOfVerdict (NotEquivalent d m) = acceptedAnswer (statusNumber Answers.NotEquivalent) d m 0
 answerOfVerdict (Inconclusive d) = acceptedAnswer (statusNumber Answers.Inconclusive) d 0 0

@@ -1,4 +1,5 @@
-// A line of the call check: `check GOLDHEX GATEHEX D TRACELEN WORDSLEN SCORESLEN = NUMBER SIDE PLACE STATUS DEPTH MISMATCH QUERY LEARNED LDEPTH LQUERY TRACEHEX`.
+// A line of the call check:
+// `check GOLDHEX GATEHEX D LIMIT TRACELEN WORDSLEN SCORESLEN = NUMBER SIDE PLACE STATUS DEPTH MISMATCH QUERY LEARNED LDEPTH LQUERY EQUAL THROUGH TRACEHEX`.
 // The buffers that it asks for, the answer recorded in it, and what the buffers hold after the call.
 ghost use Prim.Native.Nat.{_≤_};
 use crate::lent::HELD_WORD;
@@ -18,11 +19,12 @@ use lender::text::hex;
 use lender::text::number;
 use lender::text::space;
 
-// What a line asks for: the lengths of the records, the depth and the lengths of the buffers; and the offset after them.
+// What a line asks for: the lengths of the records, the depth, the limit and the lengths of the buffers; and the offset after them.
 pub struct Asked {
     pub gold: usize,
     pub gate: usize,
     pub depth: u64,
+    pub limit: u64,
     pub trace: usize,
     pub words: usize,
     pub scores: usize,
@@ -31,13 +33,15 @@ pub struct Asked {
 
 fn asks(line: &[u8], records: Pair) -> Asked {
     let depth = number(line, space(line, records.next));
-    let trace = number(line, space(line, depth.next));
+    let limit = number(line, space(line, depth.next));
+    let trace = number(line, space(line, limit.next));
     let words = number(line, space(line, trace.next));
     let scores = number(line, space(line, words.next));
     Asked {
         gold: records.gold,
         gate: records.gate,
         depth: depth.value,
+        limit: limit.value,
         trace: trace.value as usize,
         words: words.value as usize,
         scores: scores.value as usize,
@@ -68,6 +72,13 @@ pub struct Learned {
     pub next: usize,
 }
 
+// Whether outputs are proved equal through a cycle, 0 or 1, and that cycle in a recorded answer, and the offset after them.
+pub struct Proved {
+    pub equal: u64,
+    pub through: u64,
+    pub next: usize,
+}
+
 fn told_verdict(line: &[u8], from: usize) -> Verdict {
     let status = number(line, space(line, from));
     let depth = number(line, space(line, status.next));
@@ -94,11 +105,22 @@ fn told_learned(line: &[u8], from: usize) -> Learned {
     }
 }
 
+fn told_proved(line: &[u8], from: usize) -> Proved {
+    let equal = number(line, space(line, from));
+    let through = number(line, space(line, equal.next));
+    Proved {
+        equal: equal.value,
+        through: through.value,
+        next: through.next,
+    }
+}
+
 // A recorded answer: its numbers, how many bytes of the trace are written, and the offset after it.
 pub struct Recorded {
     pub refusal: Refusal,
     pub verdict: Verdict,
     pub learned: Learned,
+    pub proved: Proved,
     pub accepted: bool,
     pub written: usize,
     pub next: usize,
@@ -109,11 +131,13 @@ pub fn recorded_answer(line: &[u8], from: usize, claim: &mut [u8]) -> Recorded {
     let r = told_refusal(line, from);
     let v = told_verdict(line, r.next);
     let l = told_learned(line, v.next);
-    let bytes = hex(line, space(line, l.next), claim);
+    let p = told_proved(line, l.next);
+    let bytes = hex(line, space(line, p.next), claim);
     Recorded {
         refusal: r,
         verdict: v,
         learned: l,
+        proved: p,
         accepted: r.number == 0,
         written: bytes.count,
         next: bytes.next,

@@ -38,11 +38,15 @@ pub const LEARNED_DEPTH: u8 = 9;
 
 pub const LEARNED_QUERY: u8 = 10;
 
-pub const TRACE: u8 = 11;
+pub const EQUAL: u8 = 11;
 
-pub const WORDS: u8 = 12;
+pub const THROUGH: u8 = 12;
 
-pub const SCORES: u8 = 13;
+pub const TRACE: u8 = 13;
+
+pub const WORDS: u8 = 14;
+
+pub const SCORES: u8 = 15;
 
 // The comparison of one number; an outcome that is found already stays.
 pub fn compared(so_far: Outcome, what: u8, expected: u64, answered: u64) -> Outcome {
@@ -74,7 +78,7 @@ fn tell_name(names: &[u8], k: u8) {
 // The name of a part of an answer.
 fn tell_part(what: u8) {
     tell_name(
-        b"number  side    place   yes     status  depth   mismatchquery   learned ldepth  lquery  trace   word    score   ",
+        b"number  side    place   yes     status  depth   mismatchquery   learned ldepth  lquery  equal   through trace   word    score   ",
         what,
     );
 }

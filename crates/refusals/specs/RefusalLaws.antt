@@ -1,15 +1,16 @@
 -- The refusals as they are tested are the specification's, and what follows where none applies. Assumes nothing.
 use Prim.Native.Nat.{ℕ, _+_, _*_, _≤_}
-use mathlib.Core.Path.{_≡_}
+use mathlib.Core.Path.{_≡_, ap, _∙_}
 use mathlib.Core.Bool.{_||_}
 use mathlib.Core.List.{List}
-use mathlib.Core.Option.{none}
+use mathlib.Core.Option.{Option, none}
 use native.Mathlib.Nat.{mul-le-mul}
 use native.Mathlib.Numerals.{add-one}
 use borrow.Author.Tests.{ltb-false}
 use lib.Dec.{eqb, ltb}
-use Rattle.words.specs.Layout.{LENT, MOST-NODES}
-use Rattle.model.specs.Options.{Options}
+use Rattle.words.specs.Layout.{LENT, MOST-NODES, MOST-LEARNED}
+use Rattle.model.specs.Answers.{Refusal}
+use Rattle.model.specs.Options.{Options, learnedLimit}
 use Rattle.model.specs.Netlist.{Design, inputs, outputs, inputCount, outputCount, nodeCount, registerCount}
 use Rattle.model.specs.Validate.{_otherwise_, refuseIf}
 use Rattle.model.specs.Pair as Pair
@@ -21,8 +22,8 @@ use Rattle.struo_ir.specs.Decoded.{decoded}
 use Rattle.struo_ir.specs.Designs.{Sided}
 use Rattle.struo_ir.specs.declared.design.Design as Travelling
 use Rattle.pair.specs.CountLaws.{count-nodes, count-registers, count-inputs, count-outputs}
-use Rattle.laws.specs.Induction.Pairs.{names-length, depth-positive}
-use Rattle.refusals.specs.Refusals.{framesBy, nodesBy, shortBy, depthFault, sizeFault, initialAndSizeFault, pairFault}
+use Rattle.laws.specs.Induction.Pairs.{names-length, depth-positive, limit-small}
+use Rattle.refusals.specs.Refusals.{framesBy, nodesBy, shortBy, optionsFault, sizeFault, initialAndSizeFault, pairFault}
 
 -- ---- the checks in turn
 
@@ -42,15 +43,19 @@ sizes-of s t gold gate depth lent v u =
     (count-nodes s (gold .netlist) (v .valid .padded)) (count-nodes t (gate .netlist) (u .valid .padded))
     (count-registers s (gold .netlist) (v .valid .padded)) (count-registers t (gate .netlist) (u .valid .padded))
 
--- the depth's checks, then the pair's, are all of them
-pub check-of : (gold gate : Design) (options : Options) (lent : Pair.Lent) → (depthFault (options .depth) otherwise pairFault gold gate (options .depth) lent) ≡ checkFault gold gate options lent
-unfolding depthFault pairFault initialAndSizeFault checkFault
-check-of gold gate options lent = otherwise-assoc (refuseIf 16 0 0 (eqb (options .depth) 0)) (refuseIf 17 0 0 (ltb 64 (options .depth))) _
+-- the checks of the options, then the pair's, are all of them
+pub check-of : (gold gate : Design) (options : Options) (lent : Pair.Lent) → (optionsFault options otherwise pairFault gold gate (options .depth) lent) ≡ checkFault gold gate options lent
+unfolding optionsFault pairFault initialAndSizeFault checkFault
+check-of gold gate options lent =
+    let none-asked = refuseIf 16 0 0 (eqb (options .depth) 0) in
+    let deep = refuseIf 17 0 0 (ltb 64 (options .depth)) in
+    otherwise-assoc none-asked (deep otherwise refuseIf 36 0 0 (ltb learnedLimit (options .limit))) _
+    ∙ ap (λ (rest : Option Refusal). none-asked otherwise rest) (otherwise-assoc deep (refuseIf 36 0 0 (ltb learnedLimit (options .limit))) _)
 
 -- a depth that is not refused is within 64
-pub depth-small : (depth : ℕ) → depthFault depth ≡ none → depth ≤ 64
-unfolding depthFault
-depth-small depth e = ltb-false 64 depth (refuseIf-none 17 0 0 _ (otherwise-none (refuseIf 16 0 0 (eqb depth 0)) _ e .1))
+pub depth-small : (o : Options) → optionsFault o ≡ none → o .depth ≤ 64
+unfolding optionsFault
+depth-small o e = ltb-false 64 (o .depth) (refuseIf-none 17 0 0 _ (otherwise-none (refuseIf 17 0 0 (ltb 64 (o .depth))) _ (otherwise-none (refuseIf 16 0 0 (eqb (o .depth) 0)) _ e .1) .0))
 
 -- a product of small numbers is small
 pub product-small : (m n k l : ℕ) → m ≤ k → n ≤ l → m * n ≤ k * l
@@ -68,6 +73,7 @@ short-within inputs outputs depth lent = rw add-one
 pub record Accepted (gold gate : Design) (options : Options) (lent : Pair.Lent) : Type 0 where
   pub depth-some : 1 ≤ options .depth
   pub depth-small : options .depth ≤ 64
+  pub limit-small : options .limit ≤ MOST-LEARNED
   pub inputs-alike : inputCount gold ≡ inputCount gate
   pub outputs-alike : outputCount gold ≡ outputCount gate
   pub fits : proofNodes gold gate (options .depth) ≤ 65535
@@ -82,7 +88,8 @@ accepted gold gate options lent e =
     let depth = options .depth in
     let zero-depth = otherwise-none (refuseIf 16 0 0 (eqb depth 0)) _ e in
     let deep = otherwise-none (refuseIf 17 0 0 (ltb 64 depth)) _ (zero-depth .1) in
-    let interface = otherwise-none (interfaceFault gold gate) _ (deep .1) in
+    let limit = otherwise-none (refuseIf 36 0 0 (ltb learnedLimit (options .limit))) _ (deep .1) in
+    let interface = otherwise-none (interfaceFault gold gate) _ (limit .1) in
     let ins = otherwise-none (refuseIf 18 0 0 (inputsDiffer gold gate)) _ (interface .0) in
     let outs = otherwise-none (refuseIf 19 0 0 (outputsDiffer gold gate)) _ (ins .1) in
     let initial = otherwise-none (initialFault gold gate) _ (interface .1) in
@@ -92,6 +99,7 @@ accepted gold gate options lent e =
     record {
       depth-some = depth-positive gold gate options lent e;
       depth-small = ltb-false 64 depth (refuseIf-none 17 0 0 _ (deep .0));
+      limit-small = limit-small gold gate options lent e;
       inputs-alike = names-length (inputs gold) (inputs gate) (refuseIf-none 18 0 0 _ (ins .0));
       outputs-alike = names-length (outputs gold) (outputs gate) (refuseIf-none 19 0 0 _ (outs .0));
       fits = ltb-false 65535 (proofNodes gold gate depth) (refuseIf-none 23 0 0 _ (large .0));

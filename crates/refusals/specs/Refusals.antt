@@ -1,10 +1,11 @@
--- The refusals 16 to 24 from counts, and in the parts in which they are tested. Definitions only.
+-- The refusals 16, 17, 36 and 18 to 24 from counts, and in the parts in which they are tested. Definitions only.
 use Prim.Native.Nat.{ℕ, suc, _+_, _*_}
 use mathlib.Core.Bool.{Bool, _||_}
 use mathlib.Core.Option.{Option}
 use lib.Dec.{eqb, ltb}
 use Rattle.words.specs.Layout.{LENT, MOST-NODES}
 use Rattle.model.specs.Answers.{Refusal}
+use Rattle.model.specs.Options.{Options, learnedLimit}
 use Rattle.model.specs.Netlist.{Design}
 use Rattle.model.specs.Validate.{_otherwise_, refuseIf}
 use Rattle.model.specs.Pair as Pair
@@ -22,9 +23,9 @@ nodesBy inputs outputs nodes registers depth = suc depth * framesBy inputs outpu
 unfoldable pub shortBy : (inputs outputs depth : ℕ) → Pair.Lent → Bool
 shortBy inputs outputs depth lent = ltb (lent .trace) (suc depth * inputs + outputs) || ltb (lent .words) LENT || ltb (lent .scores) MOST-NODES
 
--- 16 and 17
-unfoldable pub depthFault : ℕ → Option Refusal
-depthFault depth = refuseIf 16 0 0 (eqb depth 0) otherwise refuseIf 17 0 0 (ltb 64 depth)
+-- 16, 17 and 36
+unfoldable pub optionsFault : Options → Option Refusal
+optionsFault o = refuseIf 16 0 0 (eqb (o .depth) 0) otherwise refuseIf 17 0 0 (ltb 64 (o .depth)) otherwise refuseIf 36 0 0 (ltb learnedLimit (o .limit))
 
 -- 23 and 24, from the counts
 unfoldable pub sizeFault : (inputs outputs nodes registers depth : ℕ) → Pair.Lent → Option Refusal

@@ -1,4 +1,4 @@
-// The refusals 16 to 24 of a check, in the specification's order. Nothing lent is written before all of them are tested.
+// The refusals 16, 17, 36 and 18 to 24 of a check, in the specification's order. Nothing lent is written before all of them are tested.
 ghost use mathlib.Core.Path.{_≡_};
 ghost use mathlib.Core.List.{List};
 ghost use Prim.Native.Nat.{ℕ, _≤_};
@@ -9,8 +9,9 @@ ghost use Rattle.calls.specs.Options.{optionsOf, lentOf};
 ghost use Rattle.struo_ir.specs.Decoded.{decoded};
 ghost use Rattle.struo_ir.specs.Designs.{Sized, Sided};
 ghost use Rattle.struo_ir.specs.Orders.{Formed};
-ghost use Rattle.refusals.specs.Refusals.{framesBy, nodesBy, shortBy, depthFault, sizeFault, initialAndSizeFault, pairFault};
+ghost use Rattle.refusals.specs.Refusals.{framesBy, nodesBy, shortBy, optionsFault, sizeFault, initialAndSizeFault, pairFault};
 use calls::fault::Fault;
+use calls::options::LIMIT;
 use calls::options::Lent;
 use calls::options::Options;
 use pair::checks::initial_fault;
@@ -19,15 +20,18 @@ use struo_ir::design::Design;
 use words::LENT;
 use words::MOST_NODES;
 
-// 16 and 17. The depth is tested as it came, before anything is computed from it.
-fn depth_fault(depth: u64) -> Fault
-    ensures { λ r. ⌜ faultOf r ≡ depthFault depth ⌝ }
+// 16, 17 and 36. Depth and limit are tested as they came, before anything is computed from them.
+fn options_fault(options: Options) -> Fault
+    ensures { λ r. ⌜ faultOf r ≡ optionsFault (optionsOf options) ⌝ }
 {
-    if depth == 0 {
+    if options.depth == 0 {
         return Fault::Refused(16, 0, 0);
     }
-    if depth > 64 {
+    if options.depth > 64 {
         return Fault::Refused(17, 0, 0);
+    }
+    if options.limit > LIMIT {
+        return Fault::Refused(36, 0, 0);
     }
     Fault::Nothing
 }
@@ -132,7 +136,7 @@ fn pair_fault(
     }
 }
 
-// The first refusal of 16 to 24.
+// The first refusal of 16, 17, 36 and 18 to 24.
 pub fn check_fault(
     gold: &[u8],
     gold_design: Design,
@@ -144,10 +148,12 @@ pub fn check_fault(
     requires { ⌜ (Sided (now gold) «gold_design») × (Sided (now gate) «gate_design») ⌝ }
     ensures { λ r. ⌜ faultOf r ≡ checkFault (decoded (now (gold .entry)) («gold_design» .netlist)) (decoded (now (gate .entry)) («gate_design» .netlist)) (optionsOf options) (lentOf lent) ⌝ }
 {
-    let depth = options.depth;
-    let first = depth_fault(depth);
+    let first = options_fault(options);
     match first {
         Fault::Refused(number, side, place) => Fault::Refused(number, side, place),
-        Fault::Nothing => pair_fault(gold, gold_design, gate, gate_design, depth as usize, lent),
+        Fault::Nothing => {
+            let depth = options.depth as usize;
+            pair_fault(gold, gold_design, gate, gate_design, depth, lent)
+        }
     }
 }

@@ -3,6 +3,7 @@ use calls::answers::CheckAnswer;
 use calls::answers::ReadAnswer;
 use calls::answers::ReplayAnswer;
 use calls::fault::Fault;
+use calls::options::Options;
 use calls::position::ReplayPosition;
 use netlist_checks::record::read_record;
 ghost use mathlib.Core.Path.{_≡_};
@@ -115,20 +116,23 @@ pub extern "C" fn struo_step(
     step(gold, gate, cycle, claim, position, bits)
 }
 
-// Check two records of any content and length to a maximum depth, in lent memory of any content and length: a refusal of 1 to 24, which leaves
-// everything lent as it was, or a verdict. The trace is written for NotEquivalent only; words and scores are all zero after an accepted check.
+// Check two records of any content and length to a maximum depth, under a limit of learned literals in each query, in lent memory of any content and
+// length: a refusal of 1 to 24 or 36, which leaves everything lent as it was, or a verdict. The trace is written for NotEquivalent only; words and
+// scores are all zero after an accepted check.
 pub fn check(
     gold: &[u8],
     gate: &[u8],
     depth: u64,
+    limit: u64,
     trace: &mut [u8],
     words: &mut [u32],
     scores: &mut [f64],
 ) -> CheckAnswer
     ensures { λ r. ⌜ checkedOf r (now (trace .exit)) (now (words .exit)) (now (scores .exit))
-        ≡ Check.check (now (gold .entry)) (now (gate .entry)) depth (now (trace .entry)) (now (words .entry)) (now (scores .entry)) ⌝ }
+        ≡ Check.check (now (gold .entry)) (now (gate .entry)) (record { depth = depth; limit = limit }) (now (trace .entry)) (now (words .entry)) (now (scores .entry)) ⌝ }
 {
-    checker::call::check(gold, gate, depth, trace, words, scores)
+    let options = Options { depth, limit };
+    checker::call::check(gold, gate, options, trace, words, scores)
 }
 
 // The same for C.
@@ -137,12 +141,13 @@ pub extern "C" fn struo_check(
     gold: &[u8],
     gate: &[u8],
     depth: u64,
+    limit: u64,
     trace: &mut [u8],
     words: &mut [u32],
     scores: &mut [f64],
 ) -> CheckAnswer
     ensures { λ r. ⌜ checkedOf r (now (trace .exit)) (now (words .exit)) (now (scores .exit))
-        ≡ Check.check (now (gold .entry)) (now (gate .entry)) depth (now (trace .entry)) (now (words .entry)) (now (scores .entry)) ⌝ }
+        ≡ Check.check (now (gold .entry)) (now (gate .entry)) (record { depth = depth; limit = limit }) (now (trace .entry)) (now (words .entry)) (now (scores .entry)) ⌝ }
 {
-    check(gold, gate, depth, trace, words, scores)
+    check(gold, gate, depth, limit, trace, words, scores)
 }

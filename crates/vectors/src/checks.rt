@@ -2,6 +2,8 @@
 use calls::answers::CheckAnswer;
 use lender::text::first;
 use recorded::check_line::Asked;
+use recorded::check_line::Learned;
+use recorded::check_line::Proved;
 use recorded::check_line::Recorded;
 use recorded::check_line::Verdict;
 use recorded::check_line::asked_of;
@@ -13,6 +15,7 @@ use recorded::lent::hold_bytes;
 use recorded::lent::hold_scores;
 use recorded::lent::hold_words;
 use recorded::outcome::DEPTH;
+use recorded::outcome::EQUAL;
 use recorded::outcome::LEARNED;
 use recorded::outcome::LEARNED_DEPTH;
 use recorded::outcome::LEARNED_QUERY;
@@ -20,6 +23,7 @@ use recorded::outcome::MISMATCH;
 use recorded::outcome::Outcome;
 use recorded::outcome::QUERY;
 use recorded::outcome::STATUS;
+use recorded::outcome::THROUGH;
 use recorded::outcome::compared;
 use recorded::refusal::Refusal;
 use recorded::refusal::compared_refusal;
@@ -33,11 +37,9 @@ fn verdict_numbers(answer: CheckAnswer, r: Refusal, v: Verdict) -> Outcome {
     compared(mismatch_told, QUERY, v.query, answer.query as u64)
 }
 
-// All numbers of an answer compared with the recorded ones.
-fn numbers(answer: CheckAnswer, t: Recorded) -> Outcome {
-    let verdict_told = verdict_numbers(answer, t.refusal, t.verdict);
-    let l = t.learned;
-    let learned_told = compared(verdict_told, LEARNED, l.total, answer.learned as u64);
+// The query that learned most, after what was compared already.
+fn learned_numbers(so_far: Outcome, answer: CheckAnswer, l: Learned) -> Outcome {
+    let learned_told = compared(so_far, LEARNED, l.total, answer.learned as u64);
     let depth_told = compared(
         learned_told,
         LEARNED_DEPTH,
@@ -50,6 +52,20 @@ fn numbers(answer: CheckAnswer, t: Recorded) -> Outcome {
         l.query,
         answer.learned_query as u64,
     )
+}
+
+// The cycle through which outputs are proved equal, after what was compared already.
+fn proved_numbers(so_far: Outcome, answer: CheckAnswer, p: Proved) -> Outcome {
+    let equal = if answer.equal { 1 } else { 0 };
+    let equal_told = compared(so_far, EQUAL, p.equal, equal);
+    compared(equal_told, THROUGH, p.through, answer.through as u64)
+}
+
+// All numbers of an answer compared with the recorded ones.
+fn numbers(answer: CheckAnswer, t: Recorded) -> Outcome {
+    let verdict_told = verdict_numbers(answer, t.refusal, t.verdict);
+    let learned_told = learned_numbers(verdict_told, answer, t.learned);
+    proved_numbers(learned_told, answer, t.proved)
 }
 
 // Makes the call.
@@ -68,6 +84,7 @@ fn ask(
         gold,
         gate,
         q.depth,
+        q.limit,
         &mut trace[..t],
         &mut words[..w],
         &mut scores[..s],

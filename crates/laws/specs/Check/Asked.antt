@@ -38,6 +38,10 @@ ordered-next : (before after : List Asked) (a b : Asked) → Ordered (before ++ 
 ordered-next [] after a b h = h .0 .0
 ordered-next (x ∷ before) after a b h = ordered-next before after a b (h .1)
 
+ordered-later : (before after : List Asked) (a : Asked) → Ordered (before ++ (a ∷ after)) → All (Sooner a) after
+ordered-later [] after a h = h .0
+ordered-later (x ∷ before) after a h = ordered-later before after a (h .1)
+
 -- ---- the largest total
 
 -- what every query asked has, the one that learned most has
@@ -64,7 +68,7 @@ module _ (limit : ℕ) (p : Problem) (D : ℕ) where
   -- ---- the first query asked
 
   -- the list begins with query 1 of depth 1, unless that is asked next
-  abbrev Begins : ℕ → ℕ → List Asked → Type 0
+  abbrev pub Begins : ℕ → ℕ → List Asked → Type 0
   Begins d k [] = (d ≡ 0) ⊎ ((d ≡ 1) × (k ≡ 1))
   Begins d k (a ∷ rest) = (a .depth ≡ 1) × (a .query ≡ 1)
 
@@ -79,7 +83,7 @@ module _ (limit : ℕ) (p : Problem) (D : ℕ) where
   begins-further d k next n [] low (inr z) = z
   begins-further d k next n (a ∷ rest) low h = h
 
-  asking-begins : (d k : ℕ) (earlier : List Asked) → Asking limit p D d k earlier → Begins d k earlier
+  pub asking-begins : (d k : ℕ) (earlier : List Asked) → Asking limit p D d k earlier → Begins d k earlier
   asking-begins d k earlier nothing = inl refl
   asking-begins d k earlier (deeper {d = c} h l) = begins-deeper c earlier (asking-begins c 5 earlier h)
   asking-begins d k earlier (further {k = j} {earlier = es} q a n h w e t l) =
@@ -183,6 +187,13 @@ module _ (o : Options) (gold gate : Design) (s t : StoredBits) where
   unfolding checkDesigns
   designs-ordered before after a b e =
       let p = problemOf gold gate s t in ordered-next before after a b (subst Ordered e (walk-ordered (o .limit) p (o .depth) _ _ (prove-walk (o .limit) p (o .depth))))
+
+  -- and so before every one that stands after it
+  pub designs-later : (before after : List Asked) (a : Asked) → checkDesigns o gold gate s t .asked ≡ before ++ (a ∷ after) → (b : Asked) → List·Memᴰ b after → Sooner a b
+  unfolding checkDesigns
+  designs-later before after a e b m =
+      let p = problemOf gold gate s t in
+      all-member (Sooner a) after (ordered-later before after a (subst Ordered e (walk-ordered (o .limit) p (o .depth) _ _ (prove-walk (o .limit) p (o .depth))))) b m
 
   -- each is told with the total of the state in which its search ends
   pub designs-told : (a : Asked) → List·Memᴰ a (checkDesigns o gold gate s t .asked) → Told (o .limit) (problemOf gold gate s t) (o .depth) a

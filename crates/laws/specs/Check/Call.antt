@@ -8,14 +8,14 @@ use lib.ListN.{length, replicate}
 use lib.Ieee.{Float}
 use Rattle.model.specs.Answers.{Refusal, Status, statusNumber, Asked, refusedAnswer, acceptedAnswer}
 use Rattle.model.specs.Answers as Answers
-use Rattle.model.specs.Options.{Options, toDepth}
+use Rattle.model.specs.Options.{Options}
 use Rattle.model.specs.Netlist.{Design}
 use Rattle.model.specs.Run.{initialBits}
 use Rattle.model.specs.Pair.{Lent, ReadPair, both, refusedPair, readPair, checkFault, checkRefusalOf, checkRefusal}
 use Rattle.model.specs.Induction.{refused, answered, unfinished, Accepts, Refuses}
 use Rattle.model.specs.Induction as Induction
 use Rattle.model.specs.Sat.{scoreZero}
-use Rattle.model.specs.Equivalence.{Verdict, Equivalent, NotEquivalent, Inconclusive, GaveUp, OutOfFuel, largestLearned}
+use Rattle.model.specs.Equivalence.{Verdict, Equivalent, NotEquivalent, Inconclusive, GaveUp, OutOfFuel, largestLearned, provedThrough}
 use Rattle.model.specs.Check.{checkDesigns, CheckOutcome, refusedCheck, acceptedCheck, checkPair, checkRead, checkOutcome, verdictAnswer, checkAnswer, traceAfter, clearedAfter, CheckResult, checkResult, lentOf, check, verdictSays, outcomeSays, checked}
 use Rattle.laws.specs.Terms.{Numbered, checkedDesigns}
 use Rattle.laws.specs.Induction.Pairs.{Accepted, accepted-pair, free-of}
@@ -103,50 +103,50 @@ module _ (a b : List ℕ) (o : Options) (lent : Lent) (gold gate : Design) (free
 -- ---- the call
 
 -- a refused check: the refusal, unused numbers 0, and every buffer as it was lent
-pub check-refused : (gold gate : List ℕ) (D : ℕ) (trace words : List ℕ) (scores : List Float) (r : Refusal)
-    → checkRefusal gold gate (toDepth D) (lentOf trace words scores) ≡ some r
-    → check gold gate D trace words scores
+pub check-refused : (gold gate : List ℕ) (o : Options) (trace words : List ℕ) (scores : List Float) (r : Refusal)
+    → checkRefusal gold gate o (lentOf trace words scores) ≡ some r
+    → check gold gate o trace words scores
     ≡ record { answer = refusedAnswer r; trace = trace; words = words; scores = scores }
 unfolding check checkResult checkOutcome checkRefusal checkAnswer traceAfter clearedAfter
-check-refused gold gate D trace words scores r e =
-    ap (λ (o : CheckOutcome). checkResult o trace words scores) (read-outcome (toDepth D) (readPair gold gate) (lentOf trace words scores) r e)
+check-refused gold gate o trace words scores r e =
+    ap (λ (x : CheckOutcome). checkResult x trace words scores) (read-outcome o (readPair gold gate) (lentOf trace words scores) r e)
 
 -- an accepted call's result is that of the two designs' outcome
-pub call-is : (a b : List ℕ) (D : ℕ) (trace words : List ℕ) (scores : List Float) (gold gate : Design)
-    → checkRefusal a b (toDepth D) (lentOf trace words scores) ≡ none → readPair a b ≡ both gold gate
-    → check a b D trace words scores ≡ checkResult (acceptedCheck (checkDesigns (toDepth D) gold gate (initialBits gold) (initialBits gate))) trace words scores
+pub call-is : (a b : List ℕ) (o : Options) (trace words : List ℕ) (scores : List Float) (gold gate : Design)
+    → checkRefusal a b o (lentOf trace words scores) ≡ none → readPair a b ≡ both gold gate
+    → check a b o trace words scores ≡ checkResult (acceptedCheck (checkDesigns o gold gate (initialBits gold) (initialBits gate))) trace words scores
 unfolding check
-call-is a b D trace words scores gold gate free pair =
-    ap (λ (o : CheckOutcome). checkResult o trace words scores) (outcome-is a b (toDepth D) (lentOf trace words scores) gold gate free pair)
+call-is a b o trace words scores gold gate free pair =
+    ap (λ (x : CheckOutcome). checkResult x trace words scores) (outcome-is a b o (lentOf trace words scores) gold gate free pair)
 
 -- after an accepted check words and scores are zero over their whole length
-pub check-cleared : (gold gate : List ℕ) (D : ℕ) (trace words : List ℕ) (scores : List Float)
-    → checkRefusal gold gate (toDepth D) (lentOf trace words scores) ≡ none
-    → (check gold gate D trace words scores .words ≡ replicate (length words) 0)
-    × (check gold gate D trace words scores .scores ≡ replicate (length scores) scoreZero)
+pub check-cleared : (gold gate : List ℕ) (o : Options) (trace words : List ℕ) (scores : List Float)
+    → checkRefusal gold gate o (lentOf trace words scores) ≡ none
+    → (check gold gate o trace words scores .words ≡ replicate (length words) 0)
+    × (check gold gate o trace words scores .scores ≡ replicate (length scores) scoreZero)
 unfolding checkResult clearedAfter
-check-cleared a b D trace words scores e =
-    let k : Accepted a b (toDepth D) (lentOf trace words scores) = accepted-pair a b (toDepth D) (lentOf trace words scores) e in
-    let c = call-is a b D trace words scores (k .gold) (k .gate) e (k .pair) in
+check-cleared a b o trace words scores e =
+    let k : Accepted a b o (lentOf trace words scores) = accepted-pair a b o (lentOf trace words scores) e in
+    let c = call-is a b o trace words scores (k .gold) (k .gate) e (k .pair) in
     (ap (λ (r : CheckResult). r .words) c, ap (λ (r : CheckResult). r .scores) c)
 
 -- ---- the numbers of the answer
 
-verdict-numbered : (v : Verdict) (most : Asked) (status : Status) (d : ℕ) → verdictSays v ≡ answered status d → Numbered (verdictAnswer v most) status d
+verdict-numbered : (v : Verdict) (most : Asked) (proved : Option ℕ) (status : Status) (d : ℕ) → verdictSays v ≡ answered status d → Numbered (verdictAnswer v most proved) status d
 unfolding verdictSays verdictAnswer acceptedAnswer
-verdict-numbered (Equivalent k) most status d e = let f : Answers.Equivalent ≡ status = cc in let g : k ≡ d = cc in record { number = refl; status-number = ap statusNumber f; depth = g }
-verdict-numbered (NotEquivalent k m bytes) most status d e = let f : Answers.NotEquivalent ≡ status = cc in let g : k ≡ d = cc in record { number = refl; status-number = ap statusNumber f; depth = g }
-verdict-numbered (Inconclusive k) most status d e = let f : Answers.Inconclusive ≡ status = cc in let g : k ≡ d = cc in record { number = refl; status-number = ap statusNumber f; depth = g }
-verdict-numbered (GaveUp k q) most status d e = let f : Answers.GaveUp ≡ status = cc in let g : k ≡ d = cc in record { number = refl; status-number = ap statusNumber f; depth = g }
-verdict-numbered OutOfFuel most status d e = absurd (let z : _≡_ {A = ℕ} 0 1 = cc in omega arith)
+verdict-numbered (Equivalent k) most proved status d e = let f : Answers.Equivalent ≡ status = cc in let g : k ≡ d = cc in record { number = refl; status-number = ap statusNumber f; depth = g }
+verdict-numbered (NotEquivalent k m bytes) most proved status d e = let f : Answers.NotEquivalent ≡ status = cc in let g : k ≡ d = cc in record { number = refl; status-number = ap statusNumber f; depth = g }
+verdict-numbered (Inconclusive k) most proved status d e = let f : Answers.Inconclusive ≡ status = cc in let g : k ≡ d = cc in record { number = refl; status-number = ap statusNumber f; depth = g }
+verdict-numbered (GaveUp k q) most proved status d e = let f : Answers.GaveUp ≡ status = cc in let g : k ≡ d = cc in record { number = refl; status-number = ap statusNumber f; depth = g }
+verdict-numbered OutOfFuel most proved status d e = absurd (let z : _≡_ {A = ℕ} 0 1 = cc in omega arith)
 
 outcome-numbered : (o : CheckOutcome) (status : Status) (d : ℕ) → outcomeSays o ≡ answered status d → Numbered (checkAnswer o) status d
 unfolding outcomeSays checkAnswer
 outcome-numbered (refusedCheck r) status d e = absurd (let z : _≡_ {A = ℕ} 0 1 = cc in omega arith)
-outcome-numbered (acceptedCheck o) status d e = verdict-numbered (o .verdict) (largestLearned (o .asked)) status d e
+outcome-numbered (acceptedCheck o) status d e = verdict-numbered (o .verdict) (largestLearned (o .asked)) (provedThrough (o .verdict) (o .asked)) status d e
 
 -- what the abstract check answers is what the call answers
-pub check-numbered : (gold gate : List ℕ) (D : ℕ) (trace words : List ℕ) (scores : List Float) (status : Status) (d : ℕ)
-    → checked gold gate (toDepth D) (lentOf trace words scores) ≡ answered status d → Numbered (check gold gate D trace words scores .answer) status d
+pub check-numbered : (gold gate : List ℕ) (o : Options) (trace words : List ℕ) (scores : List Float) (status : Status) (d : ℕ)
+    → checked gold gate o (lentOf trace words scores) ≡ answered status d → Numbered (check gold gate o trace words scores .answer) status d
 unfolding check checkResult checked
-check-numbered gold gate D trace words scores status d e = outcome-numbered (checkOutcome gold gate (toDepth D) (lentOf trace words scores)) status d e
+check-numbered gold gate o trace words scores status d e = outcome-numbered (checkOutcome gold gate o (lentOf trace words scores)) status d e

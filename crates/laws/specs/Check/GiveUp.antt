@@ -5,16 +5,16 @@ use mathlib.Core.Path.{_≡_, refl, sym, ap, subst, _∙_}
 use mathlib.Core.Logic.{_↔_}
 use mathlib.Core.Bool.{true, false}
 use mathlib.Core.List.{List}
-use mathlib.Core.Option.{none}
+use mathlib.Core.Option.{Option, none, some}
 use lib.ListN.{length}
 use lib.Ieee.{Float}
-use Rattle.model.specs.Answers.{Asked, CheckAnswer, acceptedAnswer, statusNumber}
+use Rattle.model.specs.Answers.{Asked, CheckAnswer, isProved, provedCycle, acceptedAnswer, statusNumber}
 use Rattle.model.specs.Lists.{snoc}
-use Rattle.model.specs.Options.{Options, toDepth}
+use Rattle.model.specs.Options.{Options}
 use Rattle.model.specs.Netlist.{Design}
 use Rattle.model.specs.Run.{StoredBits, initialBits}
 use Rattle.model.specs.Pair.{both, readPair, checkRefusal}
-use Rattle.model.specs.Equivalence.{Problem, Query, baseCounterexample, basePreservesNamedState, inductionCloses, ask, Verdict, Equivalent, NotEquivalent, Inconclusive, GaveUp, OutOfFuel, askedToo, notEquivalentAt, largestLearned}
+use Rattle.model.specs.Equivalence.{Problem, Query, baseCounterexample, basePreservesNamedState, inductionCloses, ask, Verdict, Equivalent, NotEquivalent, Inconclusive, GaveUp, OutOfFuel, askedToo, notEquivalentAt, largestLearned, provedThrough}
 use Rattle.model.specs.Check.{problemOf, checkDesigns, verdictAnswer, checkAnswer, CheckResult, checkResult, lentOf, check}
 use Rattle.laws.specs.Check.Course.{Decides, differs, closes-named, closes, stops, Course, decides, passes, verdict-course, course-verdict}
 use Rattle.laws.specs.Check.Walk.{Final, Asking, nothing, deeper, further, Walked, all-passed, last-gave-up, last-decided, prove-walk}
@@ -22,7 +22,7 @@ use Rattle.laws.specs.Check.Queries.{query-gives-up}
 use Rattle.laws.specs.Check.Call.{call-is}
 use Rattle.laws.specs.Lists.{length-snoc, last-same}
 use Rattle.laws.specs.Search.Total.{solve-total}
-use Rattle.laws.specs.Terms.{learnedOf, Settled, answerTotal, QueryOf, query-1, query-2, query-3, query-4, Passed, StopsAt, LastGivesUp}
+use Rattle.laws.specs.Terms.{learnedOf, provedOf, Settled, answerTotal, QueryOf, query-1, query-2, query-3, query-4, Passed, StopsAt, LastGivesUp}
 
 -- ---- a give-up is where the check stops, and the other way round
 
@@ -123,29 +123,36 @@ designs-last o gold gate s t d q =
     let w = prove-walk (o .limit) p (o .depth) in
     (walk-gives (o .limit) p (o .depth) _ _ w d q, walk-given (o .limit) p (o .depth) _ _ w d q)
 
--- ---- the call, under the limit 262,144
+-- ---- the call
 
 -- the answer of a give-up is the verdict's
-gave-verdict : (v : Verdict) (most other : Asked) (d q : ℕ) → verdictAnswer v most ≡ acceptedAnswer 3 d 0 q other → v ≡ GaveUp d q
+gave-verdict : (v : Verdict) (most other : Asked) (proved told : Option ℕ) (d q : ℕ) → verdictAnswer v most proved ≡ acceptedAnswer 3 d 0 q other told → v ≡ GaveUp d q
 unfolding verdictAnswer acceptedAnswer statusNumber
-gave-verdict (Equivalent e) most other d q h = absurd (let z : _≡_ {A = ℕ} 0 3 = ap (λ (x : CheckAnswer). x .status) h in omega arith)
-gave-verdict (NotEquivalent e m bytes) most other d q h = absurd (let z : _≡_ {A = ℕ} 1 3 = ap (λ (x : CheckAnswer). x .status) h in omega arith)
-gave-verdict (Inconclusive e) most other d q h = absurd (let z : _≡_ {A = ℕ} 2 3 = ap (λ (x : CheckAnswer). x .status) h in omega arith)
-gave-verdict (GaveUp e k) most other d q h =
+gave-verdict (Equivalent e) most other proved told d q h = absurd (let z : _≡_ {A = ℕ} 0 3 = ap (λ (x : CheckAnswer). x .status) h in omega arith)
+gave-verdict (NotEquivalent e m bytes) most other proved told d q h = absurd (let z : _≡_ {A = ℕ} 1 3 = ap (λ (x : CheckAnswer). x .status) h in omega arith)
+gave-verdict (Inconclusive e) most other proved told d q h = absurd (let z : _≡_ {A = ℕ} 2 3 = ap (λ (x : CheckAnswer). x .status) h in omega arith)
+gave-verdict (GaveUp e k) most other proved told d q h =
     let x : e ≡ d = ap (λ (x : CheckAnswer). x .depth) h in
     let y : k ≡ q = ap (λ (x : CheckAnswer). x .query) h in
     ap (λ i. GaveUp i k) x ∙ ap (GaveUp d) y
-gave-verdict OutOfFuel most other d q h = absurd (let z : _≡_ {A = ℕ} 4 3 = ap (λ (x : CheckAnswer). x .status) h in omega arith)
+gave-verdict OutOfFuel most other proved told d q h = absurd (let z : _≡_ {A = ℕ} 4 3 = ap (λ (x : CheckAnswer). x .status) h in omega arith)
 
--- a call that is not refused answers status 3 with a depth and a query exactly where the check of its designs stops there, whatever it learned
-pub call-gives-up : (a b : List ℕ) (D : ℕ) (trace words : List ℕ) (scores : List Float) (gold gate : Design) → checkRefusal a b (toDepth D) (lentOf trace words scores) ≡ none → readPair a b ≡ both gold gate
-    → (d q : ℕ) → (check a b D trace words scores .answer ≡ acceptedAnswer 3 d 0 q (learnedOf (check a b D trace words scores .answer))) ↔ StopsAt (toDepth D) (problemOf gold gate (initialBits gold) (initialBits gate)) d q
-unfolding checkResult checkAnswer verdictAnswer acceptedAnswer statusNumber learnedOf
-call-gives-up a b D trace words scores gold gate free r d q =
-    let v = checkDesigns (toDepth D) gold gate (initialBits gold) (initialBits gate) .verdict in
-    let most = largestLearned (checkDesigns (toDepth D) gold gate (initialBits gold) (initialBits gate) .asked) in
-    let e : check a b D trace words scores .answer ≡ verdictAnswer v most = ap (λ (x : CheckResult). x .answer) (call-is a b D trace words scores gold gate free r) in
-    let w = designs-give-up (toDepth D) gold gate (initialBits gold) (initialBits gate) d q in (
-      λ h. w .0 (gave-verdict v most _ d q (sym e ∙ h)),
-      λ s. subst (λ (x : CheckAnswer). x ≡ acceptedAnswer 3 d 0 q (learnedOf x)) (sym (e ∙ ap (λ (x : Verdict). verdictAnswer x most) (w .1 s))) refl,
+-- and it has what it tells
+gave-told : (d q : ℕ) (most : Asked) (told : Option ℕ) → verdictAnswer (GaveUp d q) most told ≡ acceptedAnswer 3 d 0 q (learnedOf (verdictAnswer (GaveUp d q) most told)) (provedOf (verdictAnswer (GaveUp d q) most told))
+unfolding verdictAnswer acceptedAnswer statusNumber learnedOf provedOf isProved provedCycle
+gave-told d q most none = refl
+gave-told d q most (some c) = refl
+
+-- a call that is not refused answers status 3 with a depth and a query exactly where the check of its designs stops there, whatever it learned and proved
+pub call-gives-up : (a b : List ℕ) (o : Options) (trace words : List ℕ) (scores : List Float) (gold gate : Design) → checkRefusal a b o (lentOf trace words scores) ≡ none → readPair a b ≡ both gold gate
+    → (d q : ℕ) → (check a b o trace words scores .answer ≡ acceptedAnswer 3 d 0 q (learnedOf (check a b o trace words scores .answer)) (provedOf (check a b o trace words scores .answer))) ↔ StopsAt o (problemOf gold gate (initialBits gold) (initialBits gate)) d q
+unfolding checkResult checkAnswer
+call-gives-up a b o trace words scores gold gate free r d q =
+    let v = checkDesigns o gold gate (initialBits gold) (initialBits gate) .verdict in
+    let most = largestLearned (checkDesigns o gold gate (initialBits gold) (initialBits gate) .asked) in
+    let told = provedThrough v (checkDesigns o gold gate (initialBits gold) (initialBits gate) .asked) in
+    let e : check a b o trace words scores .answer ≡ verdictAnswer v most told = ap (λ (x : CheckResult). x .answer) (call-is a b o trace words scores gold gate free r) in
+    let w = designs-give-up o gold gate (initialBits gold) (initialBits gate) d q in (
+      λ h. w .0 (gave-verdict v most _ told _ d q (sym e ∙ h)),
+      λ s. subst (λ (x : CheckAnswer). x ≡ acceptedAnswer 3 d 0 q (learnedOf x) (provedOf x)) (sym (e ∙ ap (λ (x : Verdict). verdictAnswer x most told) (w .1 s))) (gave-told d q most told),
     )

@@ -1,30 +1,33 @@
--- A larger limit of learned literals changes nothing of a check but a give-up: no answer, and no query asked. Assumes nothing.
+-- A larger limit of learned literals changes nothing of a check but a give-up: no answer, no query asked, and nothing of a call. Assumes nothing.
 use Prim.Native.Nat.{ℕ, zero, suc, _≤_}
 use native.Mathlib.Omega.{arith}
 use mathlib.Core.Path.{_≡_, refl, sym, ap, _∙_, subst}
 use mathlib.Core.Logic.{_≢_}
 use mathlib.Core.Bool.{true, false}
 use mathlib.Core.List.{List, []}
-use mathlib.Core.Option.{none}
+use mathlib.Core.Option.{Option, none, some}
 use lib.Ieee.{Float}
-use Rattle.model.specs.Answers.{Status, Asked}
+use Rattle.model.specs.Answers.{Refusal, Status, statusNumber, Asked}
 use Rattle.model.specs.Answers as Answers
 use Rattle.model.specs.Options.{Options}
 use Rattle.model.specs.Netlist.{Design}
 use Rattle.model.specs.Run.{StoredBits, initialBits}
-use Rattle.model.specs.Pair.{Lent, checkFault, ReadPair, both, refusedPair, readPair, checkRefusalOf, checkRefusal}
+use Rattle.model.specs.Pair.{Lent, checkRefusal}
 use Rattle.model.specs.Induction.{answered}
 use Rattle.model.specs.Sat.{Answer, model, noModel, gaveUp, outOfFuel}
 use Rattle.model.specs.Equivalence.{Problem, Query, baseCounterexample, basePreservesNamedState, inductionCloses, ask, Verdict, Equivalent, NotEquivalent, Inconclusive, GaveUp, OutOfFuel, Outcome, Proving, undecided, decided, askedToo, afterQuery4, query4, afterQuery3, afterQuery2, afterQuery1, query1, atDepth, depths, proveSequentialEquivalence}
-use Rattle.model.specs.Check.{problemOf, checkDesigns, checkOutcome, checkAnswer, traceAfter, clearedAfter, checkResult, verdictSays, checked}
+use Rattle.model.specs.Check.{problemOf, checkDesigns, checkOutcome, checkAnswer, traceAfter, clearedAfter, checkResult, lentOf, check, verdictSays, checked}
 use Rattle.laws.specs.Search.Limits.{solve-same}
-use Rattle.laws.specs.Terms.{checkedDesigns, LargerLimit, Settled}
+use Rattle.laws.specs.Terms.{Numbered, checkedDesigns, LargerLimit, Settled}
 use Rattle.laws.specs.Induction.Pairs.{Accepted, accepted-pair}
-use Rattle.laws.specs.Check.Call.{check-accepts, outcome-is, checked-is}
+use Rattle.laws.specs.Check.Call.{check-accepts, outcome-is, checked-is, check-refused, check-numbered}
+use Rattle.laws.specs.Check.Ending.{check-answers}
 use Rattle.laws.specs.Check.Walk.{Final}
+use Rattle.laws.specs.Check.Limited.{refuse-alike}
 
 module _ (limit larger : ℕ) (le : limit ≤ larger) (p : Problem) where
-  asked-same : (q : Query) (a : Answer) → ask limit q ≡ a → Settled a → ask larger q ≡ a
+  -- a query that the smaller limit settles has the same answer under the larger one
+  pub asked-same : (q : Query) (a : Answer) → ask limit q ≡ a → Settled a → ask larger q ≡ a
   unfolding ask
   asked-same q a e h = solve-same limit larger le (q .aig) (q .assumptions) (subst Settled (sym e) h) ∙ e
 
@@ -111,32 +114,43 @@ module _ (o larger : Options) (le : LargerLimit o larger) where
       let p = problemOf gold gate s t in
       ap (proveSequentialEquivalence (larger .limit) p) (sym (le .depth)) ∙ prove-same (o .limit) (larger .limit) (le .limit) p (o .depth) (final-says _ status d h n)
 
-  -- a refusal does not depend on the limit
-  refusal-same : (a b : List ℕ) (lent : Lent) → checkRefusal a b o lent ≡ none → checkRefusal a b larger lent ≡ none
-  unfolding checkRefusal
-  refusal-same a b lent h = go (readPair a b) h
-    where
-      go : (p : ReadPair) → checkRefusalOf p o lent ≡ none → checkRefusalOf p larger lent ≡ none
-      go (refusedPair r) e = unfold checkRefusalOf in e
-      go (both gold gate) e = unfold checkRefusalOf checkFault in rw (← (le .depth)) e
+  module _ (small : larger .limit ≤ 262144) where
+    -- it refuses what the smaller one does
+    refusal-same : (a b : List ℕ) (lent : Lent) → checkRefusal a b o lent ≡ none → checkRefusal a b larger lent ≡ none
+    refusal-same a b lent h = refuse-alike a b larger o lent (sym (le .depth)) small (omega (arith, le .limit)) ∙ h
 
-  -- a larger limit keeps each status other than GaveUp, with its depth
-  pub check-larger : (a b : List ℕ) (lent : Lent) (status : Status) (d : ℕ) → checked a b o lent ≡ answered status d → status ≢ Answers.GaveUp
-      → checked a b larger lent ≡ answered status d
-  check-larger a b lent status d h n =
-      let free = check-accepts a b o lent status d h in
-      let k : Accepted a b o lent = accepted-pair a b o lent free in
-      let s = sym (checked-is a b o lent (k .gold) (k .gate) free (k .pair)) ∙ h in
-      checked-is a b larger lent (k .gold) (k .gate) (refusal-same a b lent free) (k .pair)
-      ∙ ap (λ (x : Outcome). verdictSays (x .verdict)) (designs-larger (k .gold) (k .gate) (initialBits (k .gold)) (initialBits (k .gate)) status d s n) ∙ s
+    -- a larger limit keeps each status other than GaveUp, with its depth
+    pub check-larger : (a b : List ℕ) (lent : Lent) (status : Status) (d : ℕ) → checked a b o lent ≡ answered status d → status ≢ Answers.GaveUp
+        → checked a b larger lent ≡ answered status d
+    check-larger a b lent status d h n =
+        let free = check-accepts a b o lent status d h in
+        let k : Accepted a b o lent = accepted-pair a b o lent free in
+        let s = sym (checked-is a b o lent (k .gold) (k .gate) free (k .pair)) ∙ h in
+        checked-is a b larger lent (k .gold) (k .gate) (refusal-same a b lent free) (k .pair)
+        ∙ ap (λ (x : Outcome). verdictSays (x .verdict)) (designs-larger (k .gold) (k .gate) (initialBits (k .gold)) (initialBits (k .gate)) status d s n) ∙ s
 
-  -- and the whole result of the check: mismatch, query and place too, what was learned, and every lent element
-  pub result-larger : (a b : List ℕ) (lent : Lent) (status : Status) (d : ℕ) → checked a b o lent ≡ answered status d → status ≢ Answers.GaveUp
-      → (trace words : List ℕ) (scores : List Float) → checkResult (checkOutcome a b larger lent) trace words scores ≡ checkResult (checkOutcome a b o lent) trace words scores
-  unfolding checkResult checkAnswer traceAfter clearedAfter
-  result-larger a b lent status d h n trace words scores =
-      let free = check-accepts a b o lent status d h in
-      let k : Accepted a b o lent = accepted-pair a b o lent free in
-      let s = sym (checked-is a b o lent (k .gold) (k .gate) free (k .pair)) ∙ h in
-      let v = designs-larger (k .gold) (k .gate) (initialBits (k .gold)) (initialBits (k .gate)) status d s n in
-      rw (outcome-is a b larger lent (k .gold) (k .gate) (refusal-same a b lent free) (k .pair), outcome-is a b o lent (k .gold) (k .gate) free (k .pair), v)
+    -- and the whole result of the check: mismatch, query and place too, what was learned, and every lent element
+    pub result-larger : (a b : List ℕ) (lent : Lent) (status : Status) (d : ℕ) → checked a b o lent ≡ answered status d → status ≢ Answers.GaveUp
+        → (trace words : List ℕ) (scores : List Float) → checkResult (checkOutcome a b larger lent) trace words scores ≡ checkResult (checkOutcome a b o lent) trace words scores
+    unfolding checkResult checkAnswer traceAfter clearedAfter
+    result-larger a b lent status d h n trace words scores =
+        let free = check-accepts a b o lent status d h in
+        let k : Accepted a b o lent = accepted-pair a b o lent free in
+        let s = sym (checked-is a b o lent (k .gold) (k .gate) free (k .pair)) ∙ h in
+        let v = designs-larger (k .gold) (k .gate) (initialBits (k .gold)) (initialBits (k .gate)) status d s n in
+        rw (outcome-is a b larger lent (k .gold) (k .gate) (refusal-same a b lent free) (k .pair), outcome-is a b o lent (k .gold) (k .gate) free (k .pair), v)
+
+-- a larger limit keeps the whole result of a call, refused or not, that does not give up
+pub call-larger : (a b : List ℕ) (o larger : Options) → LargerLimit o larger → larger .limit ≤ 262144 → (trace words : List ℕ) (scores : List Float)
+    → check a b o trace words scores .answer .status ≢ 3 → check a b larger trace words scores ≡ check a b o trace words scores
+call-larger a b o larger le small trace words scores n = go (checkRefusal a b o (lentOf trace words scores)) refl
+  where
+    go : (f : Option Refusal) → checkRefusal a b o (lentOf trace words scores) ≡ f → check a b larger trace words scores ≡ check a b o trace words scores
+    go (some r) e =
+        check-refused a b larger trace words scores r (refuse-alike a b larger o (lentOf trace words scores) (sym (le .depth)) small (omega (arith, le .limit)) ∙ e)
+        ∙ sym (check-refused a b o trace words scores r e)
+    go none e =
+        let r = check-answers a b o (lentOf trace words scores) e in
+        let k : Numbered (check a b o trace words scores .answer) (r .0) (r .1) = check-numbered a b o trace words scores (r .0) (r .1) (r .2) in
+        unfold check statusNumber in
+        result-larger o larger le small a b (lentOf trace words scores) (r .0) (r .1) (r .2) (λ z. n (k .status-number ∙ ap statusNumber z)) trace words scores

@@ -10,14 +10,14 @@ use lib.Dec.{ltb}
 use lib.Ieee.{Float}
 use borrow.Author.Tests.{ltb-true, ltb-false}
 use Rattle.model.specs.Answers.{Refusal, statusNumber, Asked, refusedAnswer, acceptedAnswer}
-use Rattle.model.specs.Options.{Options, learnedLimit, toDepth}
+use Rattle.model.specs.Options.{Options}
 use Rattle.model.specs.Netlist.{Design}
 use Rattle.model.specs.Run.{StoredBits, initialBits}
 use Rattle.model.specs.Pair.{both, readPair, checkRefusal}
 use Rattle.model.specs.Equivalence.{Verdict, Equivalent, NotEquivalent, Inconclusive, GaveUp, OutOfFuel, largerLearned, largestFrom, largestLearned}
 use Rattle.model.specs.Check.{problemOf, checkDesigns, CheckOutcome, refusedCheck, acceptedCheck, checkOutcome, verdictAnswer, checkAnswer, CheckResult, checkResult, lentOf, check}
-use Rattle.laws.specs.Terms.{learnedOf, sevenOf, acceptedSeven, verdictSeven, outcomeSeven, AsBefore, FirstLargest}
-use Rattle.laws.specs.Induction.Pairs.{Accepted, accepted-pair, free-of, depth-positive}
+use Rattle.laws.specs.Terms.{learnedOf, sevenOf, acceptedSeven, verdictSeven, outcomeSeven, outcomeLearned, AsOutcome, FirstLargest}
+use Rattle.laws.specs.Induction.Pairs.{Accepted, accepted-pair, free-of, depth-positive, limit-small}
 use Rattle.laws.specs.Check.Call.{check-refused, call-is}
 use Rattle.laws.specs.Check.Asked.{designs-first, largest-within}
 
@@ -111,74 +111,80 @@ designs-largest o gold gate s t low =
 
 -- ---- the call
 
-verdict-learned : (v : Verdict) (most : Asked) → learnedOf (verdictAnswer v most) ≡ most
+verdict-learned : (v : Verdict) (most : Asked) (proved : Option ℕ) → learnedOf (verdictAnswer v most proved) ≡ most
 unfolding learnedOf verdictAnswer acceptedAnswer
-verdict-learned (Equivalent d) most = refl
-verdict-learned (NotEquivalent d m bytes) most = refl
-verdict-learned (Inconclusive d) most = refl
-verdict-learned (GaveUp d q) most = refl
-verdict-learned OutOfFuel most = refl
+verdict-learned (Equivalent d) most proved = refl
+verdict-learned (NotEquivalent d m bytes) most proved = refl
+verdict-learned (Inconclusive d) most proved = refl
+verdict-learned (GaveUp d q) most proved = refl
+verdict-learned OutOfFuel most proved = refl
 
-module _ (a b : List ℕ) (D : ℕ) (trace words : List ℕ) (scores : List Float) where
-  module _ (gold gate : Design) (free : checkRefusal a b (toDepth D) (lentOf trace words scores) ≡ none) (pair : readPair a b ≡ both gold gate) where
+module _ (a b : List ℕ) (o : Options) (trace words : List ℕ) (scores : List Float) where
+  module _ (gold gate : Design) (free : checkRefusal a b o (lentOf trace words scores) ≡ none) (pair : readPair a b ≡ both gold gate) where
     -- the queries that the check of its designs asks
     abbrev asked : List Asked
-    asked = checkDesigns (toDepth D) gold gate (initialBits gold) (initialBits gate) .asked
+    asked = checkDesigns o gold gate (initialBits gold) (initialBits gate) .asked
 
-    call-learned : learnedOf (check a b D trace words scores .answer) ≡ largestLearned asked
+    call-learned : learnedOf (check a b o trace words scores .answer) ≡ largestLearned asked
     unfolding checkResult checkAnswer
     call-learned =
-        ap (λ (r : CheckResult). learnedOf (r .answer)) (call-is a b D trace words scores gold gate free pair)
-        ∙ verdict-learned (checkDesigns (toDepth D) gold gate (initialBits gold) (initialBits gate) .verdict) (largestLearned asked)
+        ap (λ (r : CheckResult). learnedOf (r .answer)) (call-is a b o trace words scores gold gate free pair)
+        ∙ verdict-learned (checkDesigns o gold gate (initialBits gold) (initialBits gate) .verdict) (largestLearned asked) _
 
-    positive : 1 ≤ toDepth D .depth
-    positive = depth-positive gold gate (toDepth D) (lentOf trace words scores) (free-of a b (toDepth D) (lentOf trace words scores) gold gate free pair)
+    positive : 1 ≤ o .depth
+    positive = depth-positive gold gate o (lentOf trace words scores) (free-of a b o (lentOf trace words scores) gold gate free pair)
 
     -- an accepted call tells of the query that learned most, whatever its status
-    pub call-largest : FirstLargest asked (learnedOf (check a b D trace words scores .answer))
-    call-largest = subst (FirstLargest asked) (sym call-learned) (designs-largest (toDepth D) gold gate (initialBits gold) (initialBits gate) positive)
+    pub call-largest : FirstLargest asked (learnedOf (check a b o trace words scores .answer))
+    call-largest = subst (FirstLargest asked) (sym call-learned) (designs-largest o gold gate (initialBits gold) (initialBits gate) positive)
 
     -- where no query learned anything it tells of the first
-    pub call-nothing : ((x : Asked) → List·Memᴰ x asked → x .learned ≡ 0) → learnedOf (check a b D trace words scores .answer) ≡ record { depth = 1; query = 1; learned = 0 }
+    pub call-nothing : ((x : Asked) → List·Memᴰ x asked → x .learned ≡ 0) → learnedOf (check a b o trace words scores .answer) ≡ record { depth = 1; query = 1; learned = 0 }
     call-nothing zeros =
-        let x = designs-first (toDepth D) gold gate (initialBits gold) (initialBits gate) positive in
+        let x = designs-first o gold gate (initialBits gold) (initialBits gate) positive in
         let first : Asked = record { depth = 1; query = 1; learned = x .0 } in
         let all : (y : Asked) → List·Memᴰ y (first ∷ x .1) → y .learned ≡ 0 = subst (λ (l : List Asked). (y : Asked) → List·Memᴰ y l → y .learned ≡ 0) (x .2) zeros in
         let f = call-largest in
-        all-zero first (learnedOf (check a b D trace words scores .answer)) (x .1) (f .before) (f .after) all (sym (x .2) ∙ f .stands) (f .less)
+        all-zero first (learnedOf (check a b o trace words scores .answer)) (x .1) (f .before) (f .after) all (sym (x .2) ∙ f .stands) (f .less)
         ∙ ap (λ (n : ℕ). record { depth = 1; query = 1; learned = n }) (all first (List·Memᴰ·head refl))
 
-  -- the total of a call, refused or not, is at most 262,144
-  pub call-within : check a b D trace words scores .answer .learned ≤ 262144
-  call-within = go (checkRefusal a b (toDepth D) (lentOf trace words scores)) refl
+  -- the total of a call, refused or not, is within its limit, and at most 262,144
+  pub call-within : (check a b o trace words scores .answer .learned ≤ o .limit) × (check a b o trace words scores .answer .learned ≤ 262144)
+  call-within = go (checkRefusal a b o (lentOf trace words scores)) refl
     where
-      go : (o : Option Refusal) → checkRefusal a b (toDepth D) (lentOf trace words scores) ≡ o → check a b D trace words scores .answer .learned ≤ 262144
+      go : (f : Option Refusal) → checkRefusal a b o (lentOf trace words scores) ≡ f → (check a b o trace words scores .answer .learned ≤ o .limit) × (check a b o trace words scores .answer .learned ≤ 262144)
       go (some r) e =
-          let z : check a b D trace words scores .answer .learned ≡ 0 = unfold refusedAnswer in ap (λ (x : CheckResult). x .answer .learned) (check-refused a b D trace words scores r e) in
-          omega (arith, z)
+          let z : check a b o trace words scores .answer .learned ≡ 0 = unfold refusedAnswer in ap (λ (x : CheckResult). x .answer .learned) (check-refused a b o trace words scores r e) in
+          (omega (arith, z), omega (arith, z))
       go none e =
-          let k : Accepted a b (toDepth D) (lentOf trace words scores) = accepted-pair a b (toDepth D) (lentOf trace words scores) e in
-          let z : check a b D trace words scores .answer .learned ≡ largestLearned (asked (k .gold) (k .gate) e (k .pair)) .learned =
+          let k : Accepted a b o (lentOf trace words scores) = accepted-pair a b o (lentOf trace words scores) e in
+          let z : check a b o trace words scores .answer .learned ≡ largestLearned (asked (k .gold) (k .gate) e (k .pair)) .learned =
           unfold learnedOf in ap (λ (x : Asked). x .learned) (call-learned (k .gold) (k .gate) e (k .pair)) in
-          let y : largestLearned (asked (k .gold) (k .gate) e (k .pair)) .learned ≤ 262144 =
-          unfold checkDesigns toDepth learnedLimit in largest-within 262144 (problemOf (k .gold) (k .gate) (initialBits (k .gold)) (initialBits (k .gate))) D in
-          omega (arith, z, y)
+          let y : largestLearned (asked (k .gold) (k .gate) e (k .pair)) .learned ≤ o .limit =
+          unfold checkDesigns in largest-within (o .limit) (problemOf (k .gold) (k .gate) (initialBits (k .gold)) (initialBits (k .gate))) (o .depth) in
+          (omega (arith, z, y), omega (arith, z, y, limit-small (k .gold) (k .gate) o (lentOf trace words scores) (k .free)))
 
-verdict-seven : (v : Verdict) (most : Asked) → sevenOf (verdictAnswer v most) ≡ verdictSeven v
+verdict-seven : (v : Verdict) (most : Asked) (proved : Option ℕ) → sevenOf (verdictAnswer v most proved) ≡ verdictSeven v
 unfolding sevenOf verdictAnswer acceptedAnswer statusNumber verdictSeven acceptedSeven
-verdict-seven (Equivalent d) most = refl
-verdict-seven (NotEquivalent d m bytes) most = refl
-verdict-seven (Inconclusive d) most = refl
-verdict-seven (GaveUp d q) most = refl
-verdict-seven OutOfFuel most = refl
+verdict-seven (Equivalent d) most proved = refl
+verdict-seven (NotEquivalent d m bytes) most proved = refl
+verdict-seven (Inconclusive d) most proved = refl
+verdict-seven (GaveUp d q) most proved = refl
+verdict-seven OutOfFuel most proved = refl
 
-outcome-seven : (o : CheckOutcome) → sevenOf (checkAnswer o) ≡ outcomeSeven o
+outcome-seven : (x : CheckOutcome) → sevenOf (checkAnswer x) ≡ outcomeSeven x
 unfolding sevenOf checkAnswer refusedAnswer outcomeSeven
 outcome-seven (refusedCheck r) = refl
-outcome-seven (acceptedCheck o) = verdict-seven (o .verdict) (largestLearned (o .asked))
+outcome-seven (acceptedCheck x) = verdict-seven (x .verdict) (largestLearned (x .asked)) _
 
--- the other seven numbers of a call and what it leaves in each lent buffer are those of its refusal or verdict alone
-pub call-as-before : (a b : List ℕ) (D : ℕ) (trace words : List ℕ) (scores : List Float) → AsBefore a b D trace words scores
+outcome-learned : (x : CheckOutcome) → learnedOf (checkAnswer x) ≡ outcomeLearned x
+unfolding learnedOf checkAnswer refusedAnswer outcomeLearned
+outcome-learned (refusedCheck r) = refl
+outcome-learned (acceptedCheck x) = verdict-learned (x .verdict) (largestLearned (x .asked)) _
+
+-- all numbers of a call but what is proved, and what it leaves in each lent buffer, are those of its outcome
+pub call-as-outcome : (a b : List ℕ) (o : Options) (trace words : List ℕ) (scores : List Float) → AsOutcome (checkOutcome a b o (lentOf trace words scores)) a b o trace words scores
 unfolding check checkResult
-call-as-before a b D trace words scores =
-    record { seven = outcome-seven (checkOutcome a b (toDepth D) (lentOf trace words scores)); traced = refl; words-left = refl; scores-left = refl }
+call-as-outcome a b o trace words scores =
+    let x = checkOutcome a b o (lentOf trace words scores) in
+    record { seven = outcome-seven x; learned = outcome-learned x; traced = refl; words-left = refl; scores-left = refl }

@@ -68,7 +68,7 @@ pair-refused : (a b : List ℕ) (r : Refusal) → readPair a b ≡ refusedPair r
 unfolding checkRefusal checkRefusalOf replay replayRead refusedReplay
 pair-refused a b r e =
     record {
-      checks = λ D trace words scores. ap (λ x. x .answer) (check-refused a b D trace words scores r (rw e));
+      checks = λ o trace words scores. ap (λ x. x .answer) (check-refused a b o trace words scores r (rw e));
       replays = λ cycle claim. rw e;
     }
 

@@ -74,7 +74,8 @@ no-replay-fault gold gate o lent d m bytes s t f l g =
     let x : Facts gold gate o lent = facts-of gold gate o lent f in
     let a16 = otherwise-none (refuseIf 16 0 0 _) _ f in
     let a17 = otherwise-none (refuseIf 17 0 0 _) _ (a16 .1) in
-    let face = otherwise-none (interfaceFault gold gate) _ (a17 .1) in
+    let a36 = otherwise-none (refuseIf 36 0 0 _) _ (a17 .1) in
+    let face = otherwise-none (interfaceFault gold gate) _ (a36 .1) in
     let start = otherwise-none (initialFault gold gate) _ (face .1) in
     let low : m ≤ 64 = omega (arith, ltb-false 64 (o .depth) (x .depth-high), g .early) in
     none-otherwise _ _ (face .0) (none-otherwise _ _ (start .0) (pass 25 0 0 _ (rw (le-ltb 64 m low, eq-eqb (length bytes) (traceLength gold m) (g .size), g .bits))))

@@ -1,7 +1,7 @@
--- The numbers of the refusals: of a record 1 to 15, of a check 1 to 24, of a replay 1 to 15, 18 to 22 and 25, of a begin 1 to 15, 18 to 22 and 24, of a step those of a replay and 24. Assumes nothing.
+-- The numbers of the refusals: of a record 1 to 15, of a check 1 to 24 and 36, of a replay 1 to 15, 18 to 22 and 25, of a begin 1 to 15, 18 to 22 and 24, of a step those of a replay and 24. Assumes nothing.
 use Prim.Native.Nat.{ℕ, zero, suc, _+_, _≤_}
 use native.Mathlib.Omega.{arith}
-use mathlib.Core.Path.{_≡_, refl, subst}
+use mathlib.Core.Path.{_≡_, refl, ap, subst}
 use mathlib.Core.Logic.{_≢_}
 use mathlib.Core.Bool.{Bool, true, false, cond}
 use mathlib.Core.List.{List, [], _∷_, _++_}
@@ -16,7 +16,7 @@ use Rattle.model.specs.Record.{Step, got, refused, Reader, refuse, pure, goOn, 
 use Rattle.model.specs.Validate.{_otherwise_, refuseIf, nodeFault, nodesFault, registerFault, registersFault, connectionFault, resetFault, clockFault, validate, judged, validated, readRecord}
 use Rattle.model.specs.Pair.{Lent, interfaceFault, resetsFault, initialFault, checkFault, replayFault, ReadPair, both, refusedPair, onGate, withGate, withGold, readPair, checkRefusalOf, checkRefusal}
 use Rattle.model.specs.Stepping.{bitsFault, beginFault, stepFault}
-use Rattle.laws.specs.Terms.{Within, OfRecord, OfReplay, of-record, of-pair, of-claim, replayRefusalOf, replayRefusal}
+use Rattle.laws.specs.Terms.{Within, OfRecord, OfCheck, of-list, of-limit, OfReplay, of-record, of-pair, of-claim, replayRefusalOf, replayRefusal}
 use Rattle.laws.specs.StepTerms.{beginRefusalOf, beginRefusal, stepRefusalOf, stepRefusal, OfBegin, of-reading, of-comparing, of-length, OfStep, as-replay, of-bits}
 
 -- a step of a reader that refuses with 1 to 15, if it refuses
@@ -279,13 +279,17 @@ real-interface gold gate =
 wider : (r : Refusal) → Within 18 22 r → Within 1 24 r
 wider r h = record { low = omega (arith, h .low); high = omega (arith, h .high) }
 
-real-fault : (gold gate : Design) (o : Options) (lent : Lent) → Every (Within 1 24) (checkFault gold gate o lent)
+if-listed : (n : ℕ) (b : Bool) → 1 ≤ n → n ≤ 24 → Every OfCheck (refuseIf n 0 0 b)
+if-listed n b low high = if-every OfCheck n 0 0 b (of-list (record { low = low; high = high }))
+
+real-fault : (gold gate : Design) (o : Options) (lent : Lent) → Every OfCheck (checkFault gold gate o lent)
 unfolding checkFault
 real-fault gold gate o lent =
-    or-within 1 24 _ _ (if-within 1 24 16 0 0 _ (omega arith) (omega arith)) (or-within 1 24 _ _ (if-within 1 24 17 0 0 _ (omega arith) (omega arith))
-    (or-within 1 24 _ _ (every-so (Within 18 22) (Within 1 24) wider (interfaceFault gold gate) (real-interface gold gate))
-    (or-within 1 24 _ _ (every-so (Within 18 22) (Within 1 24) wider (initialFault gold gate) (real-initial gold gate))
-    (or-within 1 24 _ _ (if-within 1 24 23 0 0 _ (omega arith) (omega arith)) (if-within 1 24 24 0 0 _ (omega arith) (omega arith))))))
+    or-every OfCheck _ _ (if-listed 16 _ (omega arith) (omega arith)) (or-every OfCheck _ _ (if-listed 17 _ (omega arith) (omega arith))
+    (or-every OfCheck _ _ (if-every OfCheck 36 0 0 _ (of-limit refl))
+    (or-every OfCheck _ _ (every-so (Within 18 22) OfCheck (λ r h. of-list (wider r h)) (interfaceFault gold gate) (real-interface gold gate))
+    (or-every OfCheck _ _ (every-so (Within 18 22) OfCheck (λ r h. of-list (wider r h)) (initialFault gold gate) (real-initial gold gate))
+    (or-every OfCheck _ _ (if-listed 23 _ (omega arith) (omega arith)) (if-listed 24 _ (omega arith) (omega arith)))))))
 
 real-replay : (gold gate : Design) (cycle : ℕ) (claim : List ℕ) → Every OfReplay (replayFault gold gate cycle claim)
 unfolding replayFault
@@ -312,15 +316,15 @@ pair-real : (a b : List ℕ) → RealPair (readPair a b)
 unfolding readPair
 pair-real a b = gold-real (readRecord a) b (read-real a)
 
-of-real : (p : ReadPair) (o : Options) (lent : Lent) → RealPair p → Every (Within 1 24) (checkRefusalOf p o lent)
+of-real : (p : ReadPair) (o : Options) (lent : Lent) → RealPair p → Every OfCheck (checkRefusalOf p o lent)
 unfolding checkRefusalOf
-of-real (refusedPair r) o lent h = record { low = h .low; high = omega (arith, h .high) }
+of-real (refusedPair r) o lent h = of-list (record { low = h .low; high = omega (arith, h .high) })
 of-real (both gold gate) o lent h = real-fault gold gate o lent
 
--- every refusal of a check has a number from 1 to 24
-pub check-within : (a b : List ℕ) (o : Options) (lent : Lent) (r : Refusal) → checkRefusal a b o lent ≡ some r → Within 1 24 r
+-- every refusal of a check has a number from 1 to 24, or is 36 with side and place 0
+pub check-within : (a b : List ℕ) (o : Options) (lent : Lent) (r : Refusal) → checkRefusal a b o lent ≡ some r → OfCheck r
 unfolding checkRefusal
-check-within a b o lent r e = subst (Every (Within 1 24)) e (of-real (readPair a b) o lent (pair-real a b))
+check-within a b o lent r e = subst (Every OfCheck) e (of-real (readPair a b) o lent (pair-real a b))
 
 of-replay : (p : ReadPair) (cycle : ℕ) (claim : List ℕ) → RealPair p → Every OfReplay (replayRefusalOf p cycle claim)
 unfolding replayRefusalOf
@@ -367,6 +371,11 @@ unfolding stepRefusal
 step-within a b cycle claim bits r e = subst (Every OfStep) e (of-step (readPair a b) cycle claim bits (pair-real a b))
 
 -- ---- no refusal has number 0
+
+-- of a check
+pub check-not-zero : (r : Refusal) → OfCheck r → r .number ≢ 0
+check-not-zero r (of-list h) e = omega (arith, h .low, e)
+check-not-zero r (of-limit h) e = omega (arith, ap (λ (x : Refusal). x .number) h, e)
 
 -- of a replay
 pub replay-not-zero : (r : Refusal) → OfReplay r → r .number ≢ 0

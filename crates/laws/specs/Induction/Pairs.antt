@@ -8,8 +8,8 @@ use native.Mathlib.Omega.{arith}
 use native.Mathlib.Nat.{add-comm}
 use lib.ListN.{length, length-map}
 use lib.Dec.{eqb, ltb}
-use borrow.Author.Tests.{not-false, eqb-false}
-use Rattle.model.specs.Options.{Options}
+use borrow.Author.Tests.{not-false, eqb-false, ltb-false}
+use Rattle.model.specs.Options.{Options, learnedLimit}
 use Rattle.model.specs.Names.{Name, Place, sameName, sameNames, namesOf}
 use Rattle.facts.specs.Bools.{and-left, and-right}
 use Rattle.laws.specs.Terms.{Comparable}
@@ -63,7 +63,7 @@ pub accepted-pair : (a b : List ℕ) (o : Options) (lent : Lent) → checkRefusa
 unfolding checkRefusal
 accepted-pair a b o lent n = accepted-at a b o lent (readPair a b) refl n
 
--- to them no refusal of 16 to 24 applies
+-- to them none of a pair's refusals applies
 pub free-of : (a b : List ℕ) (o : Options) (lent : Lent) (gold gate : Design) → checkRefusal a b o lent ≡ none → readPair a b ≡ both gold gate → checkFault gold gate o lent ≡ none
 unfolding checkRefusal checkRefusalOf
 free-of a b o lent gold gate h r = subst (λ (x : ReadPair). checkRefusalOf x o lent ≡ none) r h
@@ -78,10 +78,11 @@ same-names [] (y ∷ ys) h = absurd (let z : _≡_ {A = ℕ} 0 1 = cc in omega a
 same-names (x ∷ xs) [] h = absurd (let z : _≡_ {A = ℕ} 0 1 = cc in omega arith)
 same-names (x ∷ xs) (y ∷ ys) h = ap₂ _∷_ (same-eq x y (and-left (sameName x y) _ h)) (same-names xs ys (and-right (sameName x y) _ h))
 
--- what holds of a pair that no refusal of 16 to 24 applies to
+-- what holds of a pair to which none of its refusals applies
 pub record Facts (gold gate : Design) (o : Options) (lent : Lent) : Type 0 where
   pub depth-low : eqb (o .depth) 0 ≡ false
   pub depth-high : ltb 64 (o .depth) ≡ false
+  pub limit-high : ltb learnedLimit (o .limit) ≡ false
   pub input-names : inputsDiffer gold gate ≡ false
   pub output-names : outputsDiffer gold gate ≡ false
   pub gold-domain : manyDomains (gold .nodes) (gold .registers) ≡ false
@@ -92,13 +93,14 @@ pub record Facts (gold gate : Design) (o : Options) (lent : Lent) : Type 0 where
   pub small : ltb 65535 (proofNodes gold gate (o .depth)) ≡ false
   pub memory : tooShort gold (o .depth) lent ≡ false
 
--- what a pair has where no refusal of 16 to 24 applies
+-- what a pair has where none of its refusals applies
 pub facts-of : (gold gate : Design) (o : Options) (lent : Lent) → checkFault gold gate o lent ≡ none → Facts gold gate o lent
 unfolding checkFault interfaceFault initialFault
 facts-of gold gate o lent h =
     let a16 = otherwise-none (refuseIf 16 0 0 _) _ h in
     let a17 = otherwise-none (refuseIf 17 0 0 _) _ (a16 .1) in
-    let face = otherwise-none (interfaceFault gold gate) _ (a17 .1) in
+    let a36 = otherwise-none (refuseIf 36 0 0 _) _ (a17 .1) in
+    let face = otherwise-none (interfaceFault gold gate) _ (a36 .1) in
     let a18 = otherwise-none (refuseIf 18 0 0 _) _ (face .0) in
     let a19 = otherwise-none (refuseIf 19 0 0 _) _ (a18 .1) in
     let a20 = otherwise-none (refuseIf 20 0 0 _) _ (a19 .1) in
@@ -109,6 +111,7 @@ facts-of gold gate o lent h =
     record {
       depth-low = refuseIf-none 16 0 0 _ (a16 .0);
       depth-high = refuseIf-none 17 0 0 _ (a17 .0);
+      limit-high = refuseIf-none 36 0 0 _ (a36 .0);
       input-names = refuseIf-none 18 0 0 _ (a18 .0);
       output-names = refuseIf-none 19 0 0 _ (a19 .0);
       gold-domain = refuseIf-none 20 0 0 _ (a20 .0);
@@ -137,17 +140,23 @@ comparable a b o lent gold gate h r =
 pub depth-positive : (gold gate : Design) (o : Options) (lent : Lent) → checkFault gold gate o lent ≡ none → 1 ≤ o .depth
 depth-positive gold gate o lent h = omega (arith, eqb-false (o .depth) 0 (facts-of gold gate o lent h .depth-low))
 
+-- under a limit of at most 262,144
+pub limit-small : (gold gate : Design) (o : Options) (lent : Lent) → checkFault gold gate o lent ≡ none → o .limit ≤ 262144
+unfolding learnedLimit
+limit-small gold gate o lent h = ltb-false 262144 (o .limit) (facts-of gold gate o lent h .limit-high)
+
 no-fault : (gold gate : Design) (o : Options) (lent : Lent) → Facts gold gate o lent → checkFault gold gate o lent ≡ none
 unfolding checkFault interfaceFault initialFault
 no-fault gold gate o lent f =
     none-otherwise _ _ (pass 16 0 0 _ (f .depth-low))
     (none-otherwise _ _ (pass 17 0 0 _ (f .depth-high))
+    (none-otherwise _ _ (pass 36 0 0 _ (f .limit-high))
     (none-otherwise _ _ (none-otherwise _ _ (pass 18 0 0 _ (f .input-names))
     (none-otherwise _ _ (pass 19 0 0 _ (f .output-names))
     (none-otherwise _ _ (pass 20 0 0 _ (f .gold-domain))
     (none-otherwise _ _ (pass 20 1 0 _ (f .gate-domain)) (pass 21 0 0 _ (f .domains))))))
     (none-otherwise _ _ (none-otherwise _ _ (f .gold-resets) (f .gate-resets))
-    (none-otherwise _ _ (pass 23 0 0 _ (f .small)) (pass 24 0 0 _ (f .memory))))))
+    (none-otherwise _ _ (pass 23 0 0 _ (f .small)) (pass 24 0 0 _ (f .memory)))))))
 
 -- ---- swapped
 
@@ -202,6 +211,7 @@ facts-swap gold gate o lent f =
     record {
       depth-low = f .depth-low;
       depth-high = f .depth-high;
+      limit-high = f .limit-high;
       input-names = names-swap (namesOf (inputs gold)) (namesOf (inputs gate)) (f .input-names);
       output-names = names-swap (namesOf (outputs gold)) (namesOf (outputs gate)) (f .output-names);
       gold-domain = f .gate-domain;

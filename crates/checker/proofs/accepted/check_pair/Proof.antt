@@ -20,7 +20,7 @@ prove-requires c κs =
     let e = c .before .before .before .before .before .before .before in
     let f = e .before .before in
     let p = f .before .before .before .before .before .before .pre in
-    (p .0, p .1, p .2, sym (f .check-fault .ensures) ∙ found-nothing _ (e .enum-told .given .1))
+    (p .0, p .1, sym (f .check-fault .ensures) ∙ found-nothing _ (e .enum-told .given .1))
 
 returns : tie.Need-returns
 unfolding lentOf Options.lentOf
