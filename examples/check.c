@@ -28,8 +28,8 @@ int main(int count, char **words) {
         return 64;
     }
     size_t gold_length = load(words[1], gold, sizeof gold), gate_length = load(words[2], gate, sizeof gate);
-    struct struo_check_answer answer = struo_check(gold, gold_length, gate, gate_length, strtoull(words[3], NULL, 10), STRUO_LEARNED_LIMIT, trace, sizeof trace,
-                                                   work, STRUO_WORDS_LENGTH, scores, STRUO_SCORES_LENGTH);
+    struct struo_check_answer answer = struo_check(gold, gold_length, gate, gate_length, strtoull(words[3], NULL, 10), STRUO_LEARNED_LIMIT, false, trace,
+                                                   sizeof trace, work, STRUO_WORDS_LENGTH, scores, STRUO_SCORES_LENGTH);
     if (answer.number != STRUO_ACCEPTED) {
         printf("Refused: number %u, %s, place %u\n", answer.number, answer.side == STRUO_GATE ? "gate" : "gold", answer.place);
         return 4;

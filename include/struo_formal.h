@@ -135,14 +135,14 @@ struct struo_replay_answer struo_step(const uint8_t *gold, size_t gold_length, c
    place as above. The other numbers are 0 where the check is refused.
    status: an enum struo_status. depth: the depth at which the verdict fell; for STRUO_INCONCLUSIVE the depth asked for; for STRUO_GAVE_UP the depth of the
    query that gave up. mismatch: for STRUO_NOT_EQUIVALENT the first cycle in which outputs differ, else 0. query: for STRUO_GAVE_UP the number of the query
-   that gave up, 1 to 4, else 0.
+   that gave up, 1 to 4, and in the mode of the earliest cycle 0 to 4; else 0, so that the status says whether a 0 is a query's number.
    learned: the largest total of learned literals over the queries asked, at most the limit, which says how near the check came to giving up; a query that gave
    up counts with its total before the clause that would have passed the limit. learned_depth and learned_query: depth and number of the first query asked
-   that has this total; 1 and 1 where nothing was learned.
+   that has this total; where nothing was learned 1 and 1, and in the mode of the earliest cycle 1 and 0.
    equal and through: for STRUO_GAVE_UP, how far the outputs are proved equal. Where equal is true, no input sequence makes outputs differ in a cycle from 0 to
    through, so that the first mismatch, if there is one, lies beyond it: through is `depth` where query 2, 3 or 4 gave up, and `depth` - 1 where query 1 did.
-   Where equal is false, no query was answered (query 1 of depth 1 gave up), nothing is proved of any cycle, cycle 0 included, and through is 0. For the other
-   statuses equal is false and through 0. */
+   Where equal is false, no query was answered (query 1 of depth 1 gave up, and in the mode of the earliest cycle query 0), nothing is proved of any cycle, cycle
+   0 included, and through is 0. For the other statuses equal is false and through 0. */
 struct struo_check_answer {
     uint32_t number;
     uint32_t side;
@@ -159,12 +159,19 @@ struct struo_check_answer {
 };
 
 /* Checks whether two designs can ever differ, by k-induction for depths 1 to `depth`, in which each query may learn clauses of `limit` literals together, 0 to
-   STRUO_LEARNED_LIMIT.
+   STRUO_LEARNED_LIMIT. Where `earliest` is true the check is in the mode of the earliest cycle: before query 1 of depth 1, query 0 asks whether outputs can
+   differ in cycle 0 alone.
 
    Equivalent: the outputs, compared by name, agree in every cycle of every input sequence. NotEquivalent: they differ in some cycle that is at
    most `depth`, and the trace shows how. Inconclusive: neither was found up to `depth`. GaveUp: a query's next learned clause would bring its
    learned literals above `limit`. Neither of the last two is a pass. With a larger limit, all else alike, a status other than GaveUp stays, with every number
    and every byte of the trace; and where both give up, the cycle that through tells is never lower, none being the lowest.
+
+   The earliest cycle. A mismatch that is found at depth 2 or more is that depth, and no input sequence makes outputs differ in an earlier cycle. At depth 1 it
+   is 0 or 1, and without the mode another input sequence may differ in cycle 0 where it is 1. In the mode every mismatch is the earliest that any input
+   sequence can show: a yes to query 0 ends the check with STRUO_NOT_EQUIVALENT, depth 1, mismatch 0 and a trace of cycle 0 alone; after a no all goes on as
+   without the mode; and where query 0 gives up, the check does, with depth 1 and query 0. Where the check gives up neither in the mode nor without it, status
+   and depth are the same in both, and mismatch and trace too unless outputs can differ in cycle 0. The mode changes no refusal.
 
    Refusals in checking order. Gold's record is read wholly (1 to 15, as struo_read), then gate's, with side 1; then:
      16 depth is 0; 17 depth is over 64; 36 limit is over STRUO_LEARNED_LIMIT; 18 the sets of input names differ; 19 the sets of output names differ;
@@ -181,7 +188,7 @@ struct struo_check_answer {
    order of names, 1 where it differs in that cycle; these STRUO_TRACE_LENGTH(mismatch, I, O) bytes are a claim to which struo_replay answers yes. All other
    bytes of the trace stay, and all of them for the other statuses. The three buffers must not overlap each other or the records, as Rust's &mut says. */
 struct struo_check_answer struo_check(const uint8_t *gold, size_t gold_length, const uint8_t *gate, size_t gate_length, uint64_t depth, uint64_t limit,
-                                      uint8_t *trace, size_t trace_length, uint32_t *words, size_t words_length,
+                                      bool earliest, uint8_t *trace, size_t trace_length, uint32_t *words, size_t words_length,
                                       double *scores, size_t scores_length);
 
 #ifdef __cplusplus

@@ -67,12 +67,12 @@ impl Solver {
 }
 ";
 
-/// The queries: each says its number and depth before it is solved; the pair's checks can be called alone.
+/// The queries: each says its number and depth before it is solved; query 1 and the pair's checks can be called alone. Query 1 with depth 0 is query 0 of depth 1.
 const EQUIVALENCE: &[Patch] = &[
     Patch {
         search: "    let model = solve(&proof, &[any_mismatch])?;\n",
         times: 1,
-        replace: "    crate::meter::query(depth, 1);\n    let model = solve(&proof, &[any_mismatch])?;\n",
+        replace: "    crate::meter::query(depth.max(1), usize::from(depth > 0));\n    let model = solve(&proof, &[any_mismatch])?;\n",
     },
     Patch {
         search: "    solve(&proof, &[any_mismatch]).is_none()\n",
@@ -83,6 +83,11 @@ const EQUIVALENCE: &[Patch] = &[
         search: "    solve(&proof, &assumptions).is_none()\n",
         times: 1,
         replace: "    crate::meter::query(depth, if include_named_state { 3 } else { 4 });\n    solve(&proof, &assumptions).is_none()\n",
+    },
+    Patch {
+        search: "\nfn base_counterexample(\n",
+        times: 1,
+        replace: "\npub(crate) fn base_counterexample(\n",
     },
     Patch {
         search: "\nfn validate_problem(\n",

@@ -102,24 +102,33 @@ static bool alike(struct struo_check_answer one, struct struo_check_answer other
     return memcmp(&one, &other, offsetof(struct struo_check_answer, equal)) == 0 && one.equal == other.equal && one.through == other.through;
 }
 
-/* Whether all words and scores are this number, and the trace begins with so many written bytes, 0 and 1 by turns. */
-static bool holds(uint32_t number, size_t written) {
+/* Whether all words and scores are this number, and the trace begins with so many written bytes, which are these. */
+static bool holds(uint32_t number, const uint8_t *bytes, size_t written) {
     for (size_t i = 0; i < STRUO_WORDS_LENGTH; i++) if (words[i] != number) return false;
     for (size_t i = 0; i < STRUO_SCORES_LENGTH; i++) if (scores[i] != number) return false;
-    for (size_t i = 0; i < sizeof trace; i++) if (trace[i] != (i < written ? i % 2 : 7)) return false;
+    for (size_t i = 0; i < sizeof trace; i++) if (trace[i] != (i < written ? bytes[i] : 7)) return false;
     return true;
 }
 
-/* One check of a pair under a limit, with so many words lent. */
-static void checks_under(const char *what, const uint8_t *gold, size_t gold_length, const uint8_t *gate, size_t gate_length, uint64_t depth, uint64_t limit,
-                         size_t words_length, struct struo_check_answer expected, size_t written) {
+/* One check of a pair under a limit, in the mode of the earliest cycle or without it, with so many words lent: its answer and the bytes that it writes. */
+static void checks_in(const char *what, const uint8_t *gold, size_t gold_length, const uint8_t *gate, size_t gate_length, uint64_t depth, uint64_t limit, bool earliest,
+                      size_t words_length, struct struo_check_answer expected, const uint8_t *bytes, size_t written) {
     hold();
-    struct struo_check_answer answer = struo_check(gold, gold_length, gate, gate_length, depth, limit, trace, sizeof trace, words, words_length, scores, STRUO_SCORES_LENGTH);
-    if (!alike(answer, expected) || !holds(answer.number == 0 ? 0 : 7, written)) {
+    struct struo_check_answer answer = struo_check(gold, gold_length, gate, gate_length, depth, limit, earliest, trace, sizeof trace, words, words_length, scores, STRUO_SCORES_LENGTH);
+    if (!alike(answer, expected) || !holds(answer.number == 0 ? 0 : 7, bytes, written)) {
         printf("boundary: %s: %u %u %u %u %u %u %u %u %u %u %d %u, or a byte lent, is not as expected\n", what, answer.number, answer.side, answer.place,
                answer.status, answer.depth, answer.mismatch, answer.query, answer.learned, answer.learned_depth, answer.learned_query, answer.equal, answer.through);
         failed = 1;
     }
+}
+
+/* Input a is 0 in cycle 0, and y differs there. */
+static const uint8_t differs_at_once[STRUO_TRACE_LENGTH(0, 1, 1)] = {0, 1};
+
+/* One check of a pair under a limit, without the mode, with so many words lent; what it writes begins as that trace does. */
+static void checks_under(const char *what, const uint8_t *gold, size_t gold_length, const uint8_t *gate, size_t gate_length, uint64_t depth, uint64_t limit,
+                         size_t words_length, struct struo_check_answer expected, size_t written) {
+    checks_in(what, gold, gold_length, gate, gate_length, depth, limit, false, words_length, expected, differs_at_once, written);
 }
 
 /* One check of a pair under the largest limit. */
@@ -208,6 +217,92 @@ static void limits(void) {
                  (struct struo_check_answer){.number = STRUO_REFUSAL_LENGTH, .side = STRUO_GATE}, 0);
 }
 
+/* Input a, and an output y that is 0. */
+static const uint8_t grounded[21] = {0x01, 0x00, 0x00, 0x00, 0x15, 0x01, 0x7a, 0x00, 0x03, 0x00, 0x01,
+                                     0x61, 0x01, 0x00, 0x11, 0x01, 0x79, 0x00, 0x01, 0x00, 0x00};
+
+/* A bool is one byte for a caller too. */
+_Static_assert(sizeof(bool) == 1, "a bool is one byte");
+
+/* A check to depth 1 of the wire against y = 0, with this value for the mode: without it a is 1 in cycle 1, in it a is 1 in cycle 0, where they differ at the
+   earliest; and the trace is a claim that is answered with yes. */
+static void grounds(const char *what, bool earliest) {
+    static const uint8_t late_trace[STRUO_TRACE_LENGTH(1, 1, 1)] = {0, 1, 1}, early_trace[STRUO_TRACE_LENGTH(0, 1, 1)] = {1, 1};
+    const struct struo_check_answer expected = {
+        .status = STRUO_NOT_EQUIVALENT, .depth = 1, .mismatch = earliest ? 0 : 1, .learned_depth = 1, .learned_query = earliest ? 0 : 1};
+    const size_t written = STRUO_TRACE_LENGTH(expected.mismatch, 1, 1);
+    checks_in(what, wire, sizeof wire, grounded, sizeof grounded, 1, STRUO_LEARNED_LIMIT, earliest, STRUO_WORDS_LENGTH, expected, earliest ? early_trace : late_trace, written);
+    struct struo_replay_answer answer = struo_replay(wire, sizeof wire, grounded, sizeof grounded, expected.mismatch, trace, written);
+    if (answer.number != 0 || !answer.yes) {
+        printf("boundary: %s: the trace is not answered with yes\n", what);
+        failed = 1;
+    }
+}
+
+/* A check in the mode of the two forms of Xor: query 0 learns 5 literals, query 1 after it 16. */
+static void both_xors_earliest(const char *what, uint64_t limit, struct struo_check_answer expected) {
+    checks_in(what, exclusive_or, sizeof exclusive_or, by_gates, sizeof by_gates, 1, limit, true, STRUO_WORDS_LENGTH, expected, NULL, 0);
+}
+
+/* The answer in the mode of a check that gave up in a query of depth 1, in which query 0 learned most. */
+static struct struo_check_answer gave_up_earliest(uint32_t query, uint32_t learned, bool equal, uint32_t through) {
+    struct struo_check_answer answer = gave_up(query, learned, equal, through);
+    answer.learned_query = 0;
+    return answer;
+}
+
+/* Checks in the mode of the earliest cycle beside the same without it, and the value that says which as C passes one. */
+static void earliest_cycles(void) {
+    static const uint8_t row_trace[STRUO_TRACE_LENGTH(2, 3, 1)] = {0, 1, 0, 0, 0, 0, 0, 0, 0, 1};
+    volatile bool kept = true;
+    volatile int number = 2;
+    grounds("wire against y = 0", false);
+    grounds("wire against y = 0 in the mode", true);
+    grounds("the mode from a variable", kept);
+    grounds("the mode from another number than 0", number);
+    kept = false;
+    number = 0;
+    grounds("no mode from a variable", kept);
+    grounds("no mode from the number 0", number);
+    checks_in("wire against inverter in the mode", wire, sizeof wire, inverter, sizeof inverter, 1, 0, true, STRUO_WORDS_LENGTH,
+              accepted(STRUO_NOT_EQUIVALENT, 1, 0, 1, 0), differs_at_once, sizeof differs_at_once);
+    checks_in("wire against itself in the mode", wire, sizeof wire, wire, sizeof wire, 64, 0, true, STRUO_WORDS_LENGTH, accepted(STRUO_EQUIVALENT, 1, 0, 1, 0), NULL, 0);
+    for (int earliest = 0; earliest < 2; earliest++) {
+        struct struo_check_answer second = accepted(STRUO_NOT_EQUIVALENT, 2, 0, 1, earliest ? 0 : 1);
+        second.mismatch = 2;
+        checks_in("a row to depth 2 in both modes", row, sizeof row, holding, sizeof holding, 2, 0, earliest, STRUO_WORDS_LENGTH, second, row_trace, sizeof row_trace);
+    }
+    checks_in("a row to depth 1 in the mode", row, sizeof row, holding, sizeof holding, 1, 0, true, STRUO_WORDS_LENGTH, accepted(STRUO_INCONCLUSIVE, 1, 0, 1, 0), NULL, 0);
+    both_xors_earliest("Xor in the mode", STRUO_LEARNED_LIMIT, accepted(STRUO_EQUIVALENT, 1, 16, 1, 1));
+    both_xors_earliest("Xor in the mode under the limit 12", 12, gave_up(1, 11, true, 0));
+    both_xors_earliest("Xor in the mode under the limit 5", 5, gave_up_earliest(1, 5, true, 0));
+    both_xors_earliest("Xor in the mode under the limit 3", 3, gave_up_earliest(0, 3, false, 0));
+    both_xors_earliest("Xor in the mode under the limit 0", 0, gave_up_earliest(0, 0, false, 0));
+    checks_in("a late Xor in the mode under the limit 3", late, sizeof late, late_by_gates, sizeof late_by_gates, 8, 3, true, STRUO_WORDS_LENGTH,
+              (struct struo_check_answer){.status = STRUO_GAVE_UP, .depth = 2, .query = 1, .learned = 3, .learned_depth = 2, .learned_query = 1, .equal = true, .through = 1}, NULL, 0);
+}
+
+/* The mode changes no refusal: each is answered as without it, with nothing written. */
+static void earliest_refusals(void) {
+    static const struct { const char *what; uint64_t depth, limit; size_t gate_length, words_length; uint32_t number, side; } cases[] = {
+        {"a cut gate in the mode", 0, UINT64_MAX, 5, 0, STRUO_REFUSAL_LENGTH, STRUO_GATE},
+        {"depth 0 in the mode", 0, UINT64_MAX, sizeof grounded, 0, STRUO_REFUSAL_ZERO_DEPTH, 0},
+        {"depth 65 in the mode", 65, UINT64_MAX, sizeof grounded, 0, STRUO_REFUSAL_DEPTH_LIMIT, 0},
+        {"the limit 262,145 in the mode", 1, STRUO_LEARNED_LIMIT + 1, sizeof grounded, 0, STRUO_REFUSAL_LEARNED_LIMIT, 0},
+        {"a word short in the mode", 1, STRUO_LEARNED_LIMIT, sizeof grounded, STRUO_WORDS_LENGTH - 1, STRUO_REFUSAL_MEMORY, 0},
+    };
+    for (size_t i = 0; i < sizeof cases / sizeof cases[0]; i++)
+        checks_in(cases[i].what, wire, sizeof wire, grounded, cases[i].gate_length, cases[i].depth, cases[i].limit, true, cases[i].words_length,
+                  (struct struo_check_answer){.number = cases[i].number, .side = cases[i].side}, NULL, 0);
+    hold();
+    struct struo_check_answer answer = struo_check(wire, sizeof wire, grounded, sizeof grounded, 1, 0, true, trace, STRUO_TRACE_LENGTH(0, 1, 1), words, STRUO_WORDS_LENGTH, scores,
+                                                   STRUO_SCORES_LENGTH);
+    if (!alike(answer, (struct struo_check_answer){.number = STRUO_REFUSAL_MEMORY}) || !holds(7, NULL, 0)) {
+        printf("boundary: a trace of cycle 0 alone is not refused with 24 in the mode\n");
+        failed = 1;
+    }
+}
+
 /* A claim as long as one of cycle 1, of another cycle: taken for cycle 1 it would be answered with no. */
 static void refuses_claim(const char *what, uint64_t cycle) {
     static const uint8_t claim[STRUO_TRACE_LENGTH(1, 1, 1)] = {0, 0, 1};
@@ -241,6 +336,12 @@ static void *stepping(void *none) {
 
 static void *checking(void *none) {
     checks("wire on a painted stack", wire, sizeof wire, 64, STRUO_WORDS_LENGTH, accepted(STRUO_EQUIVALENT, 1, 0, 1, 1), 0);
+    return none;
+}
+
+static void *seeking(void *none) {
+    checks_in("wire against inverter in the mode on a painted stack", wire, sizeof wire, inverter, sizeof inverter, 64, 0, true, STRUO_WORDS_LENGTH,
+              accepted(STRUO_NOT_EQUIVALENT, 1, 0, 1, 0), differs_at_once, sizeof differs_at_once);
     return none;
 }
 
@@ -284,6 +385,8 @@ static void every_check(void) {
     checks_pair("a row to depth 1", row, sizeof row, holding, sizeof holding, 1, STRUO_WORDS_LENGTH, accepted(STRUO_INCONCLUSIVE, 1, 0, 1, 1), 0);
     learns();
     limits();
+    earliest_cycles();
+    earliest_refusals();
     checks("a cut gate", inverter, 5, 1, STRUO_WORDS_LENGTH, (struct struo_check_answer){.number = STRUO_REFUSAL_LENGTH, .side = STRUO_GATE}, 0);
     checks("a word short", inverter, sizeof inverter, 1, STRUO_WORDS_LENGTH - 1, (struct struo_check_answer){.number = STRUO_REFUSAL_MEMORY}, 0);
 }
@@ -319,6 +422,7 @@ int main(void) {
     on_stack("a begin", beginning, STRUO_BEGIN_STACK);
     on_stack("a step", stepping, STRUO_STEP_STACK);
     on_stack("a check", checking, STRUO_CHECK_STACK);
+    on_stack("a check in the mode of the earliest cycle", seeking, STRUO_CHECK_STACK);
     if (!failed) printf("boundary: the C calls answer as specified\n");
     return failed;
 }

@@ -1,5 +1,5 @@
-/* Runs every line of the recorded list through the C boundary: answers and every lent byte, and that each status, each query's give-up at depth 1 and deeper and
-   each refusal was met, on each side that it can have. `recorded FILE`; the form of a line is that of oracle/README.md. */
+/* Runs every line of the recorded list through the C boundary: answers and every lent byte, and that each status in both modes, each query's give-up at depth 1 and
+   deeper and each refusal was met, on each side that it can have. `recorded FILE`; the form of a line is that of oracle/README.md. */
 #include <stdio.h>
 #include <stdlib.h>
 #include <string.h>
@@ -10,11 +10,14 @@
 #define HELD 0xa5
 #define SPARE 8192
 
-/* How often each refusal was met by call and side, each status, each query that gave up, at depth 1 and deeper, or learned most, give-ups that proved no cycle
-   or one, and each answer of a replay. */
+/* How often each refusal was met by call and side, and by a check in the mode of the earliest cycle; by mode, 1 being that of the earliest cycle: each status, each query
+   that gave up, at depth 1 and deeper, or learned most, and give-ups that proved no cycle or one; each answer of a replay. */
 enum { READ, CHECK, REPLAY, REFUSALS = 37 };
 static const char *const calls[3] = {"read", "check", "replay"};
-static unsigned met[3][REFUSALS][2], statuses[4], gave_up[5][2], learned_most[5], proved[2], answers[2];
+static unsigned met[3][REFUSALS][2], met_earliest[REFUSALS], statuses[2][4], gave_up[2][5][2], learned_most[2][5], proved[2][2], answers[2];
+
+/* In the mode of the earliest cycle: mismatches by cycle, the last for 3 and later, and give-ups in query 1 of depth 1, which prove cycle 0 alone. */
+static unsigned cycles[4], through_0;
 
 /* The line in hand, how many calls were made, and how many of them differ. */
 static unsigned lines, made, differ;
@@ -144,32 +147,40 @@ static bool trace_holds(struct bytes written) {
     return true;
 }
 
-/* Counts what a check answered. */
-static void tally(struct struo_check_answer answer) {
-    if (answer.number == 0 && answer.status < 4) statuses[answer.status]++;
+/* Counts what a check answered in the mode of the earliest cycle alone. */
+static void tally_earliest(struct struo_check_answer answer) {
+    if (answer.number < REFUSALS) met_earliest[answer.number]++;
+    if (answer.status == STRUO_NOT_EQUIVALENT) cycles[answer.mismatch < 3 ? answer.mismatch : 3]++;
+    through_0 += answer.status == STRUO_GAVE_UP && answer.depth == 1 && answer.query == 1 && answer.equal && answer.through == 0;
+}
+
+/* Counts what a check answered in a mode. */
+static void tally(struct struo_check_answer answer, bool earliest) {
+    if (answer.number == 0 && answer.status < 4) statuses[earliest][answer.status]++;
     if (answer.status == STRUO_GAVE_UP && answer.query < 5) {
-        gave_up[answer.query][answer.depth > 1]++;
-        proved[answer.equal]++;
+        gave_up[earliest][answer.query][answer.depth > 1]++;
+        proved[earliest][answer.equal]++;
     }
-    if (answer.learned > 0 && answer.learned_query < 5) learned_most[answer.learned_query]++;
+    if (answer.learned > 0 && answer.learned_query < 5) learned_most[earliest][answer.learned_query]++;
 }
 
 /* A line that checks a pair. */
 static void check_line(void) {
     struct bytes gold = hex(), gate = hex();
-    uint64_t depth = number(), limit = number();
+    uint64_t depth = number(), limit = number(), earliest = number();
     size_t trace_length = number(), words_length = number(), scores_length = number();
     equals();
-    if (trace_length > sizeof trace || words_length > STRUO_WORDS_LENGTH + SPARE || scores_length > STRUO_SCORES_LENGTH + SPARE) malformed();
+    if (earliest > 1 || trace_length > sizeof trace || words_length > STRUO_WORDS_LENGTH + SPARE || scores_length > STRUO_SCORES_LENGTH + SPARE) malformed();
     memset(trace, HELD, sizeof trace);
-    struct struo_check_answer answer = struo_check(gold.data, gold.length, gate.data, gate.length, depth, limit, trace, trace_length, words, words_length,
-                                                   scores, scores_length);
+    struct struo_check_answer answer = struo_check(gold.data, gold.length, gate.data, gate.length, depth, limit, earliest == 1, trace, trace_length, words,
+                                                   words_length, scores, scores_length);
     bool accepted = answer.number == 0, same = refused_so(answer.number, answer.side, answer.place);
     const uint32_t told[9] = {answer.status, answer.depth, answer.mismatch, answer.query, answer.learned, answer.learned_depth, answer.learned_query, answer.equal, answer.through};
     for (int i = 0; i < 9; i++) same &= told[i] == number();
     struct bytes written = hex();
     same &= trace_holds(written) && work_holds(accepted, words_length, scores_length);
-    tally(answer);
+    tally(answer, earliest == 1);
+    if (earliest == 1) tally_earliest(answer);
     if (accepted || !same) hold();
     count(CHECK, answer.number, answer.side, same);
     free(gold.data), free(gate.data), free(written.data);
@@ -181,6 +192,34 @@ static bool can(int call, unsigned refusal, unsigned side) {
     if (call == READ || (refusal > 25 && refusal != 36) || (call == CHECK && refusal == 25)) return false;
     if (call == REPLAY && (refusal <= 17 || refusal == 23 || refusal == 24 || refusal == 36)) return false;
     return side == 0 || refusal == 20 || refusal == 22;
+}
+
+/* Says what the checks of a mode answered; how much of it was not met. Query 0 is of the mode of the earliest cycle, and of depth 1. */
+static unsigned unmet_in_mode(bool earliest) {
+    const unsigned *status = statuses[earliest];
+    unsigned missing = !proved[earliest][0] + !proved[earliest][1];
+    printf("recorded: %s: Equivalent %u, NotEquivalent %u, Inconclusive %u, GaveUp %u (no cycle proved %u, one %u)\n", earliest ? "earliest cycle" : "without the mode",
+           status[0], status[1], status[2], status[3], proved[earliest][0], proved[earliest][1]);
+    for (int i = 0; i < 4; i++) missing += !status[i];
+    for (int i = earliest ? 0 : 1; i < 5; i++) {
+        printf("recorded: query %d gave up %u times at depth 1, %u deeper, learned most %u times\n", i, gave_up[earliest][i][0], gave_up[earliest][i][1], learned_most[earliest][i]);
+        missing += !gave_up[earliest][i][0] + (i > 0 && !gave_up[earliest][i][1]) + !learned_most[earliest][i];
+    }
+    return missing;
+}
+
+/* Says what the mode of the earliest cycle alone shows: its mismatches, its give-ups through cycle 0, and the refusals of a pair; how much of it was not met. */
+static unsigned unmet_earliest(void) {
+    unsigned missing = !through_0;
+    printf("recorded: earliest cycle 0: %u, 1: %u, 2: %u, later: %u; give-ups through cycle 0: %u; by refusal:", cycles[0], cycles[1], cycles[2], cycles[3], through_0);
+    for (int i = 0; i < 4; i++) missing += !cycles[i];
+    for (unsigned refusal = 16; refusal < REFUSALS; refusal++) {
+        if (refusal > 24 && refusal != 36) continue;
+        printf(" %u:%u", refusal, met_earliest[refusal]);
+        missing += !met_earliest[refusal];
+    }
+    printf("\n");
+    return missing;
 }
 
 /* Says how often what a call can answer was met; how many of these were not. */
@@ -195,13 +234,8 @@ static unsigned unmet(void) {
         }
         printf("\n");
     }
-    printf("recorded: Equivalent %u, NotEquivalent %u, Inconclusive %u, GaveUp %u (no cycle proved %u, one %u); replay no %u, yes %u\n", statuses[0], statuses[1],
-           statuses[2], statuses[3], proved[0], proved[1], answers[0], answers[1]);
-    for (int i = 1; i < 5; i++) {
-        printf("recorded: query %d gave up %u times at depth 1, %u deeper, learned most %u times\n", i, gave_up[i][0], gave_up[i][1], learned_most[i]);
-        missing += !statuses[i - 1] + !gave_up[i][0] + !gave_up[i][1] + !learned_most[i];
-    }
-    return missing + !proved[0] + !proved[1] + !answers[0] + !answers[1];
+    printf("recorded: replay no %u, yes %u\n", answers[0], answers[1]);
+    return missing + unmet_in_mode(false) + unmet_in_mode(true) + unmet_earliest() + !answers[0] + !answers[1];
 }
 
 int main(int argc, char **argv) {

@@ -31,9 +31,9 @@ const LENT: Lent = Lent { trace: 8_192, words: WORDS, scores: SCORES };
 
 /// The pair of a check line; none where it is refused.
 fn pair(line: &str) -> Option<Pair> {
-    let CheckCall { gold, gate, depth, limit, .. } = check_call(line)?;
-    assert_eq!(limit, LARGEST, "measured under the largest limit");
-    let answer = check(&gold, &gate, depth, limit, LENT);
+    let CheckCall { gold, gate, depth, limit, earliest, .. } = check_call(line)?;
+    assert_eq!((limit, earliest), (LARGEST, false), "measured under the largest limit, without the mode of the earliest cycle");
+    let answer = check(&gold, &gate, depth, limit, earliest, LENT);
     if answer.refusal.is_some() {
         return None;
     }
@@ -102,7 +102,7 @@ pub fn checks(seed: u64) -> ExitCode {
         let pairs: Vec<Pair> = lines.iter().filter_map(|line| pair(line)).collect();
         let learned = pairs.iter().map(|pair| pair.answer.learned).max().unwrap_or(0);
         let own = mean(&pairs, |pair| {
-            black_box(struo_formal::check(black_box(&pair.gold), black_box(&pair.gate), pair.depth, LARGEST, &mut trace, &mut words, &mut scores));
+            black_box(struo_formal::check(black_box(&pair.gold), black_box(&pair.gate), pair.depth, LARGEST, false, &mut trace, &mut words, &mut scores));
         });
         let theirs = mean(&pairs, rust);
         let clear = *clearing.get_or_insert(own);

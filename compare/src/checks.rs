@@ -1,4 +1,4 @@
-//! Checks: pairs of every family of the oracle, each under several limits of learned literals, answered by the library and by the oracle, every byte lent watched.
+//! Checks: pairs of every family of the oracle, each under several limits of learned literals and in both modes, answered by the library and by the oracle, every byte lent watched.
 use std::process::ExitCode;
 use std::sync::atomic::{AtomicUsize, Ordering};
 
@@ -8,16 +8,17 @@ use oracle::limited::{limits_about, REFUSED};
 use oracle::meter::{Query, Wish, LEARNED_LIMIT};
 use oracle::pair::{Lent, SCORES, WORDS};
 use oracle::rng::Rng;
-use oracle::vectors::{check_call, check_words, limited_line, split};
+use oracle::vectors::{check_call, check_words, mode_line, split};
 
 use struo_formal::CheckAnswer as Check;
 use crate::lent::{Memory, Trace};
 use crate::met::{unmet, Kind, Met};
+use crate::modes::{Made, Modes};
 use crate::reads::damaged;
 
-/// A check as the library has it: gold, gate, depth, limit, trace, words, scores.
-pub trait Call: Fn(&[u8], &[u8], u64, u64, &mut [u8], &mut [u32], &mut [f64]) -> Check + Sync {}
-impl<F: Fn(&[u8], &[u8], u64, u64, &mut [u8], &mut [u32], &mut [f64]) -> Check + Sync> Call for F {}
+/// A check as the library has it: gold, gate, depth, limit, earliest, trace, words, scores.
+pub trait Call: Fn(&[u8], &[u8], u64, u64, bool, &mut [u8], &mut [u32], &mut [f64]) -> Check + Sync {}
+impl<F: Fn(&[u8], &[u8], u64, u64, bool, &mut [u8], &mut [u32], &mut [f64]) -> Check + Sync> Call for F {}
 
 /// The largest limit, as a call takes it.
 const LARGEST: u64 = LEARNED_LIMIT as u64;
@@ -34,18 +35,20 @@ pub struct Tally {
     pub met: Met,
     /// Accepted checks by status.
     pub statuses: [u64; 4],
-    /// Give-ups by query, 1 to 4, at depth 1 and deeper.
+    /// Give-ups by query, 0 to 4, at depth 1 and deeper.
     pub gave_up: [[u64; 2]; 5],
     /// Give-ups that prove no cycle, and that prove one.
     pub proved: [u64; 2],
     /// Give-ups under a smaller limit, by the status under the largest.
     pub settled: [u64; 4],
-    /// Checks that learned something, by the query that learned most, 1 to 4.
+    /// Checks that learned something, by the query that learned most, 0 to 4.
     pub learned_most: [u64; 5],
     /// The largest depth answered, the latest mismatch, the most literals learned in a query.
     pub deepest: usize,
     pub latest: usize,
     pub learned: usize,
+    /// The mode of the earliest cycle.
+    pub modes: Modes,
 }
 
 impl Tally {
@@ -83,10 +86,11 @@ impl Tally {
         self.deepest = self.deepest.max(other.deepest);
         self.latest = self.latest.max(other.latest);
         self.learned = self.learned.max(other.learned);
+        self.modes.add(&other.modes);
         self
     }
 
-    /// The refusals, the statuses, what there is of give-ups, and the queries that learned most that were not met.
+    /// The refusals, the statuses, what there is of give-ups, the queries that learned most, and what the mode of the earliest cycle shows, that were not met.
     fn missing(&self) -> Vec<String> {
         let mut missing = self.met.missing(Kind::Check);
         missing.extend((0..4).filter(|status| self.statuses[*status] == 0).map(|status| format!("status {status}")));
@@ -98,17 +102,19 @@ impl Tally {
         missing.extend(cycles.map(|(_, cycle)| format!("a give-up that proves {cycle}")));
         missing.extend((0..4).filter(|status| self.settled[*status] == 0).map(|status| format!("a give-up under a smaller limit alone, else status {status}")));
         missing.extend((1..5).filter(|query| self.learned_most[*query] == 0).map(|query| format!("a check that learned most in query {query}")));
+        missing.extend(self.modes.missing());
         missing
     }
 }
 
-/// One call: two records, the depth, the limit and the lengths lent.
+/// One call: two records, the depth, the limit, whether the earliest cycle is asked for, and the lengths lent.
 #[derive(Clone, Copy)]
 struct Asked<'a> {
     gold: &'a [u8],
     gate: &'a [u8],
     depth: u64,
     limit: u64,
+    earliest: bool,
     lent: Lent,
 }
 
@@ -143,9 +149,9 @@ struct Worker<'a, C> {
 }
 
 impl<C: Call> Worker<'_, C> {
-    /// One check, made by both; the oracle's answer, which says which memory is lent, and its queries.
-    fn check(&mut self, asked: Asked) -> (CheckAnswer, Vec<Query>) {
-        let (answer, report) = check_reporting(asked.gold, asked.gate, asked.depth, asked.limit, asked.lent, Wish::default());
+    /// One check, made by both; the oracle's answer, which says which memory is lent, and what the library told.
+    fn check(&mut self, asked: Asked) -> (CheckAnswer, Made) {
+        let (answer, report) = check_reporting(asked.gold, asked.gate, asked.depth, asked.limit, asked.earliest, asked.lent, Wish::default());
         self.tally.count(&answer);
         let accepted = answer.refusal.is_none();
         self.tally.limited[usize::from(accepted)] += u64::from(asked.limit != LARGEST);
@@ -160,23 +166,46 @@ impl<C: Call> Worker<'_, C> {
             memory.dirty(&mut self.rng, lent);
         }
         let (words, scores) = memory.lend(lent);
-        let told = (self.call)(asked.gold, asked.gate, asked.depth, asked.limit, trace.lend(), words, scores);
+        let told = (self.call)(asked.gold, asked.gate, asked.depth, asked.limit, asked.earliest, trace.lend(), words, scores);
         let wanted = expected(&answer);
         let fault = (told != wanted)
             .then(|| format!("{told:?}"))
             .or_else(|| trace.fault(&answer.trace))
             .or_else(|| memory.fault(lent, accepted));
         if let Some(fault) = fault {
-            self.tally.differ += 1;
             memory.refill();
-            if self.tally.differ <= 5 {
-                println!("{} = {}: {fault}", limited_line(asked.gold, asked.gate, asked.depth, asked.limit, lent), check_words(&answer));
-            }
+            self.differs(Asked { lent, ..asked }, &answer, &fault);
         }
-        (answer, report.queries)
+        let written = trace.lend()[..answer.trace.len()].to_vec();
+        let made = Made { told, trace: written, queries: report.queries };
+        if asked.earliest {
+            self.tally.modes.count(&made, asked.limit != LARGEST);
+        }
+        (answer, made)
     }
 
-    /// Accepted checks under smaller limits, about the totals of the queries that the check under the largest asked; where a search takes long only such as end it early.
+    /// Counts a difference, and tells the first ones.
+    fn differs(&mut self, asked: Asked, answer: &CheckAnswer, fault: &str) {
+        self.tally.differ += 1;
+        if self.tally.differ <= 5 {
+            println!("{} = {}: {fault}", mode_line(asked.gold, asked.gate, asked.depth, asked.limit, asked.earliest, asked.lent), check_words(answer));
+        }
+    }
+
+    /// One check without the mode of the earliest cycle and in it, held against each other; one of the two, drawn at random, as it was asked.
+    fn in_both_modes<'a>(&mut self, asked: Asked<'a>) -> (Asked<'a>, CheckAnswer, Made) {
+        let (without, within) = (Asked { earliest: false, ..asked }, Asked { earliest: true, ..asked });
+        let ((answer, plain), (early, made)) = (self.check(without), self.check(within));
+        if !self.tally.modes.keeps(&plain, &made) {
+            self.differs(within, &early, "the mode changes what it has to keep");
+        }
+        if early.refusal.is_none() && !self.tally.modes.tells_least(asked.gold, asked.gate, asked.depth, &plain, &made) {
+            self.differs(within, &early, "not the least cycle by exhaustive search");
+        }
+        if self.rng.one_in(2) { (within, early, made) } else { (without, answer, plain) }
+    }
+
+    /// Accepted checks under smaller limits, about the totals of the queries that the check under the largest asked, some in both modes; where a search takes long only such as end it early.
     fn limited(&mut self, asked: Asked, answer: &CheckAnswer, queries: &[Query], quick: bool) {
         let mut limits = limits_about(&mut self.rng, queries);
         if !quick {
@@ -186,7 +215,12 @@ impl<C: Call> Worker<'_, C> {
         self.rng.shuffle(&mut limits);
         limits.truncate(LIMITS);
         for limit in limits {
-            let (less, _) = self.check(Asked { limit: limit as u64, ..asked });
+            let asked = Asked { limit: limit as u64, ..asked };
+            if self.rng.one_in(4) {
+                self.in_both_modes(asked);
+                continue;
+            }
+            let (less, _) = self.check(asked);
             self.tally.settled[usize::from(answer.status)] += u64::from(less.status == GAVE_UP);
         }
     }
@@ -202,20 +236,29 @@ impl<C: Call> Worker<'_, C> {
             1 => (asked.gold, &gate[..]),
             _ => (asked.gold, asked.gate),
         };
-        self.check(Asked { gold, gate, depth, limit, lent });
+        self.check(Asked { gold, gate, depth, limit, lent, ..asked });
     }
 
-    /// A pair with its swap, each under smaller limits too, both self checks, a damaged record on either side, other buffers or depths, and a refused limit.
+    /// A pair with its swap in both modes, each under smaller limits too, both self checks, a damaged record on either side, other buffers or depths, and a refused limit.
+    /// Where a search takes long, each is in one mode: the swap in the other than the pair.
     fn pair(&mut self, asked: Asked, quick: bool) {
-        let Asked { gold, gate, depth, limit, lent } = asked;
+        let Asked { gold, gate, depth, limit, lent, .. } = asked;
         self.tally.pairs += 1;
-        for (gold, gate) in [(gold, gate), (gate, gold), (gold, gold), (gate, gate)] {
-            let asked = Asked { gold, gate, ..asked };
-            let (answer, queries) = self.check(asked);
+        let cheap = quick || limit <= EARLY as u64;
+        for (gold, gate, swapped) in [(gold, gate, false), (gate, gold, true), (gold, gold, false), (gate, gate, false)] {
+            let asked = Asked { gold, gate, earliest: asked.earliest != swapped, ..asked };
+            let (asked, answer, made) = if cheap && gold != gate {
+                self.in_both_modes(asked)
+            } else {
+                let asked = if cheap { self.in_any_mode(asked) } else { asked };
+                let (answer, made) = self.check(asked);
+                (asked, answer, made)
+            };
             if gold != gate && answer.refusal.is_none() && limit == LARGEST {
-                self.limited(asked, &answer, &queries, quick);
+                self.limited(asked, &answer, &made.queries, quick);
             }
         }
+        let asked = self.in_any_mode(asked);
         let (worse_gold, worse_gate) = (damaged_or_empty(&mut self.rng, gold), damaged_or_empty(&mut self.rng, gate));
         let (gold_side, gate_side) = (self.rng.one_in(2), self.rng.one_in(2));
         if quick {
@@ -223,8 +266,15 @@ impl<C: Call> Worker<'_, C> {
             self.check(Asked { gold: other_gold, gate: other_gate, ..asked });
         }
         let (other_depth, other_lent) = self.varied(depth, lent, quick);
-        self.check(Asked { depth: other_depth, lent: other_lent, ..asked });
+        let varied = self.in_any_mode(Asked { depth: other_depth, lent: other_lent, ..asked });
+        self.check(varied);
+        let asked = self.in_any_mode(asked);
         self.refused_limit(asked);
+    }
+
+    /// The same call in a mode drawn at random.
+    fn in_any_mode<'a>(&mut self, asked: Asked<'a>) -> Asked<'a> {
+        Asked { earliest: self.rng.one_in(2), ..asked }
     }
 
     /// Another depth or other lengths; where a search takes long only such as are refused.
@@ -248,7 +298,7 @@ impl<C: Call> Worker<'_, C> {
         for line in block.lines() {
             let (left, _) = split(&line).expect("a check line");
             let call = check_call(left).unwrap_or_else(|| panic!("no check: {line}"));
-            let asked = Asked { gold: &call.gold, gate: &call.gate, depth: call.depth, limit: call.limit, lent: call.lent };
+            let asked = Asked { gold: &call.gold, gate: &call.gate, depth: call.depth, limit: call.limit, earliest: call.earliest, lent: call.lent };
             self.pair(asked, block.quick());
         }
     }
@@ -276,7 +326,7 @@ impl Block {
 
     /// Whether its searches are short.
     fn quick(&self) -> bool {
-        !matches!(self.family, "deep" | "hard" | "rescale" | "giveup" | "limits" | "cases" | "dense" | "rows" | "feedback" | "sums")
+        !matches!(self.family, "deep" | "hard" | "rescale" | "giveup" | "limits" | "cases" | "earliest" | "dense" | "rows" | "feedback" | "sums")
     }
 }
 
@@ -303,7 +353,7 @@ fn family(number: usize) -> &'static str {
 
 /// The blocks of a run: the fixed families with a give-up in each query, from 10,000 pairs on all that search long too, then `count` random pairs.
 fn blocks(count: usize, seed: u64) -> Vec<Block> {
-    let fixed = |family: &'static str| Block { family, count: 200, skip: 0, seed };
+    let fixed = |family: &'static str| Block { family, count: if family == "earliest" { 300 } else { 200 }, skip: 0, seed };
     let mut blocks = Vec::new();
     if count >= 10_000 {
         blocks.extend((0..2).map(|skip| Block { family: "giveup", count: 1, skip, seed }));
@@ -312,7 +362,7 @@ fn blocks(count: usize, seed: u64) -> Vec<Block> {
         blocks.push(Block { family: "deep", count: 3, skip: 0, seed });
     }
     blocks.extend((2..6).map(|skip| Block { family: "giveup", count: 1, skip, seed }));
-    blocks.extend(["sides", "refusals", "limited"].map(fixed));
+    blocks.extend(["earliest", "sides", "refusals", "limited"].map(fixed));
     blocks.push(Block { family: "limits", count: 1, skip: 2, seed });
     let mut left = count;
     for number in 0.. {
@@ -329,7 +379,8 @@ fn blocks(count: usize, seed: u64) -> Vec<Block> {
 }
 
 /// Checks the fixed families and `count` random pairs through the library, and says what came of it: each status, a give-up in each query at depth 1 and deeper,
-/// with no cycle proved and with one, and under a smaller limit alone, each query as the one that learned most, and each refusal on each side that it can have have to be met. From 10,000 pairs on with the rescaling, the deepest searches and the pairs that are measured alone.
+/// with no cycle proved and with one, and under a smaller limit alone, each query as the one that learned most, each refusal on each side that it can have, and what the mode of the earliest
+/// cycle shows have to be met. From 10,000 pairs on with the rescaling, the deepest searches and the pairs that are measured alone.
 pub fn compare(count: u64, seed: u64) -> ExitCode {
     let threads = std::thread::available_parallelism().map_or(1, usize::from);
     let tally = run(usize::try_from(count).expect("a count fits"), seed, threads, &struo_formal::check);
@@ -337,12 +388,13 @@ pub fn compare(count: u64, seed: u64) -> ExitCode {
     let [equivalent, different, inconclusive, gave_up] = tally.statuses;
     let [no_cycle, a_cycle] = tally.proved;
     println!("accepted: {equivalent} Equivalent, {different} NotEquivalent, {inconclusive} Inconclusive, {gave_up} GaveUp");
-    println!("give-ups by query, at depth 1 and deeper: {:?}; {no_cycle} prove no cycle, {a_cycle} prove one", &tally.gave_up[1..]);
+    println!("give-ups by query, 0 to 4, at depth 1 and deeper: {:?}; {no_cycle} prove no cycle, {a_cycle} prove one", tally.gave_up);
     let learning: u64 = tally.learned_most.iter().sum();
     println!("deepest {}, latest mismatch {}", tally.deepest, tally.latest);
     let [refused, limited] = tally.limited;
     println!("under other limits than the largest {limited} checks accepted, {refused} refused; give-ups by their status under the largest {:?}", tally.settled);
-    println!("most learned {}, something in {learning} checks (most in query {:?})", tally.learned, &tally.learned_most[1..]);
+    println!("most learned {}, something in {learning} checks (most in query {:?})", tally.learned, tally.learned_most);
+    println!("{}", tally.modes.told());
     let missing = unmet(&tally.missing());
     println!("{} pairs, {} checks, {} differ", tally.pairs, tally.checks, tally.differ);
     ExitCode::from(u8::from(tally.differ > 0 || missing))
@@ -376,9 +428,9 @@ mod tests {
     use oracle::check::check;
 
     /// Answers from the oracle, as a library that is right does.
-    fn honest(gold: &[u8], gate: &[u8], depth: u64, limit: u64, trace: &mut [u8], words: &mut [u32], scores: &mut [f64]) -> Check {
+    fn honest(gold: &[u8], gate: &[u8], depth: u64, limit: u64, earliest: bool, trace: &mut [u8], words: &mut [u32], scores: &mut [f64]) -> Check {
         let lent = Lent { trace: trace.len() as u64, words: words.len() as u64, scores: scores.len() as u64 };
-        let answer = check(gold, gate, depth, limit, lent);
+        let answer = check(gold, gate, depth, limit, earliest, lent);
         if answer.refusal.is_none() {
             trace[..answer.trace.len()].copy_from_slice(&answer.trace);
             words.fill(0);
@@ -400,8 +452,8 @@ mod tests {
 
     /// The checks of blocks that differ where `lie` changes what the honest library answered and left.
     fn differing_in(blocks: &[Block], lie: impl Fn(&mut Check, &mut [u8], &mut [u32], &mut [f64]) + Sync) -> u64 {
-        let call = |gold: &[u8], gate: &[u8], depth: u64, limit: u64, trace: &mut [u8], words: &mut [u32], scores: &mut [f64]| {
-            let mut answer = honest(gold, gate, depth, limit, trace, words, scores);
+        let call = |gold: &[u8], gate: &[u8], depth: u64, limit: u64, earliest: bool, trace: &mut [u8], words: &mut [u32], scores: &mut [f64]| {
+            let mut answer = honest(gold, gate, depth, limit, earliest, trace, words, scores);
             lie(&mut answer, trace, words, scores);
             answer
         };
@@ -420,10 +472,38 @@ mod tests {
 
     /// The limited checks that differ where the honest library is asked with another limit.
     fn differing_under(other: impl Fn(u64) -> u64 + Sync) -> u64 {
-        let call = |gold: &[u8], gate: &[u8], depth: u64, limit: u64, trace: &mut [u8], words: &mut [u32], scores: &mut [f64]| {
-            honest(gold, gate, depth, other(limit), trace, words, scores)
+        let call = |gold: &[u8], gate: &[u8], depth: u64, limit: u64, earliest: bool, trace: &mut [u8], words: &mut [u32], scores: &mut [f64]| {
+            honest(gold, gate, depth, other(limit), earliest, trace, words, scores)
         };
         run_blocks(&under_limits(), 1, &call).differ
+    }
+
+    /// Pairs in the mode of the earliest cycle, among them a yes to query 0, give-ups in query 0 and in query 1 after a no, and differences in later cycles.
+    fn in_the_mode() -> Vec<Block> {
+        let block = |count, skip| Block { family: "earliest", count, skip, seed: 3 };
+        vec![block(30, 0), block(1, 48)]
+    }
+
+    /// The checks in the mode that differ where `lie` changes what the honest library answered in it, given what it answers without it.
+    fn differing_in_the_mode(lie: impl Fn(&mut Check, &Check) + Sync) -> u64 {
+        let call = |gold: &[u8], gate: &[u8], depth: u64, limit: u64, earliest: bool, trace: &mut [u8], words: &mut [u32], scores: &mut [f64]| {
+            let mut unwritten = trace.to_vec();
+            let plain = honest(gold, gate, depth, limit, false, &mut unwritten, words, scores);
+            let mut answer = honest(gold, gate, depth, limit, earliest, trace, words, scores);
+            if earliest {
+                lie(&mut answer, &plain);
+            }
+            answer
+        };
+        run_blocks(&in_the_mode(), 1, &call).differ
+    }
+
+    /// The checks that differ where the honest library is asked in another mode.
+    fn differing_in_mode(other: impl Fn(bool) -> bool + Sync) -> u64 {
+        let call = |gold: &[u8], gate: &[u8], depth: u64, limit: u64, earliest: bool, trace: &mut [u8], words: &mut [u32], scores: &mut [f64]| {
+            honest(gold, gate, depth, limit, other(earliest), trace, words, scores)
+        };
+        run_blocks(&in_the_mode(), 1, &call).differ
     }
 
     #[test]
@@ -477,6 +557,43 @@ mod tests {
     }
 
     #[test]
+    fn another_mode_is_found() {
+        let tally = run_blocks(&in_the_mode(), 2, &honest);
+        assert_eq!(tally.differ, 0);
+        assert!(tally.gave_up[0][0] > 0 && tally.statuses.iter().all(|times| *times > 0));
+        assert!(differing_in_mode(|_| false) > 0);
+        assert!(differing_in_mode(|_| true) > 0);
+        assert!(differing_in_mode(|earliest| !earliest) > 0);
+    }
+
+    #[test]
+    fn a_wrong_query_0_is_found() {
+        let gave_up_at_1 = |answer: &Check, query: u32| answer.status == 3 && (answer.depth, answer.query) == (1, query);
+        assert!(differing_in_the_mode(|answer, _| if gave_up_at_1(answer, 0) { answer.query = 1 }) > 0);
+        assert!(differing_in_the_mode(|answer, _| if gave_up_at_1(answer, 0) { answer.equal = true }) > 0);
+        assert!(differing_in_the_mode(|answer, _| if gave_up_at_1(answer, 1) { answer.equal = false }) > 0);
+        assert!(differing_in_the_mode(|answer, _| if answer.number == 0 && answer.learned == 0 { answer.learned_query = 1 }) > 0);
+        assert!(differing_in_the_mode(|answer, plain| (answer.learned, answer.learned_depth, answer.learned_query) = (plain.learned, plain.learned_depth, plain.learned_query)) > 0);
+        assert!(differing_in_the_mode(|answer, plain| answer.mismatch = plain.mismatch) > 0);
+        assert!(differing_in_the_mode(|answer, plain| answer.status = plain.status) > 0);
+        assert!(differing_in_the_mode(|answer, _| if answer.status == 1 && answer.mismatch == 0 { answer.depth = 0 }) > 0);
+    }
+
+    #[test]
+    fn a_trace_of_cycle_0_kept_from_query_1_is_found() {
+        let call = |gold: &[u8], gate: &[u8], depth: u64, limit: u64, earliest: bool, trace: &mut [u8], words: &mut [u32], scores: &mut [f64]| {
+            let mut kept = trace.to_vec();
+            let plain = honest(gold, gate, depth, limit, false, &mut kept, words, scores);
+            let answer = honest(gold, gate, depth, limit, earliest, trace, words, scores);
+            if earliest && plain.status == 1 && answer.status == 1 {
+                trace.copy_from_slice(&kept);
+            }
+            answer
+        };
+        assert!(run_blocks(&in_the_mode(), 1, &call).differ > 0);
+    }
+
+    #[test]
     fn a_trace_byte_is_found() {
         assert!(differing(|answer, trace, _, _| if answer.status == 1 { trace[0] ^= 1 }) > 0);
         assert!(differing(|_, trace, _, _| if let Some(last) = trace.last_mut() { *last = 1 }) > 0);
@@ -509,7 +626,15 @@ mod tests {
     #[test]
     fn what_was_not_met_is_said() {
         let missing = run_blocks(&few(), 2, &honest).missing();
-        let all = ["a give-up in query 2 deeper", "a give-up under a smaller limit alone, else status 3", "a check that learned most in query 2"];
-        assert!(all.iter().all(|what| missing.contains(&String::from(*what))));
+        let all = [
+            "a give-up in query 2 deeper",
+            "a give-up under a smaller limit alone, else status 3",
+            "a check that learned most in query 2",
+            "in the mode a give-up in query 0",
+            "in the mode several mismatches that are earlier than without it",
+            "in the mode refusal 23",
+        ];
+        let met: Vec<&&str> = all.iter().filter(|what| !missing.contains(&String::from(**what))).collect();
+        assert!(met.is_empty(), "{met:?}");
     }
 }

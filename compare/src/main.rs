@@ -11,6 +11,7 @@ mod checks;
 mod clock;
 mod lent;
 mod met;
+mod modes;
 mod reads;
 mod records;
 mod replays;

@@ -63,6 +63,11 @@ impl Met {
         (0..NUMBERS).filter(|number| call.can(*number, 0)).map(one).collect::<Vec<_>>().join(" ")
     }
 
+    /// What the call can answer and was met on neither side.
+    pub fn missing_numbers(&self, call: Kind) -> Vec<String> {
+        (0..NUMBERS).filter(|number| call.can(*number, 0) && self.times(*number) == 0).map(|number| format!("refusal {number}")).collect()
+    }
+
     /// What the call can answer and was not met.
     pub fn missing(&self, call: Kind) -> Vec<String> {
         let all = (0..NUMBERS).flat_map(|number| [(number, 0), (number, 1)]);
@@ -94,6 +99,9 @@ mod tests {
             assert!(met.missing(call).is_empty());
             met.0[7][0] = 0;
             assert_eq!(met.missing(call), ["refusal 7 of side 0"]);
+            assert_eq!(met.missing_numbers(call).is_empty(), met.times(7) > 0);
+            met.0[7][1] = 0;
+            assert_eq!(met.missing_numbers(call), ["refusal 7"]);
         }
     }
 }

@@ -57,7 +57,7 @@ fn pair(rng: &mut Rng, tally: &mut Tally) {
     let size = Size { inputs: 4, outputs: 3, registers: 4, gates: 9 };
     let pair = random_pair(rng, size, 3);
     let (gold, gate) = (encode(&pair.gold), encode(&pair.gate));
-    let answer = check(&gold, &gate, 3, LEARNED_LIMIT as u64, Lent { trace: 8192, words: 8_388_608, scores: 65_536 });
+    let answer = check(&gold, &gate, 3, LEARNED_LIMIT as u64, false, Lent { trace: 8192, words: 8_388_608, scores: 65_536 });
     if answer.status == 1 {
         let cycle = answer.mismatch as u64;
         tally.claim(&gold, &gate, cycle, &answer.trace);

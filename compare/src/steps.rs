@@ -141,7 +141,7 @@ fn lent_position(rng: &mut Rng, cycle: u64) -> Plain {
 fn pair(rng: &mut Rng, tally: &mut Tally) {
     let pair = random_pair(rng, Size { inputs: 4, outputs: 3, registers: 4, gates: 9 }, 3);
     let (gold, gate) = (encode(&pair.gold), encode(&pair.gate));
-    let answer = check(&gold, &gate, 3, LEARNED_LIMIT as u64, Lent { trace: 8192, words: 8_388_608, scores: 65_536 });
+    let answer = check(&gold, &gate, 3, LEARNED_LIMIT as u64, false, Lent { trace: 8192, words: 8_388_608, scores: 65_536 });
     let mut claims: Vec<(u64, Vec<u8>)> = (0..3)
         .map(|_| {
             let cycle = if rng.one_in(30) { rng.below(65) as u64 } else { rng.below(4) as u64 };

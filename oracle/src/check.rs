@@ -1,6 +1,6 @@
-//! The call check: the Rust's prove_sequential_equivalence under a limit of learned literals.
+//! The call check: the Rust's prove_sequential_equivalence under a limit of learned literals, in the mode of the earliest cycle after its base_counterexample with depth 0.
 use crate::bridge::system;
-use crate::equivalence::{prove_sequential_equivalence, Counterexample, EquivalenceResult, EquivalenceStatus};
+use crate::equivalence::{base_counterexample, prove_sequential_equivalence, Counterexample, EquivalenceResult, EquivalenceStatus};
 use crate::meter::{self, Ending, Query, Report, Wish};
 use crate::pair::{check_refusal, read_pair, Lent};
 use crate::record::{Design, Refusal};
@@ -41,6 +41,13 @@ fn trace(gold: &Design, found: &Counterexample) -> Vec<u8> {
     bytes
 }
 
+/// The answer of a counterexample found at a depth.
+fn different(gold: &Design, depth: usize, found: &Counterexample) -> CheckAnswer {
+    let mismatch = found.first_mismatch();
+    assert_eq!(found.frames().len(), mismatch + 1);
+    CheckAnswer { status: NOT_EQUIVALENT, depth, mismatch, trace: trace(gold, found), ..CheckAnswer::default() }
+}
+
 /// The answer of a result that no query gave up.
 fn answered(gold: &Design, result: &EquivalenceResult) -> CheckAnswer {
     let depth = result.depth();
@@ -48,12 +55,7 @@ fn answered(gold: &Design, result: &EquivalenceResult) -> CheckAnswer {
     match result.status() {
         EquivalenceStatus::Equivalent => plain(EQUIVALENT),
         EquivalenceStatus::Inconclusive => plain(INCONCLUSIVE),
-        EquivalenceStatus::NotEquivalent => {
-            let found = result.counterexample().expect("a trace comes with NotEquivalent");
-            let mismatch = found.first_mismatch();
-            assert_eq!(found.frames().len(), mismatch + 1);
-            CheckAnswer { mismatch, trace: trace(gold, found), ..plain(NOT_EQUIVALENT) }
-        }
+        EquivalenceStatus::NotEquivalent => different(gold, depth, result.counterexample().expect("a trace comes with NotEquivalent")),
     }
 }
 
@@ -64,34 +66,49 @@ fn most_learned(queries: &[Query]) -> (usize, usize, usize) {
     (most, first.depth, first.number)
 }
 
-/// The answer of a check whose last query gave up. Outputs are proved equal through the largest depth whose query 1 was answered, which was by no: it asks of
-/// cycles 0 to its depth. As query 1 is asked before all others, there is such a depth exactly where a query was answered.
+/// The last cycle that a query asks of outputs from the initial states; none for queries 2 to 4, which ask something else.
+fn last_cycle(query: &Query) -> Option<usize> {
+    match query.number {
+        0 => Some(0),
+        1 => Some(query.depth),
+        _ => None,
+    }
+}
+
+/// The answer of a check whose last query gave up. Outputs are proved equal through the last cycle of query 0 and of each query 1 that was answered, which was
+/// by no. As one of these is asked before all others, there is such a cycle exactly where a query was answered.
 fn gave_up(queries: &[Query]) -> CheckAnswer {
     let (last, answered) = queries.split_last().expect("a query gave up");
     assert!(last.ending == Ending::GaveUp && answered.iter().all(|query| query.ending != Ending::GaveUp));
-    let noes = answered.iter().filter(|query| query.number == 1 && query.ending == Ending::NoModel);
-    let proved = noes.map(|query| query.depth).max();
+    let proved = answered.iter().filter(|query| query.ending == Ending::NoModel).filter_map(last_cycle).max();
     assert_eq!(proved.is_none(), answered.is_empty());
     CheckAnswer { status: GAVE_UP, depth: last.depth, query: last.number, equal: proved.is_some(), through: proved.unwrap_or(0), ..CheckAnswer::default() }
 }
 
-/// Two accepted designs checked to a depth, and what the search reported.
-pub fn prove(gold: &Design, gate: &Design, depth: usize, wish: Wish) -> (CheckAnswer, Report) {
+/// The Rust's check of two accepted designs. In the mode of the earliest cycle its own query 1 with depth 0 is asked first, as query 0 of depth 1; a model of it is the answer.
+fn asked(gold: &Design, gate: &Design, depth: usize, earliest: bool) -> CheckAnswer {
+    let (ours, theirs) = (system(gold), system(gate));
+    let found = if earliest { base_counterexample(&ours, &theirs, 0) } else { None };
+    match found {
+        Some(found) => different(gold, 1, &found),
+        None => answered(gold, &prove_sequential_equivalence(&ours, &theirs, depth).expect("the pair passed its refusals")),
+    }
+}
+
+/// Two accepted designs checked to a depth, in the mode of the earliest cycle or without it, and what the search reported.
+pub fn prove(gold: &Design, gate: &Design, depth: usize, earliest: bool, wish: Wish) -> (CheckAnswer, Report) {
     meter::reset(wish);
-    let result = meter::unless_gave_up(|| prove_sequential_equivalence(&system(gold), &system(gate), depth));
+    let answer = meter::unless_gave_up(|| asked(gold, gate, depth, earliest));
     let report = meter::report();
     let (learned, learned_depth, learned_query) = most_learned(&report.queries);
     assert!(report.queries.iter().all(|query| query.nodes <= 65_536), "the bound of refusal 23");
-    let answer = match result {
-        Some(result) => answered(gold, &result.expect("the pair passed its refusals")),
-        None => gave_up(&report.queries),
-    };
+    let answer = answer.unwrap_or_else(|| gave_up(&report.queries));
     (CheckAnswer { learned, learned_depth, learned_query, ..answer }, report)
 }
 
-/// Check with its report: gold's record, gate's record, the maximum depth, the limit of learned literals in one query, the lengths of the buffers lent. The
-/// limit is that of the call, whatever the wish says.
-pub fn check_reporting(gold: &[u8], gate: &[u8], depth: u64, limit: u64, lent: Lent, wish: Wish) -> (CheckAnswer, Report) {
+/// Check with its report: gold's record, gate's record, the maximum depth, the limit of learned literals in one query, whether the earliest cycle is asked for,
+/// the lengths of the buffers lent. The limit is that of the call, whatever the wish says.
+pub fn check_reporting(gold: &[u8], gate: &[u8], depth: u64, limit: u64, earliest: bool, lent: Lent, wish: Wish) -> (CheckAnswer, Report) {
     let accepted = read_pair(gold, gate).and_then(|(gold, gate)| {
         check_refusal(&gold, &gate, depth, limit, lent)?;
         Ok((gold, gate))
@@ -99,13 +116,13 @@ pub fn check_reporting(gold: &[u8], gate: &[u8], depth: u64, limit: u64, lent: L
     match accepted {
         Ok((gold, gate)) => {
             let limit = usize::try_from(limit).expect("a limit fits");
-            prove(&gold, &gate, usize::try_from(depth).expect("a depth fits"), Wish { limit, ..wish })
+            prove(&gold, &gate, usize::try_from(depth).expect("a depth fits"), earliest, Wish { limit, ..wish })
         }
         Err(refusal) => (CheckAnswer { refusal: Some(refusal), ..CheckAnswer::default() }, Report::default()),
     }
 }
 
 /// Check.
-pub fn check(gold: &[u8], gate: &[u8], depth: u64, limit: u64, lent: Lent) -> CheckAnswer {
-    check_reporting(gold, gate, depth, limit, lent, Wish::default()).0
+pub fn check(gold: &[u8], gate: &[u8], depth: u64, limit: u64, earliest: bool, lent: Lent) -> CheckAnswer {
+    check_reporting(gold, gate, depth, limit, earliest, lent, Wish::default()).0
 }

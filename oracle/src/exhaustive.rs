@@ -114,9 +114,24 @@ impl Product {
         self.any(&states, &bad)
     }
 
-    /// A question by its number.
+    /// The first cycle in which outputs differ on one input sequence, whose inputs are the digits of a number, the first lowest.
+    fn first_on(&self, mut sequence: usize, cycles: usize) -> Option<usize> {
+        let (mut gold, mut gate) = (self.gold.initial, self.gate.initial);
+        for cycle in 0..cycles {
+            let input = sequence % self.inputs;
+            if self.outputs_differ((gold, gate), input) {
+                return Some(cycle);
+            }
+            (gold, gate) = (self.gold.next[gold][input], self.gate.next[gate][input]);
+            sequence /= self.inputs;
+        }
+        None
+    }
+
+    /// A question by its number; 0 is question 1 of cycle 0 alone.
     fn question(&self, number: usize, depth: usize) -> bool {
         match number {
+            0 => self.reached(0, |both, input| self.outputs_differ(both, input)),
             1 => self.reached(depth, |both, input| self.outputs_differ(both, input)),
             2 => self.reached(depth, |both, _| self.named_differ(both)),
             3 => self.step_fails(depth, true, |both, input| self.outputs_differ(both, input) || self.named_differ(both)),
@@ -131,10 +146,23 @@ pub fn first_difference(gold: &Design, gate: &Design, last: usize) -> Option<usi
     (0..=last).find(|cycle| product.question(1, *cycle))
 }
 
-/// What k-induction says of two designs to a depth: status, depth, and each question asked with its answer.
-pub fn induction(gold: &Design, gate: &Design, maximum: usize) -> (u8, usize, Vec<(usize, usize, bool)>) {
+/// The same over every input sequence, each run by itself.
+pub fn least_over_sequences(gold: &Design, gate: &Design, last: usize) -> Option<usize> {
+    let product = Product::new(gold, gate);
+    let cycles = u32::try_from(last + 1).expect("few cycles");
+    (0..product.inputs.pow(cycles)).filter_map(|sequence| product.first_on(sequence, last + 1)).min()
+}
+
+/// What k-induction says of two designs to a depth, in the mode of the earliest cycle or without it: status, depth, and each question asked with its answer.
+pub fn induction(gold: &Design, gate: &Design, maximum: usize, earliest: bool) -> (u8, usize, Vec<(usize, usize, bool)>) {
     let product = Product::new(gold, gate);
     let mut asked = Vec::new();
+    if earliest {
+        asked.push((1, 0, product.question(0, 1)));
+        if asked[0].2 {
+            return (NOT_EQUIVALENT, 1, asked);
+        }
+    }
     for depth in 1..=maximum {
         let mut ask = |number: usize| {
             let yes = product.question(number, depth);

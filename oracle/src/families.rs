@@ -1,6 +1,7 @@
 //! The families of vector lines: pairs, reads, replays; each deterministic by its seed.
 use crate::check::{prove, NOT_EQUIVALENT};
 use crate::dense::{dense, Dense};
+use crate::earliest;
 use crate::limited;
 use crate::meter::Wish;
 use crate::pair::{cost, trace_need, Lent, SCORES, WORDS};
@@ -363,7 +364,7 @@ fn replays(rng: &mut Rng, count: usize) -> Vec<String> {
         let size = Size { inputs: 4, outputs: 4, registers: 4, gates: 8 };
         let pair = if rng.one_in(6) { let cycle = rng.range(2, 12); deep_pair(rng, cycle) } else { random_pair(rng, size, 6) };
         let (gold, gate) = (encode(&pair.gold), encode(&pair.gate));
-        let (answer, _) = prove(&pair.gold, &pair.gate, pair.depth, Wish::default());
+        let (answer, _) = prove(&pair.gold, &pair.gate, pair.depth, false, Wish::default());
         if answer.status == NOT_EQUIVALENT {
             let cycle = answer.mismatch as u64;
             lines.push(replay_line(&gold, &gate, cycle, &answer.trace));
@@ -392,21 +393,21 @@ fn under(rng: &mut Rng, count: usize) -> Vec<String> {
         let length = rng.range(2, 4);
         let mut pair = if rng.one_in(4) { late_proof(rng, length) } else { random_pair(rng, size, 3) };
         pair.depth = pair.depth.min(4);
-        let (_, report) = prove(&pair.gold, &pair.gate, pair.depth, Wish::default());
+        let (_, report) = prove(&pair.gold, &pair.gate, pair.depth, false, Wish::default());
         let mut limits: Vec<usize> = report.queries.iter().filter(|query| query.learned > 0).flat_map(|query| [query.learned - 1, query.learned]).collect();
         limits.sort_unstable();
         limits.dedup();
         for limit in limits {
-            lines.push(format!("under {limit} {} {} {}", hex(&encode(&pair.gold)), hex(&encode(&pair.gate)), pair.depth));
+            lines.push(format!("under {limit} 0 {} {} {}", hex(&encode(&pair.gold)), hex(&encode(&pair.gate)), pair.depth));
         }
     }
     lines
 }
 
 /// The names of the families.
-pub const FAMILIES: [&str; 29] = [
+pub const FAMILIES: [&str; 30] = [
     "cases", "pairs", "small", "rewritten", "deep", "late", "hard", "rescale", "giveup", "limits", "buffers", "refusals", "sides", "replays", "refused-replays", "reads",
-    "listed", "cuts", "changes", "long", "names", "wire-bytes", "under", "limited", "solve", "dense", "rows", "feedback", "sums",
+    "listed", "cuts", "changes", "long", "names", "wire-bytes", "under", "limited", "earliest", "solve", "dense", "rows", "feedback", "sums",
 ];
 
 /// The lines of a family, without answers.
@@ -437,6 +438,7 @@ pub fn generate(family: &str, count: usize, seed: u64) -> Vec<String> {
         "wire-bytes" => reads::wire_bytes(),
         "under" => under(rng, count),
         "limited" => limited::limited(rng, count),
+        "earliest" => earliest::earliest(rng, count),
         "dense" => dense_pairs(rng, count),
         "rows" => shift_rows(rng),
         "feedback" => feedback(),

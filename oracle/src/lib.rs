@@ -6,6 +6,7 @@ pub mod asserts;
 pub mod bridge;
 pub mod check;
 pub mod dense;
+pub mod earliest;
 pub mod exhaustive;
 pub mod families;
 pub mod limited;

@@ -30,7 +30,7 @@ pub fn limits_about(rng: &mut Rng, queries: &[Query]) -> Vec<usize> {
 }
 
 /// The buffers that a check of the design to a depth needs.
-fn enough(gold: &Design, depth: u64) -> Lent {
+pub fn enough(gold: &Design, depth: u64) -> Lent {
     Lent { trace: trace_need(gold, depth.min(64)), words: WORDS, scores: SCORES }
 }
 
@@ -40,7 +40,7 @@ fn line(gold: &Design, gate: &Design, depth: u64, limit: u64) -> String {
 }
 
 /// A toggle with reset 0.
-fn toggle(name: &str) -> Design {
+pub fn toggle(name: &str) -> Design {
     shapes::toggle(name, sync(1, false))
 }
 
@@ -69,7 +69,7 @@ fn named() -> Vec<String> {
     let (xor, by_gates) = (shapes::exclusive_or(false), shapes::exclusive_or(true));
     let row = shapes::row(&["p", "q"]);
     let product = product_pair(4, 4, 8, true);
-    let (_, report) = prove(&product.gold, &product.gate, 1, Wish::default());
+    let (_, report) = prove(&product.gold, &product.gate, 1, false, Wish::default());
     let most = report.queries.iter().map(|query| query.learned as u64).max().expect("a query");
     let (stored, swapped) = (stored_product(false), stored_product(true));
     let groups: [(&str, Design, Design, u64, &[u64]); 10] = [
@@ -148,7 +148,7 @@ fn class(answer: &CheckAnswer) -> (u8, usize, usize, bool) {
 }
 
 /// A small pair whose queries may learn something.
-fn learning_pair(rng: &mut Rng) -> Pair {
+pub fn learning_pair(rng: &mut Rng) -> Pair {
     let length = rng.range(2, 8);
     match rng.below(12) {
         0 => late_proof(rng, length),
@@ -163,7 +163,7 @@ fn by_class(rng: &mut Rng, quota: usize) -> Vec<String> {
     let mut lines = vec!["# give-ups in each query, at depth 1, 2 and deeper, the most learned there or elsewhere; and limits that are just enough".into()];
     for _ in 0..2_000 {
         let pair = learning_pair(rng);
-        let under = |limit: usize| prove(&pair.gold, &pair.gate, pair.depth, Wish { limit, ..Wish::default() });
+        let under = |limit: usize| prove(&pair.gold, &pair.gate, pair.depth, false, Wish { limit, ..Wish::default() });
         let (_, report) = under(LEARNED_LIMIT);
         let mut limits = limits_about(rng, &report.queries);
         rng.shuffle(&mut limits);

@@ -58,8 +58,10 @@ fn assert(count: usize, seed: u64) -> ExitCode {
     let [equivalent, different, inconclusive, gave_up] = summary.statuses;
     println!("{} pairs: {equivalent} Equivalent, {different} NotEquivalent, {inconclusive} Inconclusive, {gave_up} GaveUp", summary.pairs);
     println!("{} traces replayed, {} designs against themselves, {} swaps", summary.replays, summary.selves, summary.swaps);
-    println!("{} tiny pairs searched exhaustively; questions 1 to 4, no and yes: {:?}", summary.tiny, summary.questions);
-    println!("{} checks under limits; give-ups in queries 1 to 4, at depth 1 and deeper: {:?}; {} proved cycles searched exhaustively", summary.limited, summary.given_up, summary.searched);
+    println!("{} tiny pairs searched exhaustively, each in both modes; questions 0 to 4, no and yes: {:?}", summary.tiny / 2, summary.questions);
+    println!("{} checks under limits; give-ups in queries 0 to 4, at depth 1 and deeper: {:?}; {} proved cycles searched exhaustively", summary.limited, summary.given_up, summary.searched);
+    println!("earliest cycle: {} pairs differ in cycle 0, {} of them in cycle 1 without the mode; query 0 learned most in {} others", summary.at_once, summary.earlier, summary.first_most);
+    println!("least cycles searched exhaustively: {} by states, {} by input sequences", summary.least, summary.sequences);
     println!("deepest {}, most learned {}, {} failures", summary.deepest, summary.most_learned, summary.failures.len());
     ExitCode::from(u8::from(!summary.failures.is_empty()))
 }

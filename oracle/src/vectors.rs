@@ -34,9 +34,14 @@ pub fn replay_line(gold: &[u8], gate: &[u8], cycle: u64, claim: &[u8]) -> String
     format!("replay {} {} {cycle} {}", hex(gold), hex(gate), hex(claim))
 }
 
+/// The left side of a check under a limit of learned literals, in the mode of the earliest cycle or without it.
+pub fn mode_line(gold: &[u8], gate: &[u8], depth: u64, limit: u64, earliest: bool, lent: Lent) -> String {
+    format!("check {} {} {depth} {limit} {} {} {} {}", hex(gold), hex(gate), u8::from(earliest), lent.trace, lent.words, lent.scores)
+}
+
 /// The left side of a check under a limit of learned literals.
 pub fn limited_line(gold: &[u8], gate: &[u8], depth: u64, limit: u64, lent: Lent) -> String {
-    format!("check {} {} {depth} {limit} {} {} {}", hex(gold), hex(gate), lent.trace, lent.words, lent.scores)
+    mode_line(gold, gate, depth, limit, false, lent)
 }
 
 /// The left side of a check under the largest limit.
@@ -51,15 +56,16 @@ pub struct CheckCall {
     pub gate: Vec<u8>,
     pub depth: u64,
     pub limit: u64,
+    pub earliest: bool,
     pub lent: Lent,
 }
 
 /// The call of a check line's left side; none for another line.
 pub fn check_call(left: &str) -> Option<CheckCall> {
     let words: Vec<&str> = left.split(' ').collect();
-    let ["check", gold, gate, depth, limit, trace, work, scores] = words[..] else { return None };
+    let ["check", gold, gate, depth, limit, earliest, trace, work, scores] = words[..] else { return None };
     let lent = Lent { trace: number(trace), words: number(work), scores: number(scores) };
-    Some(CheckCall { gold: unhex(gold), gate: unhex(gate), depth: number(depth), limit: number(limit), lent })
+    Some(CheckCall { gold: unhex(gold), gate: unhex(gate), depth: number(depth), limit: number(limit), earliest: zero_or_one(earliest), lent })
 }
 
 /// Number, side and place.
@@ -83,11 +89,20 @@ pub fn check_words(answer: &CheckAnswer) -> String {
 }
 
 /// The right side of a check with memory enough: the check's words, then each query's depth, number and total.
-fn under_words(limit: u64, gold: &[u8], gate: &[u8], depth: u64) -> String {
+fn under_words(limit: u64, earliest: bool, gold: &[u8], gate: &[u8], depth: u64) -> String {
     let lent = Lent { trace: 65_536, words: WORDS, scores: SCORES };
-    let (answer, report) = check_reporting(gold, gate, depth, limit, lent, Wish::default());
+    let (answer, report) = check_reporting(gold, gate, depth, limit, earliest, lent, Wish::default());
     let asked: Vec<String> = report.queries.iter().map(|query| format!("{}.{}.{}", query.depth, query.number, query.learned)).collect();
     format!("{} {}", check_words(&answer), if asked.is_empty() { "-".into() } else { asked.join(",") })
+}
+
+/// A word that is 0 or 1.
+fn zero_or_one(word: &str) -> bool {
+    match word {
+        "0" => false,
+        "1" => true,
+        _ => panic!("neither 0 nor 1: {word}"),
+    }
 }
 
 /// A decimal number.
@@ -103,9 +118,9 @@ pub fn answer(left: &str) -> String {
         ["replay", gold, gate, cycle, claim] => replay_words(replay(&unhex(gold), &unhex(gate), number(cycle), &unhex(claim))),
         ["check", ..] => {
             let call = check_call(left).unwrap_or_else(|| panic!("no check: {left}"));
-            check_words(&check(&call.gold, &call.gate, call.depth, call.limit, call.lent))
+            check_words(&check(&call.gold, &call.gate, call.depth, call.limit, call.earliest, call.lent))
         }
-        ["under", limit, gold, gate, depth] => under_words(number(limit), &unhex(gold), &unhex(gate), number(depth)),
+        ["under", limit, earliest, gold, gate, depth] => under_words(number(limit), zero_or_one(earliest), &unhex(gold), &unhex(gate), number(depth)),
         ["solve", limit, nodes, assumptions] => solving::answer(number(limit), nodes, assumptions),
         _ => panic!("no call: {left}"),
     }
@@ -133,5 +148,5 @@ pub fn answered(line: &str) -> String {
 /// What the search of a check line reported; none for another line.
 pub fn report(left: &str, wish: Wish) -> Option<Report> {
     let call = check_call(left)?;
-    Some(check_reporting(&call.gold, &call.gate, call.depth, call.limit, call.lent, wish).1)
+    Some(check_reporting(&call.gold, &call.gate, call.depth, call.limit, call.earliest, call.lent, wish).1)
 }

@@ -6,7 +6,7 @@ use oracle::vectors::{answer, hex, split};
 
 /// A check of two designs under a limit.
 fn under(limit: usize, gold: &Design, gate: &Design, depth: usize) -> String {
-    answer(&format!("under {limit} {} {} {depth}", hex(&encode(gold)), hex(&encode(gate))))
+    answer(&format!("under {limit} 0 {} {} {depth}", hex(&encode(gold)), hex(&encode(gate))))
 }
 
 /// The toggle with its register named so.

@@ -14,7 +14,7 @@ const LENT: Lent = Lent { trace: 8_192, words: WORDS, scores: SCORES };
 
 /// A check of two designs under a limit, with memory enough.
 fn under(limit: u64, gold: &Design, gate: &Design, depth: u64) -> CheckAnswer {
-    check(&encode(gold), &encode(gate), depth, limit, LENT)
+    check(&encode(gold), &encode(gate), depth, limit, false, LENT)
 }
 
 /// The toggle with its register named so.
@@ -34,7 +34,7 @@ fn limited() -> Vec<(Design, Design, usize, usize, CheckAnswer, Report)> {
     let lines = generate("limited", 300, 17);
     let calls = lines.iter().filter_map(|line| check_call(split(line)?.0));
     let answered = calls.map(|call| {
-        let (answer, report) = check_reporting(&call.gold, &call.gate, call.depth, call.limit, call.lent, Wish::default());
+        let (answer, report) = check_reporting(&call.gold, &call.gate, call.depth, call.limit, call.earliest, call.lent, Wish::default());
         (call, answer, report)
     });
     let accepted = answered.filter(|(_, answer, _)| answer.refusal.is_none());
@@ -85,7 +85,7 @@ fn each_query_has_the_whole_limit() {
     assert_eq!(under(16, &gold, &gate, 1).status, EQUIVALENT);
     assert_eq!(under(15, &gold, &gate, 1).status, GAVE_UP);
     let pair = product_pair(4, 4, 8, true);
-    let (_, report) = prove(&pair.gold, &pair.gate, 1, Wish::default());
+    let (_, report) = prove(&pair.gold, &pair.gate, 1, false, Wish::default());
     let totals: Vec<usize> = report.queries.iter().map(|query| query.learned).collect();
     let most = *totals.iter().max().expect("a query");
     assert!(totals.iter().sum::<usize>() > most);
@@ -108,9 +108,9 @@ fn refused() {
         assert_eq!(number(&under(limit, &gold, &shapes::wire(), 1)), 36);
         assert_eq!(number(&under(limit, &shapes::toggle("q", None), &gate, 1)), 36);
         let short = Lent { trace: 0, words: 0, scores: 0 };
-        assert_eq!(number(&check(&encode(&gold), &encode(&gate), 1, limit, short)), 36);
-        assert_eq!(number(&check(&[], &encode(&gate), 65, limit, short)), 1);
-        let gate_cut = check(&encode(&gold), &[], 0, limit, short);
+        assert_eq!(number(&check(&encode(&gold), &encode(&gate), 1, limit, false, short)), 36);
+        assert_eq!(number(&check(&[], &encode(&gate), 65, limit, false, short)), 1);
+        let gate_cut = check(&encode(&gold), &[], 0, limit, false, short);
         assert_eq!(gate_cut.refusal.map(|refusal| (refusal.number, refusal.side)), Some((1, 1)));
     }
 }
@@ -120,7 +120,7 @@ fn refused() {
 fn no_run_differs_through_the_cycle() {
     let mut searched = 0;
     for (gold, gate, depth, limit, answer, report) in limited() {
-        assert!(told_by_rule(&answer, &report.queries, limit));
+        assert!(told_by_rule(&answer, &report.queries, limit, false));
         if answer.equal && gold.registers.len() + gate.registers.len() + gold.input_names().len() <= 11 {
             assert!(first_difference(&gold, &gate, depth).is_none_or(|cycle| cycle > answer.through));
             searched += 1;
@@ -136,7 +136,7 @@ fn a_larger_limit_goes_on() {
     for (gold, gate, depth, limit, answer, _) in limited() {
         let mut less = answer;
         for limit in [limit + 1, limit + 2, 2 * limit + 5, LEARNED_LIMIT - 1, LEARNED_LIMIT].into_iter().filter(|more| *more <= LEARNED_LIMIT) {
-            let (more, _) = prove(&gold, &gate, depth, Wish { limit, ..Wish::default() });
+            let (more, _) = prove(&gold, &gate, depth, false, Wish { limit, ..Wish::default() });
             assert!(goes_on(&less, &more), "{less:?} {more:?}");
             statuses[usize::from(more.status)] += usize::from(less.status == GAVE_UP);
             less = more;
@@ -155,10 +155,10 @@ fn asked(depth: usize, number: usize, learned: usize, next: usize, ending: Endin
 fn the_laws_can_fail() {
     let queries = [asked(1, 1, 3, 0, Ending::NoModel), asked(1, 2, 4, 2, Ending::GaveUp)];
     let right = CheckAnswer { status: GAVE_UP, depth: 1, query: 2, learned: 4, learned_depth: 1, learned_query: 2, equal: true, through: 1, ..CheckAnswer::default() };
-    assert!(told_by_rule(&right, &queries, 5) && !told_by_rule(&right, &queries, 6) && !told_by_rule(&right, &queries, 3));
-    assert!(!told_by_rule(&CheckAnswer { through: 0, ..right.clone() }, &queries, 5));
-    assert!(!told_by_rule(&CheckAnswer { equal: false, through: 0, ..right.clone() }, &queries, 5));
-    assert!(!told_by_rule(&CheckAnswer { equal: false, ..right.clone() }, &queries, 5));
+    assert!(told_by_rule(&right, &queries, 5, false) && !told_by_rule(&right, &queries, 6, false) && !told_by_rule(&right, &queries, 3, false));
+    assert!(!told_by_rule(&CheckAnswer { through: 0, ..right.clone() }, &queries, 5, false));
+    assert!(!told_by_rule(&CheckAnswer { equal: false, through: 0, ..right.clone() }, &queries, 5, false));
+    assert!(!told_by_rule(&CheckAnswer { equal: false, ..right.clone() }, &queries, 5, false));
     assert!(goes_on(&right, &right));
     assert!(!goes_on(&right, &CheckAnswer { query: 1, equal: false, through: 0, ..right.clone() }));
     assert!(!goes_on(&right, &CheckAnswer { learned: 3, ..right.clone() }));

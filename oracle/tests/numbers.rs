@@ -8,7 +8,7 @@ use oracle::shapes::{self, Feedback};
 use oracle::vectors::{answer, answered, hex, split};
 
 fn proved(pair: &Pair) -> (CheckAnswer, Report) {
-    prove(&pair.gold, &pair.gate, pair.depth, Wish::default())
+    prove(&pair.gold, &pair.gate, pair.depth, false, Wish::default())
 }
 
 fn pair(gold: oracle::record::Design, gate: oracle::record::Design, depth: usize) -> Pair {
@@ -62,7 +62,7 @@ fn products() {
 #[test]
 fn learned_clauses() {
     let pair = product_pair(6, 6, 7, false);
-    let (_, report) = prove(&pair.gold, &pair.gate, 1, Wish { clauses: true, ..Wish::default() });
+    let (_, report) = prove(&pair.gold, &pair.gate, 1, false, Wish { clauses: true, ..Wish::default() });
     let counts: Vec<(usize, usize)> = report.queries.iter().map(|query| (query.unwatched, query.repeated)).collect();
     assert_eq!(counts, [(5_593, 295), (0, 0), (2_751, 153)]);
 }
@@ -82,7 +82,7 @@ fn limit() {
     let pair = product_pair(4, 4, 8, true);
     let (free, report) = proved(&pair);
     let most = report.queries.iter().map(|query| query.learned).max().expect("a query");
-    let under = |limit| prove(&pair.gold, &pair.gate, 1, Wish { limit, ..Wish::default() }).0;
+    let under = |limit| prove(&pair.gold, &pair.gate, 1, false, Wish { limit, ..Wish::default() }).0;
     assert_eq!(under(most), free);
     assert_eq!(under(most - 1).status, GAVE_UP);
     assert_eq!(under(0).status, GAVE_UP);
@@ -126,9 +126,9 @@ fn rows() {
 fn self_check() {
     let bytes = encode(&product_pair(7, 7, 14, true).gold);
     let lent = Lent { trace: 1_000, words: WORDS, scores: SCORES };
-    let answer = check(&bytes, &bytes, 64, 0, lent);
+    let answer = check(&bytes, &bytes, 64, 0, false, lent);
     assert_eq!(answer.refusal.map(|refusal| refusal.number), Some(23));
-    let answer = check(&bytes, &bytes, 8, 0, lent);
+    let answer = check(&bytes, &bytes, 8, 0, false, lent);
     assert_eq!((answer.refusal, answer.status, answer.depth, answer.learned, answer.learned_depth, answer.learned_query), (None, EQUIVALENT, 1, 0, 1, 1));
 }
 

@@ -20,9 +20,10 @@ def read(record: bytes) -> ReadAnswer:
     return open_library().read(record)
 
 
-def check(gold: bytes, gate: bytes, depth: int = 8, limit: int = LEARNED_LIMIT) -> CheckAnswer:
-    """Checks whether two designs can ever differ, by k-induction for depths 1 to `depth`, in which each query may learn clauses of `limit` literals together."""
-    return open_library().check(gold, gate, depth, limit)
+def check(gold: bytes, gate: bytes, depth: int = 8, limit: int = LEARNED_LIMIT, earliest: bool = False) -> CheckAnswer:
+    """Checks whether two designs can ever differ, by k-induction for depths 1 to `depth`, in which each query may learn clauses of `limit` literals together;
+    with `earliest` a mismatch is the earliest cycle that any input sequence can show."""
+    return open_library().check(gold, gate, depth, limit, earliest)
 
 
 def replay(gold: bytes, gate: bytes, cycle: int, claim: bytes) -> ReplayAnswer:

@@ -94,8 +94,9 @@ class StepAnswer:
 
 @dataclass(frozen=True)
 class CheckAnswer:
-    """What a check answers. `learned` is the largest total of learned literals over the queries asked, `learned_depth` and `learned_query` depth and number of the
-    first of them that has it. `equal` and `through` say of a GaveUp that the outputs are proved equal in the cycles 0 to `through`; `equal` is false, and `through`
+    """What a check answers. `query` is the number of the query that gave up, of a GaveUp; in the mode of the earliest cycle that may be 0, which is also what
+    stands there for every other status. `learned` is the largest total of learned literals over the queries asked, `learned_depth` and `learned_query` depth and
+    number of the first of them that has it. `equal` and `through` say of a GaveUp that the outputs are proved equal in the cycles 0 to `through`; `equal` is false, and `through`
     0, where no cycle is, and for every other status. `trace` holds the bytes that were written for NotEquivalent, a claim that a replay takes."""
 
     refusal: Optional[Refusal]

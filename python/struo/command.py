@@ -47,22 +47,22 @@ def difference_of(library: Library, report: CheckReport) -> Optional[Difference]
     return None if claim is None else replayed(library, report.gold.record, report.gate.record, claim)
 
 
-def checked(library: Library, gold: RecordFile, gate: RecordFile, depth: int, limit: int, hunting: bool) -> CheckReport:
+def checked(library: Library, gold: RecordFile, gate: RecordFile, depth: int, limit: int, earliest: bool, hunting: bool) -> CheckReport:
     """A check, with a hunt where it is asked for and a verdict is missing, and the trace of a difference in names."""
     with CheckProgress(f"checking to depth {depth}"):
-        answer = library.check(gold.record, gate.record, depth, limit)
+        answer = library.check(gold.record, gate.record, depth, limit, earliest)
     found = None
     if hunting and answer.status in (Status.INCONCLUSIVE, Status.GAVE_UP):
         with CheckProgress("hunting for a difference"):
-            found = hunt(library, gold.record, gate.record, answer, depth, limit)
-    report = CheckReport(library, gold, gate, depth, limit, answer, found, None)
+            found = hunt(library, gold.record, gate.record, answer, depth, limit, earliest)
+    report = CheckReport(library, gold, gate, depth, limit, earliest, answer, found, None)
     return replace(report, difference=difference_of(library, report))
 
 
 def check_command(options: argparse.Namespace) -> Exit:
     """`check GOLD GATE`."""
     gold, gate = load_record(options.gold), load_record(options.gate)
-    report = checked(open_library(), gold, gate, options.depth, options.limit, options.hunt)
+    report = checked(open_library(), gold, gate, options.depth, options.limit, options.earliest, options.hunt)
     files = [(options.sheet, report.sheet(), True)]
     difference = report.difference
     if difference is not None:

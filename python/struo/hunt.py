@@ -33,14 +33,14 @@ def _free_prefix(taken: Set[bytes]) -> bytes:
     return next(pair for pair in pairs if not any(name.startswith(pair) for name in taken))
 
 
-def hunt(library: Library, gold: bytes, gate: bytes, answer: CheckAnswer, depth: int, limit: int = LEARNED_LIMIT) -> Optional[Hunt]:
-    """Asks again where a verdict is missing, under the same limit. Inconclusive says that there is no difference up to the asked depth, so the hunt then goes as
-    deep as fits."""
+def hunt(library: Library, gold: bytes, gate: bytes, answer: CheckAnswer, depth: int, limit: int = LEARNED_LIMIT, earliest: bool = False) -> Optional[Hunt]:
+    """Asks again where a verdict is missing, under the same limit and in the same mode. Inconclusive says that there is no difference up to the asked depth, so
+    the hunt then goes as deep as fits."""
     if answer.status not in (Status.INCONCLUSIVE, Status.GAVE_UP):
         return None
     designs = decode(gold), decode(gate)
     if answer.status is Status.INCONCLUSIVE:
         depth = largest_depth(*designs)
-    found = library.check(gold, encode(renamed(*designs)), depth, limit)
+    found = library.check(gold, encode(renamed(*designs)), depth, limit, earliest)
     confirmed = found.status is Status.NOT_EQUIVALENT and library.replay(gold, gate, found.mismatch, found.trace).yes
     return Hunt(depth, found, confirmed)

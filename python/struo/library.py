@@ -61,8 +61,9 @@ class _Lent:
         return Position(self.position.cycle, self.position.agreed, bytes(self.bits))
 
 
-# A number of 64 bits; what has its length beside it: bytes that a call reads, and memory that it writes.
+# A number of 64 bits; a truth value; what has its length beside it: bytes that a call reads, and memory that it writes.
 _NUMBER = ctypes.c_uint64
+_TRUTH = ctypes.c_bool
 _BYTES = ctypes.c_char_p
 _LENT_BYTES, _LENT_WORDS, _LENT_SCORES = (ctypes.POINTER(element) for element in (ctypes.c_uint8, ctypes.c_uint32, ctypes.c_double))
 _LENT_POSITION = ctypes.POINTER(_Position)
@@ -79,7 +80,8 @@ CALLS = {
     ),
     "struo_check": (
         _Check,
-        {"gold": _BYTES, "gate": _BYTES, "depth": _NUMBER, "limit": _NUMBER, "trace": _LENT_BYTES, "words": _LENT_WORDS, "scores": _LENT_SCORES},
+        {"gold": _BYTES, "gate": _BYTES, "depth": _NUMBER, "limit": _NUMBER, "earliest": _TRUTH, "trace": _LENT_BYTES, "words": _LENT_WORDS,
+         "scores": _LENT_SCORES},
     ),
 }
 
@@ -153,12 +155,13 @@ class Library:
         answer = self._ask("struo_step", gold=gold, gate=gate, cycle=_number(cycle), claim=claim, position=lent.position, bits=lent.bits)
         return StepAnswer(_refusal(answer), bool(answer.yes), lent.after())
 
-    def check(self, gold: bytes, gate: bytes, depth: int, limit: int = LEARNED_LIMIT, memory: Optional[Memory] = None) -> CheckAnswer:
-        """Checks a pair to a maximum depth, under a limit of learned literals for each query: a refusal of 1 to 24 or 36, or a verdict."""
+    def check(self, gold: bytes, gate: bytes, depth: int, limit: int = LEARNED_LIMIT, earliest: bool = False, memory: Optional[Memory] = None) -> CheckAnswer:
+        """Checks a pair to a maximum depth, under a limit of learned literals for each query, in the mode of the earliest cycle or without it: a refusal of 1 to
+        24 or 36, or a verdict."""
         if memory is None:
             memory = self._memory = self._memory or Memory()
         memory.unwrite()
-        asked = {"depth": _number(depth), "limit": _number(limit)}
+        asked = {"depth": _number(depth), "limit": _number(limit), "earliest": _truth(earliest)}
         answer = self._ask("struo_check", gold=gold, gate=gate, **asked, trace=memory.trace, words=memory.words, scores=memory.scores)
         status = None if answer.number else Status(answer.status)
         trace = memory.written() if status is Status.NOT_EQUIVALENT else b""
@@ -171,6 +174,13 @@ def _number(number: int) -> int:
     if number < 0:
         raise ValueError("a depth, a limit or a cycle is not negative")
     return min(number, LARGEST)
+
+
+def _truth(value: bool) -> bool:
+    """A truth value as the boundary takes it; nothing else is taken for one."""
+    if not isinstance(value, bool):
+        raise TypeError("earliest is True or False")
+    return value
 
 
 @lru_cache(maxsize=None)

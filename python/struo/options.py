@@ -56,6 +56,8 @@ def parser() -> Parser:
                        help=f"the maximum depth of the induction, 1 to 64 (default {DEFAULT_DEPTH})")
     check.add_argument("--limit", type=number, default=LEARNED_LIMIT, metavar="N",
                        help=f"how many literals one query may learn before the check gives up, 0 to {LEARNED_LIMIT} (the default)")
+    check.add_argument("--earliest", action="store_true",
+                       help="ask of cycle 0 alone first, so that a difference is told in the earliest cycle that any input sequence can show")
     check.add_argument("--hunt", action="store_true", help="after GaveUp or Inconclusive, look for a difference alone")
     check.add_argument("--claim", metavar="FILE", help="where they differ: the trace, as replay takes it")
     check.add_argument("--vcd", metavar="FILE", help="where they differ: the trace on both sides as a waveform")

@@ -87,7 +87,9 @@ def proved_words(answer: CheckAnswer) -> str:
     """How far a check that gave up has proved the outputs equal: `proved equal in cycles 0 to 5`."""
     if answer.status is not Status.GAVE_UP:
         return "no query was asked" if answer.status is None else "no query gave up"
-    return f"proved equal in cycles 0 to {answer.through}" if answer.equal else "proved equal in no cycle"
+    if not answer.equal:
+        return "proved equal in no cycle"
+    return f"proved equal in cycles 0 to {answer.through}" if answer.through else "proved equal in cycle 0"
 
 
 def proved_json(answer: CheckAnswer) -> Dict[str, Any]:
@@ -105,6 +107,7 @@ class CheckReport:
     gate: RecordFile
     depth: int
     limit: int
+    earliest: bool
     answer: CheckAnswer
     hunt: Optional[Hunt]
     difference: Optional[Difference]
@@ -146,19 +149,38 @@ class CheckReport:
         if self.status is Status.EQUIVALENT:
             return f"the outputs agree in every cycle of every input sequence (proved at depth {self.answer.depth} of {self.depth})"
         if self.difference is not None:
-            return f"in cycle {self.difference.claim.cycle} {outputs_words(self.difference.marked)} ({self.how()})"
+            earliest = ", and that is the earliest cycle that any input sequence can show" if self.is_earliest else ""
+            return f"in cycle {self.difference.claim.cycle} {outputs_words(self.difference.marked)}{earliest} ({self.how()})"
         alike = named_alike(decode(self.gold.record), decode(self.gate.record)).words
         if self.status is Status.INCONCLUSIVE:
             return f"no pass: neither a difference nor a proof up to depth {self.depth}; {alike}"
+        alone, nothing = (", cycle 0 alone,", "nothing is proved: ") if self.answer.query == 0 else ("", "")
         beyond = ", and nothing is proved of later ones" if self.answer.equal else ""
-        return (f"no pass: query {self.answer.query} at depth {self.answer.depth} reached the limit of {counted(self.limit, 'learned literal')}; "
-                f"the outputs are {proved_words(self.answer)}{beyond}; {alike}")
+        return (f"no pass: query {self.answer.query} at depth {self.answer.depth}{alone} reached the limit of {counted(self.limit, 'learned literal')}; "
+                f"{nothing}the outputs are {proved_words(self.answer)}{beyond}; {alike}")
+
+    def proves_earliest(self, answer: CheckAnswer) -> bool:
+        """Whether the library's NotEquivalent says of the records that it was asked about that no input sequence shows an earlier cycle: in the mode of the earliest
+        cycle, and from depth 2 on."""
+        return self.earliest or answer.depth > 1
+
+    @property
+    def is_earliest(self) -> bool:
+        """Whether that is proved of the two records as they are: of a hunt's difference, where the check before the hunt proved every earlier cycle."""
+        if not self.hunted:
+            return self.proves_earliest(self.answer)
+        inconclusive = self.answer.status is Status.INCONCLUSIVE
+        proved = self.depth if inconclusive else self.answer.through
+        return (inconclusive or self.answer.equal) and self.deciding.mismatch == proved + 1
 
     def how(self) -> str:
         """How a difference was found."""
         if not self.hunted or self.answer.status is None:
             return f"found at depth {self.answer.depth} of {self.depth}"
-        return f"found by a hunt after {self.answer.status.word} at depth {self.answer.depth}, and confirmed by a replay of the two records as they are"
+        of_renamed = self.proves_earliest(self.deciding) and not self.is_earliest
+        renamed = "; that no input sequence shows an earlier cycle is proved with gate's registers renamed" if of_renamed else ""
+        return (f"found by a hunt after {self.answer.status.word} at depth {self.answer.depth}, and confirmed by a replay of the two records as they are"
+                f"{renamed}")
 
     def line(self) -> str:
         """The answer, one line."""
@@ -191,7 +213,10 @@ class CheckReport:
             lines.append(f"- a larger limit, up to --limit {LEARNED_LIMIT}: it never gets less far")
         if alike.count < min(alike.gold, alike.gate):
             lines.append("- register names kept by the tools, so that more registers are named alike")
-        if self.hunt is None and self.answer.query != 1:
+        before_proof = self.answer.status is Status.GAVE_UP and self.answer.query <= 1
+        if before_proof and self.answer.query == 0:
+            lines.append("- the same without --earliest, which leaves query 0 out and asks of cycles 0 and 1 together")
+        if self.hunt is None and not before_proof:
             lines.append("- --hunt, which looks for a difference alone")
         return lines + ["- splitting: records with fewer outputs each, and only the logic that these need"] + self.hunt_lines()
 
@@ -221,8 +246,9 @@ class CheckReport:
         first = self.answer.status
         told: Dict[str, Any] = {
             "exit_status": int(self.exit), "words": self.detail(), "refusal": refusal_json(self.answer.refusal, self.question),
-            "asked_depth": self.depth, "limit": self.limit, "depth": self.deciding.depth, "mismatch": self.deciding.mismatch if self.claim else None,
-            "query": self.answer.query or None, **learned_json(self.answer), **proved_json(self.answer),
+            "asked_depth": self.depth, "limit": self.limit, "earliest": self.earliest, "depth": self.deciding.depth,
+            "mismatch": self.deciding.mismatch if self.claim else None,
+            "query": self.answer.query if first is Status.GAVE_UP else None, **learned_json(self.answer), **proved_json(self.answer),
             "gold": side_json(self.gold, accepted), "gate": side_json(self.gate, accepted),
             "found_by": None if self.claim is None else "hunt" if self.hunted else "check",
             "first_status": None if first is None else int(first), "hunt": self.hunt_json(), "trace": self.trace_json(),
@@ -250,6 +276,7 @@ class CheckReport:
             columns += [f"{side} {shown(file.path)}", f"{side} SHA-256 {file.sha256 or 'none, the file is longer than a record'}"]
         columns += [f"struo {VERSION}", f"record version {RECORD_VERSION}", f"library SHA-256 {made['library_sha256']}"]
         columns += [learned_words(self.answer, self.limit), f"limit {self.limit:,}", proved_words(self.answer)]
+        columns += [f"earliest cycle {'asked for' if self.earliest else 'not asked for'}"]
         return "\t".join(columns) + "\n"
 
 

@@ -40,6 +40,13 @@ def wire() -> Design:
     return builder.design
 
 
+def grounded() -> Design:
+    """y = 0, beside an input a."""
+    builder = Builder("a")
+    builder.output("y", builder.node(Kind.CONSTANT))
+    return builder.design
+
+
 def inverter() -> Design:
     """y = not a."""
     builder = Builder("a")

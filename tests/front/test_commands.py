@@ -26,7 +26,8 @@ class Check(Case):
 
     def test_a_difference_is_told_with_names(self):
         ended = self.check(designs.row("p", "q"), designs.holding(), "--depth", "2")
-        self.assertEqual(ended.out, "NOT EQUIVALENT: in cycle 2 output y differs (found at depth 2 of 2)\n")
+        self.assertEqual(ended.out, "NOT EQUIVALENT: in cycle 2 output y differs, and that is the earliest cycle that any input sequence can show "
+                                    "(found at depth 2 of 2)\n")
         self.assertEqual(ended.status, 1)
         self.assertEqual(len(re.findall(r"(?m)^cycle \d: clk=[01] e=[01] rst=[01]$", ended.err)), 3)
         self.assertIn("cycle 2: output y is 1 in gold and 0 in gate\n", ended.err)
@@ -165,7 +166,8 @@ class Others(Case):
     def test_the_outputs_of_the_readme(self):
         text = (ROOT / "README.md").read_text()
         buffers = ("command_buffer_gold", "command_buffer_gate")
-        for pair, words in ((buffers, []), (("wire", "inverter"), []), (buffers, ["--limit", "100"])):
+        for pair, words in ((buffers, []), (("wire", "inverter"), []), (buffers, ["--limit", "100"]),
+                            (("wire", "grounded"), []), (("wire", "grounded"), ["--earliest"])):
             ended = inside("check", *(str(EXAMPLES / f"{name}.struo") for name in pair), "--depth", "8", *words)
             block = "".join(f"    {line}\n" for line in (ended.out + ended.err).splitlines())
             self.assertIn(f"\n\n{block}\n", text)

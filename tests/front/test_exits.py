@@ -36,6 +36,7 @@ class Statuses(Case):
     def test_wrong_usage(self):
         for words in ([], ["chek"], ["check"], ["check", WIRE], ["check", WIRE, WIRE, "--depth", "x"], ["check", WIRE, WIRE, "--depth", "-1"],
                       ["check", WIRE, WIRE, "--limit", "x"], ["check", WIRE, WIRE, "--limit", "-1"], ["check", WIRE, WIRE, "--limit"],
+                      ["check", WIRE, WIRE, "--earliest=yes"], ["check", WIRE, WIRE, "--early"], ["read", WIRE, "--earliest"],
                       ["check", WIRE, WIRE, "--dep", "1"], ["read"], ["replay", WIRE, WIRE], ["convert", "a", "b", "--x", "2"], ["check", WIRE, WIRE, WIRE]):
             ended = inside(*words)
             self.assertEqual((ended.status, ended.out), (64, ""), words)

@@ -23,8 +23,8 @@ class Hunts(Case):
     def test_a_difference_behind_a_give_up(self):
         pair, claim = self.hard(True), self.path("claim")
         ended = inside("check", *pair, "--depth", "4", "--hunt", "--claim", claim)
-        self.assertEqual(ended.out, "NOT EQUIVALENT: in cycle 2 output y differs (found by a hunt after GaveUp at depth 1, and confirmed by a replay "
-                                    "of the two records as they are)\n")
+        self.assertEqual(ended.out, "NOT EQUIVALENT: in cycle 2 output y differs, and that is the earliest cycle that any input sequence can show (found by a "
+                                    "hunt after GaveUp at depth 1, and confirmed by a replay of the two records as they are)\n")
         self.assertEqual(ended.status, 1)
         self.assertEqual(inside("replay", *pair, "--claim", claim).status, 0)
         told = json.loads(inside("check", *pair, "--depth", "4", "--hunt", "--json").out)
@@ -57,7 +57,16 @@ class Hunts(Case):
         pair = self.file("gold", designs.row("p", "q")), self.file("gate", designs.holding())
         ended = inside("check", *pair, "--depth", "1", "--hunt")
         self.assertEqual(ended.status, 1)
-        self.assertIn("found by a hunt after Inconclusive at depth 1", ended.out)
+        self.assertIn("in cycle 2 output y differs, and that is the earliest cycle that any input sequence can show (found by a hunt after Inconclusive at depth 1",
+                      ended.out)
+
+    def test_what_is_proved_of_the_renamed_record_is_told_so(self):
+        pair = self.file("gold", designs.row("p", "q", "r")), self.file("gate", designs.holding())
+        for words in ([], ["--earliest"]):
+            ended = inside("check", *pair, "--depth", "1", "--hunt", *words)
+            self.assertEqual(ended.out, "NOT EQUIVALENT: in cycle 3 output y differs (found by a hunt after Inconclusive at depth 1, and confirmed by a replay of "
+                                        "the two records as they are; that no input sequence shows an earlier cycle is proved with gate's registers renamed)\n")
+        self.assertIn("in cycle 3 output y differs, and that is the earliest cycle", inside("check", *pair, "--depth", "2", "--hunt").out)
 
     def test_a_verdict_is_not_hunted(self):
         answer = open_library().check(encode(designs.wire()), encode(designs.wire()), 1)

@@ -23,7 +23,7 @@ def answered(learned: int, depth: int = 1, query: int = 1, status: Status = Stat
 def report(answer: CheckAnswer, limit: int = LEARNED_LIMIT) -> CheckReport:
     """A report of an answer under a limit, on a pair without registers."""
     file = RecordFile("file", encode(designs.wire()))
-    return CheckReport(None, file, file, 8, limit, answer, None, None)
+    return CheckReport(None, file, file, 8, limit, False, answer, None, None)
 
 
 def lines(answer: CheckAnswer, limit: int = LEARNED_LIMIT):

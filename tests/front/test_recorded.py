@@ -52,14 +52,15 @@ class Recorded(unittest.TestCase):
             self.same(answer.refusal, answered, question)
             self.assertEqual(answer.yes, answered[3] == "yes")
 
-    def test_every_fourth_check_and_all_of_other_limits(self):
-        count, refused, proved = 0, set(), set()
-        for place, ((gold, gate, depth, limit, trace, words, scores), answered) in enumerate(self.lines("check")):
-            if int(answered[7]) > QUICK or (place % 4 and int(limit) == LEARNED_LIMIT):
+    def test_every_fourth_check_and_all_of_other_limits_or_for_the_earliest_cycle(self):
+        count, refused, proved, met = 0, set(), set(), set()
+        for place, ((gold, gate, depth, limit, earliest, trace, words, scores), answered) in enumerate(self.lines("check")):
+            if int(answered[7]) > QUICK or (place % 4 and int(limit) == LEARNED_LIMIT and earliest == "0"):
                 continue
+            self.assertIn(earliest, ("0", "1"))
             lent = int(trace), int(words), int(scores)
             question = Question(data(gold), data(gate), int(depth), 0, b"", *lent, limit=int(limit))
-            answer = open_library().check(question.gold, data(gate), question.depth, question.limit, memory(*lent))
+            answer = open_library().check(question.gold, data(gate), question.depth, question.limit, earliest=earliest == "1", memory=memory(*lent))
             self.same(answer.refusal, answered, question)
             if answer.refusal is None:
                 told = (int(answer.status), answer.depth, answer.mismatch, answer.query, answer.learned, answer.learned_depth, answer.learned_query,
@@ -69,9 +70,13 @@ class Recorded(unittest.TestCase):
             count += 1
             refused.add(int(answered[0]))
             proved.add((answer.status is Status.GAVE_UP, answer.equal, answer.through))
+            if earliest == "1":
+                met.add((int(answered[0]), answer.status, answer.mismatch if answer.status is Status.NOT_EQUIVALENT else answer.query))
         self.assertGreater(count, 100)
         self.assertLessEqual({0, 16, 17, 18, 24, 36}, refused)
-        self.assertLessEqual({(False, False, 0), (True, False, 0), (True, True, 1), (True, True, 2)}, proved)
+        self.assertLessEqual({(False, False, 0), (True, False, 0), (True, True, 0), (True, True, 1), (True, True, 2)}, proved)
+        self.assertLessEqual({(0, Status.GAVE_UP, query) for query in range(5)} | {(0, Status.NOT_EQUIVALENT, cycle) for cycle in range(4)}, met)
+        self.assertLessEqual({(0, Status.EQUIVALENT, 0), (0, Status.INCONCLUSIVE, 0), (16, None, 0), (17, None, 0), (18, None, 0), (24, None, 0), (36, None, 0)}, met)
 
 
 class Damaged(unittest.TestCase):

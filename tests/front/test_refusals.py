@@ -218,7 +218,7 @@ class Refusals(Case):
     def test_limits(self):
         library, other = open_library(), encode(only("b", "y"))
         for limit, words in ((262_145, "262,145"), (2**32 + 5, "4,294,967,301"), (2**64 - 1, "18,446,744,073,709,551,615"), (2**64, "18,446,744,073,709,551,616")):
-            refusal = library.check(WIRE, other, 1, limit, Memory(0, 0, 0)).refusal
+            refusal = library.check(WIRE, other, 1, limit, memory=Memory(0, 0, 0)).refusal
             self.assertEqual((refusal.number, refusal.side, refusal.place), (36, 0, 0))
             self.assertEqual(explain(refusal, Question(WIRE, other, 1, limit=limit)), f"the limit of learned literals is {words}, and the largest is 262,144")
             self.assertEqual(reference(refusal), "36 LearnedLimit")

@@ -17,8 +17,8 @@ def digest(path: str) -> str:
     return hashlib.sha256(Path(path).read_bytes()).hexdigest()
 
 
-FIELDS = {"command", "verdict", "exit_status", "words", "refusal", "asked_depth", "limit", "depth", "mismatch", "query", "learned", "learned_depth",
-          "learned_query", "equal", "through", "gold", "gate", "found_by", "first_status", "hunt", "trace", "named_alike", "versions"}
+FIELDS = {"command", "verdict", "exit_status", "words", "refusal", "asked_depth", "limit", "earliest", "depth", "mismatch", "query", "learned",
+          "learned_depth", "learned_query", "equal", "through", "gold", "gate", "found_by", "first_status", "hunt", "trace", "named_alike", "versions"}
 
 
 class Json(Case):
@@ -98,10 +98,11 @@ class Sheet(Case):
             self.assertIn("asked depth 4", row)
             self.assertIn(f"gold SHA-256 {digest(WIRE)}", row)
             self.assertIn(f"struo {VERSION}", row)
-            self.assertEqual(len(row), 15)
+            self.assertEqual(len(row), 16)
             self.assertRegex(row[11], r"^library SHA-256 [0-9a-f]{64}$")
             self.assertTrue(row[12].startswith("learned nothing"))
             self.assertEqual(row[13], "limit 262,144")
+            self.assertEqual(row[15], "earliest cycle not asked for")
         self.assertEqual([row[14] for row in columns], ["no query gave up", "no query gave up", "no query was asked"])
         self.assertIn("in cycle 0 output y differs", columns[1][2])
         self.assertIn("1 Length", columns[2][2])

@@ -1,5 +1,6 @@
-//! Checks two records to a depth, under a limit of learned literals: `cargo run --release --example check -- GOLD GATE D [LIMIT]`. The exit status is 0 for Equivalent, 1 for NotEquivalent, 2 for
-//! Inconclusive, 3 for GaveUp, 4 for a refusal, 64 for wrong usage and 66 for a file that cannot be read.
+//! Checks two records to a depth, under a limit of learned literals, and in the mode of the earliest cycle where that is asked for:
+//! `cargo run --release --example check -- GOLD GATE D [LIMIT] [earliest]`. The exit status is 0 for Equivalent, 1 for NotEquivalent, 2 for Inconclusive, 3 for
+//! GaveUp, 4 for a refusal, 64 for wrong usage and 66 for a file that cannot be read.
 use std::process::ExitCode;
 
 use struo_formal::{Checker, Options, Status};
@@ -30,10 +31,11 @@ fn checked(gold: &[u8], gate: &[u8], options: Options) -> ExitCode {
     }
 }
 
-/// A depth, and a limit where one is given.
+/// A depth, a limit where one is given, and the word for the mode of the earliest cycle.
 fn options(words: &[String]) -> Option<Options> {
     match words {
         [depth] => Some(Options::to_depth(depth.parse().ok()?)),
+        [rest @ .., word] if word == "earliest" => options(rest).map(Options::earliest),
         [depth, limit] => Some(Options::to_depth(depth.parse().ok()?).limit(limit.parse().ok()?)),
         _ => None,
     }
@@ -42,11 +44,11 @@ fn options(words: &[String]) -> Option<Options> {
 fn main() -> ExitCode {
     let words: Vec<String> = std::env::args().skip(1).collect();
     let [gold, gate, rest @ ..] = &words[..] else {
-        eprintln!("usage: check GOLD GATE D [LIMIT]");
+        eprintln!("usage: check GOLD GATE D [LIMIT] [earliest]");
         return ExitCode::from(64);
     };
     let Some(options) = options(rest) else {
-        eprintln!("a depth and perhaps a limit follow the records, both numbers");
+        eprintln!("a depth and perhaps a limit follow the records, both numbers, and perhaps the word earliest");
         return ExitCode::from(64);
     };
     match (std::fs::read(gold), std::fs::read(gate)) {

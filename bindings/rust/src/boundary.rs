@@ -76,13 +76,13 @@ pub struct CheckAnswer {
     pub depth: u32,
     /// For NotEquivalent the first cycle in which outputs differ.
     pub mismatch: u32,
-    /// For GaveUp the number of the query that gave up, 1 to 4.
+    /// For GaveUp the number of the query that gave up: 1 to 4, and in the mode of the earliest cycle 0 to 4. The status says whether a 0 is a query's number.
     pub query: u32,
     /// The largest total of learned literals over the queries asked, at most the limit: how near the check came to giving up.
     pub learned: u32,
     /// The depth of the first query asked that has this total; 1 where nothing was learned.
     pub learned_depth: u32,
-    /// The number of that query, 1 to 4; 1 where nothing was learned.
+    /// The number of that query, in the mode of the earliest cycle 0 to 4, else 1 to 4; the first of these where nothing was learned.
     pub learned_query: u32,
     /// For GaveUp whether the outputs are proved equal in the cycles 0 to `through`; false where no query was answered, and nothing is proved of any cycle.
     pub equal: bool,
@@ -153,6 +153,7 @@ extern "C" {
         gate_length: usize,
         depth: u64,
         limit: u64,
+        earliest: bool,
         trace: *mut u8,
         trace_length: usize,
         words: *mut u32,

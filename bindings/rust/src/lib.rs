@@ -19,6 +19,9 @@
 //! let difference = verdict.difference.expect("a difference has a trace");
 //! assert!(replay(wire, inverter, difference.cycle.into(), &difference.trace).yes);
 //!
+//! // In the mode of the earliest cycle no input sequence shows an earlier one.
+//! assert_eq!(checker.check(wire, inverter, Options::to_depth(8).earliest())?.difference, Some(difference));
+//!
 //! let refused = checker.check(wire, b"", Options::to_depth(8).limit(1_000)).unwrap_err();
 //! assert_eq!(refused.refusal, Refusal::Length);
 //! # Ok::<(), struo_formal::Refused>(())
@@ -71,9 +74,10 @@ pub fn read(record: &[u8]) -> ReadAnswer {
 }
 
 /// Checks whether two designs can ever differ, by k-induction for depths 1 to `depth`, in which each query may learn clauses of `limit` literals together: a
-/// refusal of 1 to 24 or 36, which leaves all buffers as they were, or a verdict. The trace is written for NotEquivalent; after an accepted check all of `words`
-/// and `scores` is zero.
-pub fn check(gold: &[u8], gate: &[u8], depth: u64, limit: u64, trace: &mut [u8], words: &mut [u32], scores: &mut [f64]) -> CheckAnswer {
+/// refusal of 1 to 24 or 36, which leaves all buffers as they were, or a verdict. Where `earliest` is true query 0 puts cycle 0 alone first, so that a mismatch
+/// is the earliest cycle that any input sequence can show. The trace is written for NotEquivalent; after an accepted check all of `words` and `scores` is zero.
+#[allow(clippy::too_many_arguments)]
+pub fn check(gold: &[u8], gate: &[u8], depth: u64, limit: u64, earliest: bool, trace: &mut [u8], words: &mut [u32], scores: &mut [f64]) -> CheckAnswer {
     // The library reads the two records and writes the three buffers, as far as their lengths say; the borrows keep them apart.
     unsafe {
         boundary::struo_check(
@@ -83,6 +87,7 @@ pub fn check(gold: &[u8], gate: &[u8], depth: u64, limit: u64, trace: &mut [u8],
             gate.len(),
             depth,
             limit,
+            earliest,
             trace.as_mut_ptr(),
             trace.len(),
             words.as_mut_ptr(),
@@ -170,7 +175,7 @@ mod tests {
     #[test]
     fn a_difference_is_found_with_its_trace() {
         let (mut trace, mut words, mut scores) = memory();
-        let answer = check(WIRE, INVERTER, 1, LARGEST, &mut trace, &mut words, &mut scores);
+        let answer = check(WIRE, INVERTER, 1, LARGEST, false, &mut trace, &mut words, &mut scores);
         assert_eq!(answer, nothing_learned(Status::NotEquivalent));
         assert_eq!(trace[..2], [0, 1]);
         assert!(trace[2..].iter().all(|byte| *byte == 7));
@@ -181,22 +186,43 @@ mod tests {
     #[test]
     fn a_design_is_equivalent_to_itself() {
         let (mut trace, mut words, mut scores) = memory();
-        let answer = check(WIRE, WIRE, 64, 0, &mut trace, &mut words, &mut scores);
+        let answer = check(WIRE, WIRE, 64, 0, false, &mut trace, &mut words, &mut scores);
         assert_eq!(answer, nothing_learned(Status::Equivalent));
         assert!(trace.iter().all(|byte| *byte == 7));
+        let answer = check(WIRE, WIRE, 64, 0, true, &mut trace, &mut words, &mut scores);
+        assert_eq!(answer, CheckAnswer { learned_query: 0, ..nothing_learned(Status::Equivalent) });
+        assert!(trace.iter().all(|byte| *byte == 7));
+    }
+
+    /// Input a, and an output y that is 0.
+    const GROUNDED: &[u8] = b"\x01\0\0\0\x15\x01z\0\x03\0\x01a\x01\0\x11\x01y\0\x01\0\0";
+
+    #[test]
+    fn in_the_mode_a_mismatch_is_the_earliest() {
+        for (earliest, mismatch, learned_query, told) in [(false, 1, 1, &[0, 1, 1][..]), (true, 0, 0, &[1, 1])] {
+            let (mut trace, mut words, mut scores) = memory();
+            let answer = check(WIRE, GROUNDED, 1, LARGEST, earliest, &mut trace, &mut words, &mut scores);
+            assert_eq!(answer, CheckAnswer { mismatch, learned_query, ..nothing_learned(Status::NotEquivalent) });
+            assert_eq!(&trace[..told.len()], told);
+            assert!(trace[told.len()..].iter().all(|byte| *byte == 7));
+            assert!(words.iter().all(|word| *word == 0) && scores.iter().all(|score| score.to_bits() == 0));
+            assert!(replay(WIRE, GROUNDED, mismatch.into(), told).yes);
+        }
     }
 
     #[test]
     fn a_refused_check_changes_nothing() {
         let (mut trace, mut words, mut scores) = memory();
         words.truncate(WORDS - 1);
-        for (depth, limit, number) in [(1, LARGEST, 24), (1, LARGEST + 1, 36), (1, (1 << 32) + 5, 36), (0, u64::MAX, 16), (65, u64::MAX, 17)] {
-            let answer = check(WIRE, INVERTER, depth, limit, &mut trace, &mut words, &mut scores);
-            assert_eq!(answer, CheckAnswer { number, ..CheckAnswer::default() });
-            assert!(trace.iter().all(|byte| *byte == 7) && words.iter().all(|word| *word == 7) && scores.iter().all(|score| *score == 7.0));
+        for earliest in [false, true] {
+            for (depth, limit, number) in [(1, LARGEST, 24), (1, LARGEST + 1, 36), (1, (1 << 32) + 5, 36), (0, u64::MAX, 16), (65, u64::MAX, 17)] {
+                let answer = check(WIRE, INVERTER, depth, limit, earliest, &mut trace, &mut words, &mut scores);
+                assert_eq!(answer, CheckAnswer { number, ..CheckAnswer::default() });
+                assert!(trace.iter().all(|byte| *byte == 7) && words.iter().all(|word| *word == 7) && scores.iter().all(|score| *score == 7.0));
+            }
+            let answer = check(WIRE, &[], u64::MAX, u64::MAX, earliest, &mut [], &mut [], &mut []);
+            assert_eq!(answer, CheckAnswer { number: 1, side: 1, ..CheckAnswer::default() });
         }
-        let answer = check(WIRE, &[], u64::MAX, u64::MAX, &mut [], &mut [], &mut []);
-        assert_eq!(answer, CheckAnswer { number: 1, side: 1, ..CheckAnswer::default() });
     }
 
     #[test]
@@ -275,9 +301,30 @@ mod tests {
     }
 
     #[test]
+    fn in_the_mode_a_give_up_has_query_0_before_it() {
+        let renamed = renamed();
+        let mut checker = Checker::new();
+        for (gold, gate, limit, query, (learned, learned_query), proved_through) in [
+            (TOGGLE, &renamed[..], 0, 3, (0, 0), Some(1)),
+            (XOR, BY_GATES, 12, 1, (11, 1), Some(0)),
+            (XOR, BY_GATES, 5, 1, (5, 0), Some(0)),
+            (XOR, BY_GATES, 3, 0, (3, 0), None),
+            (XOR, BY_GATES, 0, 0, (0, 0), None),
+        ] {
+            let query = Some(query);
+            let expected = Verdict { status: Status::GaveUp, depth: 1, difference: None, query, learned, learned_depth: 1, learned_query, proved_through };
+            assert_eq!(checker.check(gold, gate, Options::to_depth(8).limit(limit).earliest()), Ok(expected));
+        }
+        for (gold, gate, verdict) in [(TOGGLE, &renamed[..], equivalent(1, 1, (1, 3))), (XOR, BY_GATES, equivalent(1, 16, (1, 1)))] {
+            assert_eq!(checker.check(gold, gate, Options::to_depth(8).earliest()), Ok(verdict));
+        }
+    }
+
+    #[test]
     fn a_limit_above_the_largest_is_refused() {
         let mut checker = Checker::new();
-        assert_eq!(Options::to_depth(8), Options { depth: 8, limit: 262_144 });
+        assert_eq!(Options::to_depth(8), Options { depth: 8, limit: 262_144, earliest: false });
+        assert_eq!(Options::to_depth(8).limit(7).earliest(), Options { depth: 8, limit: 7, earliest: true });
         assert!(checker.check(WIRE, WIRE, Options::to_depth(8)).is_ok());
         for limit in [LARGEST + 1, (1 << 32) + 5, u64::MAX] {
             let refused = checker.check(WIRE, TOGGLE, Options::to_depth(8).limit(limit)).unwrap_err();
@@ -327,7 +374,7 @@ mod tests {
         own[16] = 1;
         let refused = read(&own).result().unwrap_err();
         assert_eq!(refused.to_string(), "refused: 7 UndefinedNet: a node's input number is not below the node's own (gold node 1)");
-        assert_eq!(check(WIRE, WIRE, 0, 0, &mut [], &mut [], &mut []).result().unwrap_err().to_string(), "refused: 16 ZeroDepth: the depth is 0");
+        assert_eq!(check(WIRE, WIRE, 0, 0, false, &mut [], &mut [], &mut []).result().unwrap_err().to_string(), "refused: 16 ZeroDepth: the depth is 0");
         assert!((1..=25).chain([36]).all(|number| Refusal::from_number(number).is_some_and(|refusal| refusal as u32 == number)));
         assert!([0, 26, 35, 37].into_iter().all(|number| Refusal::from_number(number).is_none()));
         assert!((0..4).all(|number| Status::from_number(number).is_some_and(|status| status as u32 == number)));

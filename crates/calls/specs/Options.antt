@@ -6,7 +6,7 @@ use Rattle.calls.specs.declared.options.Lent.{Lent}
 
 -- the options
 unfoldable pub optionsOf : Options → Model.Options
-optionsOf o = record { depth = o .depth; limit = o .limit }
+optionsOf o = record { depth = o .depth; limit = o .limit; earliest = o .earliest }
 
 -- the lengths of the buffers lent
 unfoldable pub lentOf : Lent → Pair.Lent

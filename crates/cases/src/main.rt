@@ -34,12 +34,13 @@ fn tell(what: &[u8], answer: CheckAnswer) {
     io::write_all(STDOUT_FILENO, b"\n");
 }
 
-// Checks one record against another under the largest limit and writes the answer after its name.
+// Checks one record against another under the largest limit, in the mode of the earliest cycle or without it, and writes the answer after its name.
 fn run(
     what: &[u8],
     gold: Record,
     gate: Record,
     depth: u64,
+    earliest: bool,
     trace: &mut [u8],
     words: &mut [u32],
     scores: &mut [f64],
@@ -51,6 +52,7 @@ fn run(
         first(&theirs, gate.length),
         depth,
         LIMIT,
+        earliest,
         trace,
         words,
         scores,
@@ -65,6 +67,7 @@ fn conjunction_case(trace: &mut [u8], words: &mut [u32], scores: &mut [f64]) {
         conjunction(),
         holding(),
         64,
+        false,
         trace,
         words,
         scores,
@@ -78,6 +81,7 @@ fn bound_cases(trace: &mut [u8], words: &mut [u32], scores: &mut [f64]) {
         wide_side(8),
         wide_side(7),
         64,
+        false,
         trace,
         words,
         scores,
@@ -87,6 +91,7 @@ fn bound_cases(trace: &mut [u8], words: &mut [u32], scores: &mut [f64]) {
         wide_side(8),
         wide_side(8),
         64,
+        false,
         trace,
         words,
         scores,
@@ -100,6 +105,7 @@ fn counter_cases(trace: &mut [u8], words: &mut [u32], scores: &mut [f64]) {
         counter(260),
         counter(255),
         8,
+        false,
         trace,
         words,
         scores,
@@ -109,6 +115,31 @@ fn counter_cases(trace: &mut [u8], words: &mut [u32], scores: &mut [f64]) {
         counter(260),
         counter(255),
         64,
+        false,
+        trace,
+        words,
+        scores,
+    );
+}
+
+// Two of these in the mode of the earliest cycle.
+fn earliest_cases(trace: &mut [u8], words: &mut [u32], scores: &mut [f64]) {
+    run(
+        b"y = a And b at 64, earliest cycle",
+        conjunction(),
+        holding(),
+        64,
+        true,
+        trace,
+        words,
+        scores,
+    );
+    run(
+        b"nine-bit counters at 8, earliest cycle",
+        counter(260),
+        counter(255),
+        8,
+        true,
         trace,
         words,
         scores,
@@ -122,4 +153,5 @@ fn main() {
     conjunction_case(&mut trace, &mut words, &mut scores);
     bound_cases(&mut trace, &mut words, &mut scores);
     counter_cases(&mut trace, &mut words, &mut scores);
+    earliest_cases(&mut trace, &mut words, &mut scores);
 }

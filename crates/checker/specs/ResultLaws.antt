@@ -70,52 +70,52 @@ pair-accepted r trace words scores o gold gate f e h = rw e h
 
 -- ---- what is proved
 
--- by the status, depth and query of an answer
-provedIn : Numbers.CheckAnswer → Option ℕ
-provedIn c = cond (eqb (c .status) 3) (provedByPlace (c .depth) (c .query)) none
+-- by the mode, and the status, depth and query of an answer
+provedIn : Bool → Numbers.CheckAnswer → Option ℕ
+provedIn earliest c = cond (eqb (c .status) 3) (provedByPlace earliest (c .depth) (c .query)) none
 
-verdict-in : (u : Verdict) (a : Numbers.Asked) → provedBy u ≡ provedIn (answerOfVerdict u a none)
+verdict-in : (earliest : Bool) (u : Verdict) (a : Numbers.Asked) → provedBy earliest u ≡ provedIn earliest (answerOfVerdict u a none)
 unfolding provedBy provedIn answerOfVerdict acceptedAnswer statusNumber
-verdict-in (Verdicts.Equivalent d) a = refl
-verdict-in (Verdicts.NotEquivalent d m) a = refl
-verdict-in (Verdicts.Inconclusive d) a = refl
-verdict-in (Verdicts.GaveUp d q) a = refl
+verdict-in earliest (Verdicts.Equivalent d) a = refl
+verdict-in earliest (Verdicts.NotEquivalent d m) a = refl
+verdict-in earliest (Verdicts.Inconclusive d) a = refl
+verdict-in earliest (Verdicts.GaveUp d q) a = refl
 
 -- the model's verdict has proved what its answer's numbers say
-outcome-in : (limit : ℕ) (p : Problem) (D : ℕ) (a : Numbers.Asked)
-    → provedIn (verdictAnswer (proveSequentialEquivalence limit p D .verdict) a none) ≡ provedThrough (proveSequentialEquivalence limit p D .verdict) (proveSequentialEquivalence limit p D .asked)
+outcome-in : (earliest : Bool) (limit : ℕ) (p : Problem) (D : ℕ) (a : Numbers.Asked)
+    → provedIn earliest (verdictAnswer (proveSequentialEquivalence earliest limit p D .verdict) a none) ≡ provedThrough (proveSequentialEquivalence earliest limit p D .verdict) (proveSequentialEquivalence earliest limit p D .asked)
 unfolding provedIn verdictAnswer acceptedAnswer statusNumber provedThrough
-outcome-in limit p D a = go (proveSequentialEquivalence limit p D .verdict) refl
+outcome-in earliest limit p D a = go (proveSequentialEquivalence earliest limit p D .verdict) refl
   where
-    go : (v : Model.Verdict) → proveSequentialEquivalence limit p D .verdict ≡ v → provedIn (verdictAnswer v a none) ≡ provedThrough v (proveSequentialEquivalence limit p D .asked)
+    go : (v : Model.Verdict) → proveSequentialEquivalence earliest limit p D .verdict ≡ v → provedIn earliest (verdictAnswer v a none) ≡ provedThrough v (proveSequentialEquivalence earliest limit p D .asked)
     go (Model.Equivalent d) e = refl
     go (Model.NotEquivalent d m bytes) e = refl
     go (Model.Inconclusive d) e = refl
-    go (Model.GaveUp d q) e = sym (prove-place limit p D d q e) ∙ ap (λ (v : Model.Verdict). provedThrough v (proveSequentialEquivalence limit p D .asked)) e
+    go (Model.GaveUp d q) e = sym (prove-place earliest limit p D d q e) ∙ ap (λ (v : Model.Verdict). provedThrough v (proveSequentialEquivalence earliest limit p D .asked)) e
     go Model.OutOfFuel e = refl
 
 -- the verdict alone tells what the queries asked have proved
-proved-by-verdict : (limit : ℕ) (p : Problem) (D : ℕ) (u : Verdict) (a : Numbers.Asked) → answerOfVerdict u a ≡ verdictAnswer (proveSequentialEquivalence limit p D .verdict) a
-    → provedBy u ≡ provedThrough (proveSequentialEquivalence limit p D .verdict) (proveSequentialEquivalence limit p D .asked)
-proved-by-verdict limit p D u a e = verdict-in u a ∙ ap (λ (f : Option ℕ → Numbers.CheckAnswer). provedIn (f none)) e ∙ outcome-in limit p D a
+proved-by-verdict : (earliest : Bool) (limit : ℕ) (p : Problem) (D : ℕ) (u : Verdict) (a : Numbers.Asked) → answerOfVerdict u a ≡ verdictAnswer (proveSequentialEquivalence earliest limit p D .verdict) a
+    → provedBy earliest u ≡ provedThrough (proveSequentialEquivalence earliest limit p D .verdict) (proveSequentialEquivalence earliest limit p D .asked)
+proved-by-verdict earliest limit p D u a e = verdict-in earliest u a ∙ ap (λ (f : Option ℕ → Numbers.CheckAnswer). provedIn earliest (f none)) e ∙ outcome-in earliest limit p D a
 
 -- so the answer is that of the model's outcome
-pub answer-of : (limit : ℕ) (p : Problem) (D : ℕ) (u : Verdict) (m : Asked) → ((a : Numbers.Asked) → answerOfVerdict u a ≡ verdictAnswer (proveSequentialEquivalence limit p D .verdict) a)
-    → askedOf m ≡ largestLearned (proveSequentialEquivalence limit p D .asked)
-    → answerOfVerdict u (askedOf m) (provedBy u)
-    ≡ verdictAnswer (proveSequentialEquivalence limit p D .verdict) (largestLearned (proveSequentialEquivalence limit p D .asked)) (provedThrough (proveSequentialEquivalence limit p D .verdict) (proveSequentialEquivalence limit p D .asked))
-answer-of limit p D u m e h =
-    ap (λ (f : Option ℕ → Numbers.CheckAnswer). f (provedBy u)) (e (askedOf m))
-    ∙ ap₂ (verdictAnswer (proveSequentialEquivalence limit p D .verdict)) h (proved-by-verdict limit p D u (askedOf m) (e (askedOf m)))
+pub answer-of : (earliest : Bool) (limit : ℕ) (p : Problem) (D : ℕ) (u : Verdict) (m : Asked) → ((a : Numbers.Asked) → answerOfVerdict u a ≡ verdictAnswer (proveSequentialEquivalence earliest limit p D .verdict) a)
+    → askedOf m ≡ largestLearned (proveSequentialEquivalence earliest limit p D .asked)
+    → answerOfVerdict u (askedOf m) (provedBy earliest u)
+    ≡ verdictAnswer (proveSequentialEquivalence earliest limit p D .verdict) (largestLearned (proveSequentialEquivalence earliest limit p D .asked)) (provedThrough (proveSequentialEquivalence earliest limit p D .verdict) (proveSequentialEquivalence earliest limit p D .asked))
+answer-of earliest limit p D u m e h =
+    ap (λ (f : Option ℕ → Numbers.CheckAnswer). f (provedBy earliest u)) (e (askedOf m))
+    ∙ ap₂ (verdictAnswer (proveSequentialEquivalence earliest limit p D .verdict)) h (proved-by-verdict earliest limit p D u (askedOf m) (e (askedOf m)))
 
 -- ---- what was learned
 
 -- the most that a query learns is within every limit
-pub most-small : (limit : ℕ) (p : Problem) (D : ℕ) (m : Asked) → limit ≤ MOST-LEARNED → askedOf m ≡ largestLearned (proveSequentialEquivalence limit p D .asked) → m .learned ≤ 262144
+pub most-small : (earliest : Bool) (limit : ℕ) (p : Problem) (D : ℕ) (m : Asked) → limit ≤ MOST-LEARNED → askedOf m ≡ largestLearned (proveSequentialEquivalence earliest limit p D .asked) → m .learned ≤ 262144
 unfolding askedOf
-most-small limit p D m h e =
-    let same : m .learned ≡ largestLearned (proveSequentialEquivalence limit p D .asked) .learned = ap (λ (a : Numbers.Asked). a .learned) e in
-    omega (arith, same, largest-within limit p D, h)
+most-small earliest limit p D m h e =
+    let same : m .learned ≡ largestLearned (proveSequentialEquivalence earliest limit p D .asked) .learned = ap (λ (a : Numbers.Asked). a .learned) e in
+    omega (arith, same, largest-within earliest limit p D, h)
 
 -- ---- the whole result
 

@@ -62,7 +62,8 @@ fn prove(
     );
     let outcome = prove_sequential_equivalence(problem, words, scores, trace, options);
     clear_memory(words, scores);
-    answered(outcome)
+    let earliest = options.earliest;
+    answered(outcome, earliest)
 }
 
 // The check of two accepted records from their initial states: the first refusal of 16, 17, 36 and 18 to 24, or the proof.

@@ -1,3 +1,4 @@
 pub mod Most
 pub mod Deciding
 pub mod Depths
+pub mod Beginning

@@ -1,9 +1,9 @@
-// The queries of one depth in the order of equivalence.rs, until one decides.
+// The queries of one depth in the order of equivalence.rs, until one decides; and query 0, which asks of cycle 0 alone.
 ghost use Prim.Native.Nat.{suc, _+_, _*_, _≤_};
 ghost use lib.ListN.{length};
 ghost use Rattle.queries.specs.Querying.{Queryable};
 ghost use Rattle.depths.specs.Deciding.{Decides, goal2, goal3, goal4};
-ghost use Rattle.depths.specs.Depths.{Passes};
+ghost use Rattle.depths.specs.Depths.{Passes, Asks0};
 use crate::most::counted;
 use calls::answers::Asked;
 use queries::problem::Outcome;
@@ -126,6 +126,34 @@ pub fn at_depth(
         Answer::NoModel(_) => query_2(problem, words, scores, limit, depth, now),
         Answer::GaveUp(_) => Decision::Decided(Outcome {
             verdict: Verdict::GaveUp(number, 1),
+            most: now,
+        }),
+    }
+}
+
+// Query 0, of depth 1: outputs that differ in cycle 0 alone; a counterexample's trace is written.
+pub fn query_0(
+    problem: Problem,
+    words: &mut [u32],
+    scores: &mut [f64],
+    trace: &mut [u8],
+    limit: usize,
+    most: Asked,
+) -> Decision
+    requires { ⌜ Queryable problem limit 0 (now words) (now scores) × (suc 0 * problem .gold .«input_count» + problem .gold .«output_count» ≤ length (now trace)) ⌝ }
+    ensures { λ r. ⌜ Asks0 problem limit (now (words .entry)) (now (trace .entry)) most r (now (words .exit)) (now (trace .exit)) ⌝ }
+{
+    let found = find_counterexample(problem, words, scores, trace, limit, 0);
+    let answer = found.answer;
+    let now = counted(most, 1, 0, answer);
+    match answer {
+        Answer::Model(_) => Decision::Decided(Outcome {
+            verdict: Verdict::NotEquivalent(1, found.mismatch),
+            most: now,
+        }),
+        Answer::NoModel(_) => Decision::Undecided(now),
+        Answer::GaveUp(_) => Decision::Decided(Outcome {
+            verdict: Verdict::GaveUp(1, 0),
             most: now,
         }),
     }

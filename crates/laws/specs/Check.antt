@@ -25,3 +25,5 @@ pub mod Demand3
 -- what a check that gives up has proved, and how far a larger limit gets
 pub mod Proved
 pub mod GoingOn
+-- the earliest cycle in which outputs differ, and what its mode leaves as it is
+pub mod Earliest

@@ -1,4 +1,4 @@
--- What is promised of the check, of replay, of the stepping call and of read, on one page and with nothing assumed. Every word here is of `model`, or of `Terms` and `StepTerms`, which add a few definitions over `model` alone. `checked` is the definition of the check of two records under a caller's options (maximum depth and limit of learned literals), as a refusal or a status and a depth; `check` is the call, under the same options, with every number and every lent byte; `checkDesigns` is the check of two designs, each from its own start bits. Assumes nothing.
+-- What is promised of the check, of replay, of the stepping call and of read, on one page and with nothing assumed. Every word here is of `model`, or of `Terms` and `StepTerms`, which add a few definitions over `model` alone. `checked` is the definition of the check of two records under a caller's options (maximum depth, limit of learned literals, mode of the earliest cycle), as a refusal or a status and a depth; `check` is the call, under the same options, with every number and every lent byte; `checkDesigns` is the check of two designs, each from its own start bits. Assumes nothing.
 use Prim.Native.Nat.{ℕ, suc, _/_, _≤_, _<_}
 use mathlib.Core.Path.{_≡_}
 use mathlib.Core.Logic.{_≢_, _⊎_, _↔_}
@@ -8,7 +8,7 @@ use mathlib.Core.Option.{none, some}
 use lib.ListN.{length, getD, drop, replicate}
 use lib.Ieee.{Float}
 use Rattle.model.specs.Answers.{Refusal, accepted, Status, Equivalent, NotEquivalent, GaveUp, statusNumber, Asked, refusedAnswer, acceptedAnswer}
-use Rattle.model.specs.Options.{Options, toDepth}
+use Rattle.model.specs.Options.{Options, toDepth, firstQuery}
 use Rattle.model.specs.Names.{Name, memberName, namesOf}
 use Rattle.model.specs.Netlist.{Node, Design, inputs, outputs, inputNumbers}
 use Rattle.model.specs.Record.{got, listedKind, node, parsed, parse}
@@ -21,11 +21,11 @@ use Rattle.model.specs.Induction.{Query1, Says, Begun, initially, SameOutputs, 
 use Rattle.model.specs.Literal.{Literal}
 use Rattle.model.specs.Aig.{Aig, evaluate, aigNodeValues}
 use Rattle.model.specs.Sat.{Solver, scoreZero, model, noModel, gaveUp, outOfFuel, encode, solve}
-use Rattle.model.specs.Equivalence.{Problem, Query, ask, largestLearned, provedThrough}
+use Rattle.model.specs.Equivalence.{Problem, Query, baseCounterexample, ask, undecided, notEquivalentAt, depths, largestLearned, provedThrough}
 use Rattle.model.specs.Equivalence as Search
 use Rattle.model.specs.Check.{problemOf, checkDesigns, acceptedCheck, checkOutcome, checkResult, lentOf, check, checked}
 use Rattle.laws.specs.Search.Limits.{give-up-needed}
-use Rattle.laws.specs.Terms.{OfRecord, UpToKind, OfCheck, OfReplay, replayRefusal, RefusedWith, UnusedZero, learnedOf, provedOf, AsOutcome, Called, TraceLeft, CalledEquivalent, Comparable, checkedDesigns, LargerLimit, outcomeTo, OverLimit, Linked, JoinedDesigns, TraceGood, Yes, Settled, answerTotal, literalCount, Reached, GivesUp, QueryOf, Asks, StopsAt, Told, Sooner, FirstLargest, LastGivesUp, EqualThrough, provedByPlace, GoesOn, AsFar}
+use Rattle.laws.specs.Terms.{OfRecord, UpToKind, OfCheck, OfReplay, replayRefusal, RefusedWith, UnusedZero, learnedOf, provedOf, sevenOf, AsOutcome, Called, TraceLeft, CalledEquivalent, Comparable, checkedDesigns, LargerLimit, inMode, outcomeTo, OverLimit, Linked, JoinedDesigns, TraceGood, Yes, Settled, answerTotal, literalCount, Reached, GivesUp, QueryOf, Asks, StopsAt, Told, Sooner, FirstLargest, LastGivesUp, EqualThrough, provedByPlace, CanDiffer, Earliest, EarliestAt, GoesOn, AsFar}
 use Rattle.laws.specs.StepTerms.{beginRefusal, stepRefusal, OfBegin, OfStep, afterBegin, stepAnswer, afterSteps, runPosition, heldAt, movedFrom, BytesKept, SameBits}
 use Rattle.laws.specs.Record.KindBytes.{node-counted, unlisted-refused}
 use Rattle.laws.specs.Induction.Chain.{chain-outputs}
@@ -37,6 +37,7 @@ use Rattle.laws.specs.Check.Records.{check-sound, check-said, check-find
 use Rattle.laws.specs.Check.Ending.{designs-answer, check-answers}
 use Rattle.laws.specs.Check.LargerLimit.{designs-larger, check-larger, result-larger, call-larger}
 use Rattle.laws.specs.Check.GoingOn.{designs-go-on, call-as-far}
+use Rattle.laws.specs.Check.Earliest.{designs-deep, designs-earliest, call-deep, call-earliest, call-no-smaller, modes-refuse, designs-agree, call-agrees, designs-keep, call-keeps, designs-cycle-0, designs-depth-1, call-cycle-0, designs-without, designs-first-decides}
 use Rattle.laws.specs.Check.Refusals.{check-within, replay-within, begin-within, step-within}
 use Rattle.laws.specs.Check.Limited.{over-limit, above-refused, refuse-alike, call-as-none}
 use Rattle.laws.specs.Check.Reading.{read-zero, read-answers, gold-refused, gate-refused}
@@ -49,7 +50,7 @@ use Rattle.laws.specs.Check.Asked.{designs-first, designs-ordered, desig
 use Rattle.laws.specs.Check.Learned.{designs-largest, call-largest, call-within, call-nothing, call-as-outcome}
 use Rattle.laws.specs.Check.Proved.{designs-proved, designs-place, call-proved, call-beyond, call-found-beyond, call-place, call-proved-nothing}
 use Rattle.laws.specs.Check.Numbers.{called, call-checked, unused-zero, trace-left, trace-kept}
-use Rattle.laws.specs.Check.Demand3.{number-zero, call-joins, call-joins-back, call-never, calls-join, calls-never, call-swap, call-swap-refused, call-self}
+use Rattle.laws.specs.Check.Demand3.{number-zero, call-joins, call-joins-back, call-never, calls-join, calls-never, call-swap, call-swap-refused, call-self, call-self-idle}
 
 -- ==== P1, demand 1: a pair of records of any content and length comes back with a numbered refusal or a verdict
 
@@ -228,10 +229,10 @@ gives-up-only-above = give-up-needed
 
 -- ==== what the queries of a check learn: how near it came to giving up
 
--- the first query asked is query 1 of depth 1
-pub query-1-is-first : (o : Options) (gold gate : Design) (s t : StoredBits) → 1 ≤ o .depth
-    → (n : ℕ) × (rest : List Asked) × (checkDesigns o gold gate s t .asked ≡ record { depth = 1; query = 1; learned = n } ∷ rest)
-query-1-is-first = designs-first
+-- the first query asked is query 1 of depth 1, in the mode of the earliest cycle its query 0
+pub first-is-asked : (o : Options) (gold gate : Design) (s t : StoredBits) → 1 ≤ o .depth
+    → (n : ℕ) × (rest : List Asked) × (checkDesigns o gold gate s t .asked ≡ record { depth = 1; query = firstQuery (o .earliest); learned = n } ∷ rest)
+first-is-asked = designs-first
 
 -- each is asked before the one that stands after it
 pub asked-in-order : (o : Options) (gold gate : Design) (s t : StoredBits) (before after : List Asked) (a b : Asked) → checkDesigns o gold gate s t .asked ≡ before ++ (a ∷ b ∷ after) → Sooner a b
@@ -262,11 +263,11 @@ pub call-learned-within : (a b : List ℕ) (o : Options) (trace words : List ℕ
     → (check a b o trace words scores .answer .learned ≤ o .limit) × (check a b o trace words scores .answer .learned ≤ 262144)
 call-learned-within = call-within
 
--- where no query learned anything it tells 0, depth 1 and query 1
+-- where no query learned anything it tells 0, depth 1 and query 1, in the mode of the earliest cycle query 0
 pub call-learned-nothing : (a b : List ℕ) (o : Options) (trace words : List ℕ) (scores : List Float) (gold gate : Design)
     → checkRefusal a b o (lentOf trace words scores) ≡ none → readPair a b ≡ both gold gate
     → ((x : Asked) → List·Memᴰ x (checkDesigns o gold gate (initialBits gold) (initialBits gate) .asked) → x .learned ≡ 0)
-    → learnedOf (check a b o trace words scores .answer) ≡ record { depth = 1; query = 1; learned = 0 }
+    → learnedOf (check a b o trace words scores .answer) ≡ record { depth = 1; query = firstQuery (o .earliest); learned = 0 }
 call-learned-nothing = call-nothing
 
 -- of any call, refused or not, the seven other numbers and every lent byte are those of its refusal or verdict alone, and what was learned is that of the queries asked
@@ -313,14 +314,14 @@ pub found-lies-beyond : (a b : List ℕ) (o : Options) (trace words : List ℕ) 
     → check a b o trace words scores .answer .through < check a b other t w s .answer .mismatch
 found-lies-beyond = call-found-beyond
 
--- the cycle by the place of the give-up: after query 1 its depth, in query 1 the depth before it, and none at depth 1
+-- the cycle by the place of the give-up: after query 1 its depth, in query 1 the depth before it, and none in the first query asked, which in the mode of the earliest cycle is query 0
 pub proved-by-place : (o : Options) (gold gate : Design) (s t : StoredBits) (d q : ℕ) → checkDesigns o gold gate s t .verdict ≡ Search.GaveUp d q
-    → provedThrough (checkDesigns o gold gate s t .verdict) (checkDesigns o gold gate s t .asked) ≡ provedByPlace d q
+    → provedThrough (checkDesigns o gold gate s t .verdict) (checkDesigns o gold gate s t .asked) ≡ provedByPlace (o .earliest) d q
 proved-by-place = designs-place
 
 -- the same of a call's numbers
 pub call-proved-by-place : (a b : List ℕ) (o : Options) (trace words : List ℕ) (scores : List Float) → check a b o trace words scores .answer .status ≡ 3
-    → provedOf (check a b o trace words scores .answer) ≡ provedByPlace (check a b o trace words scores .answer .depth) (check a b o trace words scores .answer .query)
+    → provedOf (check a b o trace words scores .answer) ≡ provedByPlace (o .earliest) (check a b o trace words scores .answer .depth) (check a b o trace words scores .answer .query)
 call-proved-by-place = call-place
 
 -- of a call that gives up nothing is proved exactly where no query was asked but the one that gave up
@@ -344,9 +345,98 @@ pub larger-limit-gets-as-far : (a b : List ℕ) (o larger : Options) → LargerL
     → check a b o trace words scores .answer .status ≡ 3 → check a b larger t w s .answer .status ≡ 3 → AsFar (check a b o trace words scores .answer) (check a b larger t w s .answer)
 larger-limit-gets-as-far = call-as-far
 
+-- ==== the earliest cycle in which outputs differ
+
+-- at depth 2 and above, in the mode of the earliest cycle or without it, the mismatch is the depth, and the least cycle over all input sequences in which outputs differ
+pub deep-mismatch-is-least : (o : Options) (gold gate : Design) → Comparable gold gate → (s t : StoredBits) (d m : ℕ) (bytes : List ℕ)
+    → checkDesigns o gold gate s t .verdict ≡ Search.NotEquivalent d m bytes → 2 ≤ d → (m ≡ d) × Earliest gold gate s t m
+deep-mismatch-is-least = designs-deep
+
+-- in the mode it is the least at every depth: the depth, or at depth 1 cycle 0
+pub mode-mismatch-is-least : (o : Options) → o .earliest ≡ true → (gold gate : Design) → Comparable gold gate → (s t : StoredBits) (d m : ℕ) (bytes : List ℕ)
+    → checkDesigns o gold gate s t .verdict ≡ Search.NotEquivalent d m bytes → EarliestAt gold gate s t d m
+mode-mismatch-is-least = designs-earliest
+
+-- the same of a call's numbers, at depth 2 and above
+pub call-deep-is-least : (a b : List ℕ) (o : Options) (trace words : List ℕ) (scores : List Float) (gold gate : Design) → readPair a b ≡ both gold gate
+    → check a b o trace words scores .answer .status ≡ 1 → 2 ≤ check a b o trace words scores .answer .depth
+    → (check a b o trace words scores .answer .mismatch ≡ check a b o trace words scores .answer .depth) × Earliest gold gate (initialBits gold) (initialBits gate) (check a b o trace words scores .answer .mismatch)
+call-deep-is-least = call-deep
+
+-- and in the mode
+pub call-mode-is-least : (a b : List ℕ) (o : Options) (trace words : List ℕ) (scores : List Float) (gold gate : Design) → o .earliest ≡ true → readPair a b ≡ both gold gate
+    → check a b o trace words scores .answer .status ≡ 1
+    → EarliestAt gold gate (initialBits gold) (initialBits gate) (check a b o trace words scores .answer .depth) (check a b o trace words scores .answer .mismatch)
+call-mode-is-least = call-earliest
+
+-- so no call on the same records, under any options, answers a smaller mismatch
+pub no-smaller-mismatch : (a b : List ℕ) (o : Options) (trace words : List ℕ) (scores : List Float) (other : Options) (t w : List ℕ) (s : List Float) → o .earliest ≡ true
+    → check a b o trace words scores .answer .status ≡ 1 → check a b other t w s .answer .status ≡ 1
+    → check a b o trace words scores .answer .mismatch ≤ check a b other t w s .answer .mismatch
+no-smaller-mismatch = call-no-smaller
+
+-- in the mode, unless query 0 gives up, the mismatch 0 is answered exactly where some input sequence makes outputs differ in cycle 0
+pub cycle-0-exactly : (o : Options) → o .earliest ≡ true → 1 ≤ o .depth → (gold gate : Design) → Comparable gold gate → (s t : StoredBits)
+    → checkDesigns o gold gate s t .verdict ≢ Search.GaveUp 1 0
+    → ((d : ℕ) × (bytes : List ℕ) × (checkDesigns o gold gate s t .verdict ≡ Search.NotEquivalent d 0 bytes)) ↔ CanDiffer gold gate s t 0
+cycle-0-exactly = designs-cycle-0
+
+-- in either mode it is of depth 1
+pub cycle-0-at-depth-1 : (o : Options) (gold gate : Design) → Comparable gold gate → (s t : StoredBits) (d : ℕ) (bytes : List ℕ)
+    → checkDesigns o gold gate s t .verdict ≡ Search.NotEquivalent d 0 bytes → d ≡ 1
+cycle-0-at-depth-1 = designs-depth-1
+
+-- the same of a call's numbers
+pub call-cycle-0-exactly : (a b : List ℕ) (o : Options) (trace words : List ℕ) (scores : List Float) (gold gate : Design) → o .earliest ≡ true
+    → checkRefusal a b o (lentOf trace words scores) ≡ none → readPair a b ≡ both gold gate
+    → (check a b o trace words scores .answer .status ≡ 3 → check a b o trace words scores .answer .query ≢ 0)
+    → ((check a b o trace words scores .answer .status ≡ 1) × (check a b o trace words scores .answer .mismatch ≡ 0)) ↔ CanDiffer gold gate (initialBits gold) (initialBits gate) 0
+call-cycle-0-exactly = call-cycle-0
+
+-- where query 0 has a model, the trace is that model's own, and no other query is asked
+pub query-0-decides : (o : Options) → o .earliest ≡ true → 1 ≤ o .depth → (gold gate : Design) (s t : StoredBits) (values : List Bool) (n : ℕ)
+    → ask (o .limit) (baseCounterexample (problemOf gold gate s t) 0) ≡ model values n
+    → checkDesigns o gold gate s t
+    ≡ record { verdict = notEquivalentAt 1 values (baseCounterexample (problemOf gold gate s t) 0 .comparisons); asked = record { depth = 1; query = 0; learned = n } ∷ [] }
+query-0-decides = designs-first-decides
+
+-- the mode changes no refusal
+pub modes-refuse-alike : (a b : List ℕ) (o : Options) (earliest : Bool) (lent : Lent) → checkRefusal a b (inMode earliest o) lent ≡ checkRefusal a b o lent
+modes-refuse-alike = modes-refuse
+
+-- two checks to one depth, of any limits and modes, say the same status and depth where neither gives up
+pub options-agree : (o other : Options) → o .depth ≡ other .depth → (gold gate : Design) → Comparable gold gate → (s t : StoredBits) (p q : Status) (d e : ℕ)
+    → checkedDesigns o gold gate s t ≡ answered p d → checkedDesigns other gold gate s t ≡ answered q e → p ≢ GaveUp → q ≢ GaveUp → (p ≡ q) × (d ≡ e)
+options-agree = designs-agree
+
+-- the same of two calls
+pub calls-agree : (a b : List ℕ) (o other : Options) → o .depth ≡ other .depth → (trace words : List ℕ) (scores : List Float) (t w : List ℕ) (s : List Float)
+    → check a b o trace words scores .answer .number ≡ 0 → check a b other t w s .answer .number ≡ 0
+    → check a b o trace words scores .answer .status ≢ 3 → check a b other t w s .answer .status ≢ 3
+    → (check a b o trace words scores .answer .status ≡ check a b other t w s .answer .status) × (check a b o trace words scores .answer .depth ≡ check a b other t w s .answer .depth)
+calls-agree = call-agrees
+
+-- where outputs cannot differ in cycle 0, the verdict in the mode, mismatch and trace too, is that without it, unless query 0 gives up
+pub mode-keeps-verdict : (o : Options) (gold gate : Design) → Comparable gold gate → (s t : StoredBits) → EqualThrough gold gate s t 0
+    → (checkDesigns (inMode true o) gold gate s t .verdict ≡ checkDesigns (inMode false o) gold gate s t .verdict) ⊎ (checkDesigns (inMode true o) gold gate s t .verdict ≡ Search.GaveUp 1 0)
+mode-keeps-verdict = designs-keep
+
+-- the same of a call, refused or not: the seven numbers, and every byte of the trace buffer
+pub mode-keeps-call : (a b : List ℕ) (o : Options) (trace words : List ℕ) (scores : List Float) (gold gate : Design) → readPair a b ≡ both gold gate
+    → EqualThrough gold gate (initialBits gold) (initialBits gate) 0
+    → (check a b (inMode true o) trace words scores .answer .status ≡ 3 → check a b (inMode true o) trace words scores .answer .query ≢ 0)
+    → (sevenOf (check a b (inMode true o) trace words scores .answer) ≡ sevenOf (check a b (inMode false o) trace words scores .answer))
+    × (check a b (inMode true o) trace words scores .trace ≡ check a b (inMode false o) trace words scores .trace)
+mode-keeps-call = call-keeps
+
+-- without the mode a check is the loop over depths alone
+pub without-mode-as-ever : (o : Options) → o .earliest ≡ false → (gold gate : Design) (s t : StoredBits)
+    → checkDesigns o gold gate s t ≡ depths (o .limit) (problemOf gold gate s t) (o .depth) 0 (undecided [])
+without-mode-as-ever = designs-without
+
 -- ==== P4 and P5, demand 3: lists of any length
 
--- lists of any length of two or more, neighbours checked Equivalent either way, each check with its own depth, limit and memory: any two of the list show the same outputs in every cycle of every input sequence, and no check of them says NotEquivalent
+-- lists of any length of two or more, neighbours checked Equivalent either way, each check with its own depth, limit, mode and memory: any two of the list show the same outputs in every cycle of every input sequence, and no check of them says NotEquivalent
 pub chain-law : ChainLaw checked
 chain-law = check-chain
 
@@ -406,6 +496,11 @@ call-self-law = check-self
 pub self-is-equivalent : (a : List ℕ) (o : Options) (t w : List ℕ) (s : List Float) → check a a o t w s .answer .number ≡ 0
     → (check a a o t w s .answer .status ≡ 0) × (check a a o t w s .answer .depth ≡ 1)
 self-is-equivalent = call-self
+
+-- and nothing learned
+pub self-learns-nothing : (a : List ℕ) (o : Options) (t w : List ℕ) (s : List Float) → check a a o t w s .answer .number ≡ 0
+    → learnedOf (check a a o t w s .answer) ≡ record { depth = 1; query = firstQuery (o .earliest); learned = 0 }
+self-learns-nothing = call-self-idle
 
 -- ==== P9: replay
 

@@ -1,4 +1,4 @@
--- The words of `Promises` that `model` does not have: which designs are compared and linked, what a give-up is, which queries are asked and what they learn, what a give-up has proved, and what a call leaves. Definitions only, over `model` alone. Assumes nothing.
+-- The words of `Promises` that `model` does not have: which designs are compared and linked, what a give-up is, which queries are asked and what they learn, what a give-up has proved, which cycle is the earliest to differ, and what a call leaves. Definitions only, over `model` alone. Assumes nothing.
 use Prim.Native.Nat.{ℕ, suc, _+_, _-_, _*_, _≤_, _<_}
 use mathlib.Core.Path.{_≡_}
 use mathlib.Core.Logic.{_≢_, _⊎_}
@@ -11,7 +11,7 @@ use lib.Ieee.{Float}
 use Rattle.model.specs.Answers.{Refusal, accepted, Status, statusNumber, Asked, CheckAnswer, refusedAnswer}
 use Rattle.model.specs.Answers as Answers
 use Rattle.model.specs.Lists.{snoc}
-use Rattle.model.specs.Options.{Options, toDepth}
+use Rattle.model.specs.Options.{Options, toDepth, firstQuery}
 use Rattle.model.specs.Names.{Name, namesOf}
 use Rattle.model.specs.Netlist.{Node, Design, inputs, outputs, inputCount}
 use Rattle.model.specs.Record.{got, number, name, listedKind, nodesFrom, lengthFits}
@@ -187,10 +187,15 @@ pub record Comparable (gold gate : Design) : Type 0 where
 abbrev pub checkedDesigns : Options → Design → Design → StoredBits → StoredBits → Verdict
 checkedDesigns o gold gate s t = verdictSays (checkDesigns o gold gate s t .verdict)
 
--- the same is asked, under a limit that is as large or larger
+-- the same is asked, in the same mode, under a limit that is as large or larger
 pub record LargerLimit (o larger : Options) : Type 0 where
   pub depth : o .depth ≡ larger .depth
   pub limit : o .limit ≤ larger .limit
+  pub earliest : o .earliest ≡ larger .earliest
+
+-- options, in the mode of the earliest cycle or without it
+unfoldable pub inMode : Bool → Options → Options
+inMode earliest o = record { depth = o .depth; limit = o .limit; earliest = earliest }
 
 -- ---- a check to a maximum depth alone, where a caller sets no limit
 
@@ -297,15 +302,17 @@ pub record GivesUp (limit : ℕ) (g : Aig) (assumptions : List Literal) (k : ℕ
 
 -- ---- the whole check
 
--- the four queries of depth d, by their numbers
-pub data QueryOf (p : Problem) (d : ℕ) : ℕ → Query → Type 0 where
-  query-1 : QueryOf p d 1 (baseCounterexample p d)
-  query-2 : QueryOf p d 2 (basePreservesNamedState p d)
-  query-3 : QueryOf p d 3 (inductionCloses p true d)
-  query-4 : QueryOf p d 4 (inductionCloses p false d)
+-- the queries by depth and number: the four of depth d, and at depth 1 query 0, which is query 1 with depth 0
+pub data QueryOf (p : Problem) : ℕ → ℕ → Query → Type 0 where
+  query-0 : QueryOf p 1 0 (baseCounterexample p 0)
+  query-1 : {d : ℕ} → QueryOf p d 1 (baseCounterexample p d)
+  query-2 : {d : ℕ} → QueryOf p d 2 (basePreservesNamedState p d)
+  query-3 : {d : ℕ} → QueryOf p d 3 (inductionCloses p true d)
+  query-4 : {d : ℕ} → QueryOf p d 4 (inductionCloses p false d)
 
 -- the question that a query of two designs asks, from their start bits
 abbrev pub Asks : (gold gate : Design) (s t : StoredBits) (d k : ℕ) (q : Query) → QueryOf (problemOf gold gate s t) d k q → Type 0
+Asks gold gate s t d k q query-0 = Query1 gold gate s t 0
 Asks gold gate s t d k q query-1 = Query1 gold gate s t d
 Asks gold gate s t d k q query-2 = Query2 gold gate s t d
 Asks gold gate s t d k q query-3 = Query3 gold gate d
@@ -341,12 +348,15 @@ pub data Stops (limit : ℕ) (p : Problem) (d : ℕ) : ℕ → Type 0 where
   at-query-3 : NoModel limit (baseCounterexample p d) → NoModel limit (basePreservesNamedState p d) → Exceeds limit (inductionCloses p true d) → Stops limit p d 3
   at-query-4 : NoModel limit (baseCounterexample p d) → NamedOpen limit p d → Exceeds limit (inductionCloses p false d) → Stops limit p d 4
 
--- the check gives up at depth d in query q: no depth before it decides, and there it stops
-pub record StopsAt (o : Options) (p : Problem) (d q : ℕ) : Type 0 where
-  pub low : 1 ≤ d
-  pub high : d ≤ o .depth
-  pub passed : (e : ℕ) → 1 ≤ e → e < d → Passed (o .limit) p e
-  pub stops : Stops (o .limit) p d q
+-- in the mode of the earliest cycle query 0 has no model; without it there is none
+abbrev pub Cycle0Passed : Bool → ℕ → Problem → Type 0
+Cycle0Passed true limit p = NoModel limit (baseCounterexample p 0)
+Cycle0Passed false limit p = Unit {0}
+
+-- the check gives up at depth d in query q: in the mode query 0 exceeds the limit; or it has no model, no depth before d decides, and there the check stops
+pub data StopsAt (o : Options) (p : Problem) : ℕ → ℕ → Type 0 where
+  at-query-0 : o .earliest ≡ true → 1 ≤ o .depth → Exceeds (o .limit) (baseCounterexample p 0) → StopsAt o p 1 0
+  at-depth : {d q : ℕ} → 1 ≤ d → d ≤ o .depth → Cycle0Passed (o .earliest) (o .limit) p → ((e : ℕ) → 1 ≤ e → e < d → Passed (o .limit) p e) → Stops (o .limit) p d q → StopsAt o p d q
 
 -- ---- the queries that a check asks, and what they learn
 
@@ -395,9 +405,27 @@ pub record LastGivesUp (limit : ℕ) (p : Problem) (asked : List Asked) (d q : �
 abbrev pub EqualThrough : Design → Design → StoredBits → StoredBits → ℕ → Type 0
 EqualThrough gold gate s t through = (ins : InputSequence) (c : ℕ) → c ≤ through → differAt gold gate s t ins c ≡ false
 
--- the cycle by the place of the give-up: after query 1 its depth, in query 1 the depth before it, and none at depth 1
-unfoldable pub provedByPlace : ℕ → ℕ → Option ℕ
-provedByPlace d q = cond (ltb 1 q) (some d) (cond (ltb 1 d) (some (d - 1)) none)
+-- the cycle by the place of the give-up: after query 1 its depth, in query 1 the depth before it, and none in the first query of depth 1, which in the mode of the earliest cycle is query 0
+unfoldable pub provedByPlace : Bool → ℕ → ℕ → Option ℕ
+provedByPlace earliest d q = cond (ltb 1 q) (some d) (cond (ltb 1 d) (some (d - 1)) (cond (ltb (firstQuery earliest) q) (some 0) none))
+
+-- ---- the earliest cycle in which outputs differ
+
+-- some input sequence makes outputs differ in this cycle
+abbrev pub CanDiffer : Design → Design → StoredBits → StoredBits → ℕ → Type 0
+CanDiffer gold gate s t c = (ins : InputSequence) × (differAt gold gate s t ins c ≡ true)
+
+-- it is the least over all input sequences: outputs can differ in it, and in no cycle before it
+pub record Earliest (gold gate : Design) (s t : StoredBits) (m : ℕ) : Type 0 where
+  pub differs : CanDiffer gold gate s t m
+  pub alike : (ins : InputSequence) (c : ℕ) → c < m → differAt gold gate s t ins c ≡ false
+
+-- the mismatch of NotEquivalent at depth d: the least cycle, which is d or, at depth 1, cycle 0
+pub record EarliestAt (gold gate : Design) (s t : StoredBits) (d m : ℕ) : Type 0 where
+  pub least : Earliest gold gate s t m
+  pub place : (m ≡ d) ⊎ ((d ≡ 1) × (m ≡ 0))
+
+-- ---- a larger limit where both give up
 
 -- the second cycle is not below the first; none is the lowest
 abbrev pub NotBelow : Option ℕ → Option ℕ → Type 0

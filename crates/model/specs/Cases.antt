@@ -76,6 +76,10 @@ wireReading n = design (Input a ∷ Output y n ∷ []) []
 unfoldable pub inverter : Design
 inverter = design (Input a ∷ Not 0 ∷ Output y 1 ∷ []) []
 
+-- input a, and an output y that is 0
+unfoldable pub grounded : Design
+grounded = design (Input a ∷ Constant false ∷ Output y 1 ∷ []) []
+
 -- a register that takes Not of its own output, with this reset; y reads it
 unfoldable pub toggling : Name → Option Reset → Design
 toggling n reset = design (Input clk ∷ Input rst ∷ RegisterOutput ∷ Not 2 ∷ Output y 2 ∷ []) (reg n 2 3 reset ∷ [])
@@ -160,7 +164,11 @@ checking gold gate D n = checkingUnder gold gate (toDepth D) n
 
 -- to depth 1, under a limit
 unfoldable pub limiting : List ℕ → List ℕ → ℕ → ℕ → Call
-limiting gold gate limit n = checkingUnder gold gate (record { depth = 1; limit = limit }) n
+limiting gold gate limit n = checkingUnder gold gate (record { depth = 1; limit = limit; earliest = false }) n
+
+-- in the mode of the earliest cycle, to a depth, under a limit
+unfoldable pub seekingEarliest : List ℕ → List ℕ → ℕ → ℕ → ℕ → Call
+seekingEarliest gold gate D limit n = checkingUnder gold gate (record { depth = D; limit = limit; earliest = true }) n
 
 -- a query by its depth, its number and its total
 unfoldable pub asking : ℕ → ℕ → ℕ → Asked
@@ -234,13 +242,22 @@ table =
     ∷ (limiting (recordOf (toggle q)) (recordOf (toggle p)) 4294967301 5 gives refusing 36 5)
     ∷ (limiting (recordOf (toggle q)) wire 262145 5 gives refusing 36 5)
     ∷ (limiting (recordOf (toggle q)) wire 262144 5 gives refusing 18 5)
-    ∷ (checkingUnder wire wire (record { depth = 65; limit = 262145 }) 67 gives refusing 17 67)
-    ∷ (checkingUnder wire wire (record { depth = 0; limit = 262145 }) 66 gives refusing 16 66)
+    ∷ (checkingUnder wire wire (record { depth = 65; limit = 262145; earliest = false }) 67 gives refusing 17 67)
+    ∷ (checkingUnder wire wire (record { depth = 0; limit = 262145; earliest = false }) 66 gives refusing 16 66)
+    ∷ (checking wire (recordOf grounded) 1 4 gives saying 1 1 1 (asking 1 1 0) (0 ∷ 1 ∷ 1 ∷ []) 1)
+    ∷ (seekingEarliest wire (recordOf grounded) 1 262144 4 gives saying 1 1 0 (asking 1 0 0) (1 ∷ 1 ∷ []) 2)
+    ∷ (seekingEarliest wire (recordOf inverter) 1 0 4 gives saying 1 1 0 (asking 1 0 0) (0 ∷ 1 ∷ []) 2)
+    ∷ (seekingEarliest (recordOf (toggle q)) (recordOf (toggle p)) 1 1 5 gives saying 0 1 0 (asking 1 3 1) [] 5)
+    ∷ (seekingEarliest (recordOf (toggle q)) (recordOf (toggle p)) 1 0 5 gives givingUp 3 (asking 1 0 0) true 1 5)
+    ∷ (seekingEarliest (recordOf row) (recordOf holding) 1 0 7 gives saying 2 1 0 (asking 1 0 0) [] 7)
+    ∷ (seekingEarliest (recordOf row) (recordOf holding) 2 0 11 gives saying 1 2 2 (asking 1 0 0) (0 ∷ 1 ∷ 0 ∷ 0 ∷ 0 ∷ 0 ∷ 0 ∷ 0 ∷ 0 ∷ 1 ∷ []) 1)
+    ∷ (seekingEarliest wire wire 0 262145 66 gives refusing 16 66)
+    ∷ (seekingEarliest wire wire 1 262145 66 gives refusing 36 66)
     ∷ []
 
 -- naming this opens the definitions of this file and those it uses
 unfoldable pub all : Unit {0}
-unfolding design sync reg reset0 wire wireReading inverter toggling toggle unreset constant row holding conjunction lone replyOf run refusal checkingUnder checking limiting asking numbers saying refusing givingUp replaying _gives_ table Encode.all Replay.all Check.all
+unfolding design sync reg reset0 wire wireReading inverter grounded toggling toggle unreset constant row holding conjunction lone replyOf run refusal checkingUnder checking limiting seekingEarliest asking numbers saying refusing givingUp replaying _gives_ table Encode.all Replay.all Check.all
 all = tt
 
 -- the specification's bytes of the wire are the record of its design
@@ -253,7 +270,7 @@ cases : map (λ (c : Case). run (c .call)) table ≡ map (λ (c : Case). c .repl
 unfolding all
 cases = refl
 
--- the largest limit of learned literals, whatever the depth
-limit : toDepth 3 ≡ record { depth = 3; limit = 262144 }
+-- the largest limit of learned literals, without the mode, whatever the depth
+limit : toDepth 3 ≡ record { depth = 3; limit = 262144; earliest = false }
 unfolding all
 limit = refl

@@ -27,7 +27,7 @@ problemOf gold gate s t = record { gold = fromNetlist gold; gate = fromNetlist g
 
 -- two designs checked from stored bits on, under a caller's options
 unfoldable pub checkDesigns : Options → Design → Design → StoredBits → StoredBits → Outcome
-checkDesigns options gold gate s t = proveSequentialEquivalence (options .limit) (problemOf gold gate s t) (options .depth)
+checkDesigns options gold gate s t = proveSequentialEquivalence (options .earliest) (options .limit) (problemOf gold gate s t) (options .depth)
 
 -- ---- from the bytes of both records and the lengths of the lent buffers
 

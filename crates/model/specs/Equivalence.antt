@@ -1,4 +1,4 @@
--- The four queries of equivalence.rs, and the loop over depths. Definitions only.
+-- The four queries of equivalence.rs, and the loop over depths, before which query 0 may ask of cycle 0 alone. Definitions only.
 use Prim.Native.Nat.{ℕ, zero, suc, _-_}
 use mathlib.Core.Bool.{Bool, true, false, cond, xor as xorBool}
 use mathlib.Core.List.{List, [], _∷_, _++_, map}
@@ -437,9 +437,26 @@ depths limit p zero d (decided v earlier) = record { verdict = v; asked = earlie
 depths limit p (suc n) d (undecided earlier) = depths limit p n (suc d) (atDepth limit p (suc d) earlier)
 depths limit p (suc n) d (decided v earlier) = record { verdict = v; asked = earlier }
 
--- depths 1 to maxDepth
-unfoldable pub proveSequentialEquivalence : ℕ → Problem → ℕ → Outcome
-proveSequentialEquivalence limit p maxDepth = depths limit p maxDepth 0 (undecided [])
+-- after query 0, which is of depth 1: a no leaves all to query 1
+unfoldable pub afterQuery0 : List FrameComparison → Answer → Proving
+afterQuery0 cs (model values n) = decided (notEquivalentAt 1 values cs) (askedToo [] 1 0 n)
+afterQuery0 cs (noModel n) = undecided (askedToo [] 1 0 n)
+afterQuery0 cs (gaveUp n) = decided (GaveUp 1 0) (askedToo [] 1 0 n)
+afterQuery0 cs (outOfFuel n) = decided OutOfFuel (askedToo [] 1 0 n)
+
+-- query 0, given its graph
+unfoldable pub query0 : ℕ → Query → Proving
+query0 limit q = afterQuery0 (q .comparisons) (ask limit q)
+
+-- before query 1 of depth 1: nothing, or in the mode of the earliest cycle query 0, built as query 1 with depth 0; a check to depth 0 has no depth 1
+unfoldable pub beforeQuery1 : Bool → ℕ → Problem → ℕ → Proving
+beforeQuery1 false limit p maxDepth = undecided []
+beforeQuery1 true limit p zero = undecided []
+beforeQuery1 true limit p (suc n) = query0 limit (baseCounterexample p 0)
+
+-- depths 1 to maxDepth, in the mode of the earliest cycle or without it
+unfoldable pub proveSequentialEquivalence : Bool → ℕ → Problem → ℕ → Outcome
+proveSequentialEquivalence earliest limit p maxDepth = depths limit p maxDepth 0 (beforeQuery1 earliest limit p maxDepth)
 
 -- the query with the larger total, the first where they are equal
 unfoldable pub largerLearned : Asked → Asked → Asked
@@ -471,5 +488,5 @@ provedThrough OutOfFuel asked = none
 
 -- naming this in an `unfolding` line opens the definitions of this file and those it uses
 unfoldable pub all : Unit {0}
-unfolding remapLiteral withImported importNode importNodes importAig frameVariables frameOf importFrame withBuilt newVariables proofInputs stateLiteral consPair namedPairs orMismatch anyDifference comparePairs compareNamedState compareOutputs importFrames cycleOf comparedCycle baseStart baseQuery counterexampleNext counterexampleCompared counterexampleCycle counterexampleCycles baseCounterexample namedStateNext namedStateCompared namedStateCycle namedStateCycles basePreservesNamedState gateVariable matched gateVariables freeProductState cycleMismatch assumed inductionNext inductionCompared inductionCycle inductionCycles inductionQuery inductionCloses ask byte firstMismatch inputBytes markBytes firstMarks traceBytes askedToo notEquivalentAt afterQuery4 query4 afterQuery3 afterQuery2 afterQuery1 query1 atDepth depths proveSequentialEquivalence largerLearned largestFrom largestLearned provedBefore provedThrough Solving.all Graph.all Names.all xorBool
+unfolding remapLiteral withImported importNode importNodes importAig frameVariables frameOf importFrame withBuilt newVariables proofInputs stateLiteral consPair namedPairs orMismatch anyDifference comparePairs compareNamedState compareOutputs importFrames cycleOf comparedCycle baseStart baseQuery counterexampleNext counterexampleCompared counterexampleCycle counterexampleCycles baseCounterexample namedStateNext namedStateCompared namedStateCycle namedStateCycles basePreservesNamedState gateVariable matched gateVariables freeProductState cycleMismatch assumed inductionNext inductionCompared inductionCycle inductionCycles inductionQuery inductionCloses ask byte firstMismatch inputBytes markBytes firstMarks traceBytes askedToo notEquivalentAt afterQuery4 query4 afterQuery3 afterQuery2 afterQuery1 query1 atDepth depths afterQuery0 query0 beforeQuery1 proveSequentialEquivalence largerLearned largestFrom largestLearned provedBefore provedThrough Solving.all Graph.all Names.all xorBool
 all = tt

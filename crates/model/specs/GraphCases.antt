@@ -1,7 +1,7 @@
 -- Closed theorems on graphs: the operations' answers without a node, nodes that are shared, the graphs of the four queries, and the queries that a check asks, each by computation.
 use Prim.Native.Nat.{ℕ}
 use mathlib.Core.Path.{_≡_, refl}
-use mathlib.Core.Bool.{true, false}
+use mathlib.Core.Bool.{Bool, true, false}
 use mathlib.Core.List.{List, [], _∷_, map}
 use mathlib.Core.Option.{none, some}
 use Rattle.model.specs.Netlist.{Input, RegisterOutput, Not, Output, And, Or, Xor, Low, Design}
@@ -10,7 +10,7 @@ use Rattle.model.specs.Aig.{Constant, Variable, Aig, Built, and, or, xor
 use Rattle.model.specs.Aig as Graph
 use Rattle.model.specs.Run.{initialBits}
 use Rattle.model.specs.Sat.{outOfFuel}
-use Rattle.model.specs.Equivalence.{Problem, Verdict, Equivalent, NotEquivalent, Inconclusive, GaveUp, OutOfFuel, Outcome, decided, afterQuery1, afterQuery2, afterQuery3, afterQuery4, baseCounterexample, basePreservesNamedState, inductionCloses, largestLearned, provedThrough}
+use Rattle.model.specs.Equivalence.{Problem, Verdict, Equivalent, NotEquivalent, Inconclusive, GaveUp, OutOfFuel, Outcome, decided, afterQuery0, afterQuery1, afterQuery2, afterQuery3, afterQuery4, baseCounterexample, basePreservesNamedState, inductionCloses, largestLearned, provedThrough}
 use Rattle.model.specs.Check.{problemOf, checkDesigns, acceptedCheck, verdictAnswer, checkAnswer}
 use Rattle.model.specs.Cases.{a, b, e, h, p, q, y, clk, rst, design, sync, reg, reset0, toggle, holding, conjunction, asking, numbers}
 use Rattle.model.specs.Cases as Cases
@@ -84,20 +84,28 @@ query-4 = refl
 
 -- ---- the queries that a check asks
 
--- a check of two designs from their initial states, to depth 1
+-- a check of two designs from their initial states, to depth 1, in the mode of the earliest cycle or without it
+unfoldable pub outcomeBy : Bool → ℕ → Design → Design → Outcome
+outcomeBy earliest limit gold gate = checkDesigns (record { depth = 1; limit = limit; earliest = earliest }) gold gate (initialBits gold) (initialBits gate)
+
+-- in the mode, under the largest limit, to a depth
+unfoldable pub earliestTo : ℕ → Design → Design → Outcome
+earliestTo D gold gate = checkDesigns (record { depth = D; limit = 262144; earliest = true }) gold gate (initialBits gold) (initialBits gate)
+
+-- without it
 unfoldable pub outcome : ℕ → Design → Design → Outcome
-outcome limit gold gate = checkDesigns (record { depth = 1; limit = limit }) gold gate (initialBits gold) (initialBits gate)
+outcome = outcomeBy false
 
 -- query 3 has no model, after a conflict that learned one literal
 asked-to-query-3 : outcome 262144 (toggle q) (toggle p) .asked
     ≡ asking 1 1 0 ∷ asking 1 2 0 ∷ asking 1 3 1 ∷ []
-unfolding outcome Cases.all
+unfolding outcomeBy outcome Cases.all
 asked-to-query-3 = refl
 
 -- queries 3 and 4 have models
 asked-to-query-4 : outcome 262144 conjunction holding .asked
     ≡ asking 1 1 0 ∷ asking 1 2 0 ∷ asking 1 3 0 ∷ asking 1 4 0 ∷ []
-unfolding outcome Cases.all
+unfolding outcomeBy outcome Cases.all
 asked-to-query-4 = refl
 
 -- the largest total, and the first that has it: of none, of one, of equal ones, of the first and of the last
@@ -108,7 +116,7 @@ largest = refl
 
 -- under a limit of 0 the first literal is one too many: query 3 gives up, and the first query asked learned as much, nothing
 gives-up : checkAnswer (acceptedCheck (outcome 0 (toggle q) (toggle p))) ≡ numbers 0 0 0 3 1 0 3 (asking 1 1 0) true 1
-unfolding outcome Cases.all
+unfolding outcomeBy outcome Cases.all
 gives-up = refl
 
 -- y = a Xor b
@@ -122,8 +130,33 @@ gated = design (Input a ∷ Input b ∷ Or 0 1 ∷ And 0 1 ∷ Not 3 ∷ And 2 4
 -- query 1 learns 16 literals; under a smaller limit its total is the one before the clause that would pass it
 limited : map (λ limit. checkAnswer (acceptedCheck (outcome limit exclusive gated))) (262144 ∷ 12 ∷ 5 ∷ 3 ∷ [])
     ≡ numbers 0 0 0 0 1 0 0 (asking 1 1 16) false 0 ∷ map (λ total. numbers 0 0 0 3 1 0 1 (asking 1 1 total) false 0) (11 ∷ 4 ∷ 0 ∷ [])
-unfolding outcome exclusive gated Cases.all
+unfolding outcomeBy outcome exclusive gated Cases.all
 limited = refl
+
+-- in the mode of the earliest cycle query 0 is asked first, and once: at depth 1 alone
+asked-earliest : outcomeBy true 262144 (toggle q) (toggle p) .asked ∷ outcomeBy true 262144 conjunction holding .asked ∷ earliestTo 2 conjunction holding .asked ∷ []
+    ≡ (asking 1 0 0 ∷ asking 1 1 0 ∷ asking 1 2 0 ∷ asking 1 3 1 ∷ [])
+    ∷ (asking 1 0 0 ∷ asking 1 1 0 ∷ asking 1 2 0 ∷ asking 1 3 0 ∷ asking 1 4 0 ∷ [])
+    ∷ (asking 1 0 0 ∷ asking 1 1 0 ∷ asking 1 2 0 ∷ asking 1 3 0 ∷ asking 1 4 0 ∷ asking 2 1 0 ∷ asking 2 2 0 ∷ asking 2 3 0 ∷ asking 2 4 0 ∷ [])
+    ∷ []
+unfolding outcomeBy earliestTo Cases.all
+asked-earliest = refl
+
+-- a check to depth 0, which is refused, would ask nothing
+asked-to-depth-0 : earliestTo 0 (toggle q) (toggle p) ≡ record { verdict = Inconclusive 0; asked = [] }
+unfolding earliestTo Cases.all
+asked-to-depth-0 = refl
+
+-- query 0 learns 5 literals, query 1 after it 16: a give-up in query 0 has proved nothing, one in query 1 of depth 1 cycle 0
+limited-earliest : map (λ limit. checkAnswer (acceptedCheck (outcomeBy true limit exclusive gated))) (262144 ∷ 12 ∷ 5 ∷ 3 ∷ 0 ∷ [])
+    ≡ numbers 0 0 0 0 1 0 0 (asking 1 1 16) false 0
+    ∷ numbers 0 0 0 3 1 0 1 (asking 1 1 11) true 0
+    ∷ numbers 0 0 0 3 1 0 1 (asking 1 0 5) true 0
+    ∷ numbers 0 0 0 3 1 0 0 (asking 1 0 3) false 0
+    ∷ numbers 0 0 0 3 1 0 0 (asking 1 0 0) false 0
+    ∷ []
+unfolding outcomeBy exclusive gated Cases.all
+limited-earliest = refl
 
 -- what a give-up has proved: nothing where its query alone was asked, whatever its number; after others, the depth before it in query 1, be it 0, and its own depth after query 1
 proved : provedThrough (GaveUp 1 1) (asking 1 1 0 ∷ []) ∷ provedThrough (GaveUp 1 0) (asking 1 0 0 ∷ []) ∷ provedThrough (GaveUp 1 1) [] ∷ []
@@ -147,6 +180,10 @@ out-of-fuel : (p : Problem) → afterQuery1 9 p 5 [] [] (outOfFuel 7) ∷ afterQ
     ≡ map (λ q. decided OutOfFuel (record { depth = 5; query = q; learned = 7 } ∷ [])) (1 ∷ 2 ∷ 3 ∷ 4 ∷ [])
 unfolding Cases.all
 out-of-fuel p = refl
+
+out-of-fuel-0 : afterQuery0 [] (outOfFuel 7) ≡ decided OutOfFuel (asking 1 0 7 ∷ [])
+unfolding Cases.all
+out-of-fuel-0 = refl
 
 -- and would be answered with a status of its own
 no-end : verdictAnswer OutOfFuel (asking 2 3 9) (some 6) ≡ numbers 0 0 0 4 0 0 0 (asking 2 3 9) true 6

@@ -1,5 +1,6 @@
 -- What a problem by value and the words stand for, and what is asked and promised of its proof. Definitions only.
 use mathlib.Core.Path.{_≡_}
+use mathlib.Core.Bool.{Bool}
 use mathlib.Core.List.{List, map}
 use mathlib.Core.Option.{Option}
 use Prim.Native.Nat.{ℕ, suc, _+_, _*_, _≤_}
@@ -54,8 +55,8 @@ answerOfVerdict (NotEquivalent d m) = acceptedAnswer (statusNumber Answers.NotEq
 answerOfVerdict (Inconclusive d) = acceptedAnswer (statusNumber Answers.Inconclusive) d 0 0
 answerOfVerdict (GaveUp d q) = acceptedAnswer (statusNumber Answers.GaveUp) d 0 q
 
--- The verdict, the trace after it and the query that learned most are the model's.
-pub record Proves (x : Problem) (limit D : ℕ) (w trace : List ℕ) (r : Outcome) (trace′ : List ℕ) : Type 0 where
-  pub answer : (p : Model.Problem) → StandsFor x w p → (a : Asked) → answerOfVerdict (r .verdict) a ≡ verdictAnswer (proveSequentialEquivalence limit p D .verdict) a
-  pub traced : (p : Model.Problem) → StandsFor x w p → trace′ ≡ verdictTrace (proveSequentialEquivalence limit p D .verdict) trace
-  pub most : (p : Model.Problem) → StandsFor x w p → askedOf (r .most) ≡ largestLearned (proveSequentialEquivalence limit p D .asked)
+-- The verdict, the trace after it and the query that learned most are the model's, in the mode of the earliest cycle or without it.
+pub record Proves (x : Problem) (earliest : Bool) (limit D : ℕ) (w trace : List ℕ) (r : Outcome) (trace′ : List ℕ) : Type 0 where
+  pub answer : (p : Model.Problem) → StandsFor x w p → (a : Asked) → answerOfVerdict (r .verdict) a ≡ verdictAnswer (proveSequentialEquivalence earliest limit p D .verdict) a
+  pub traced : (p : Model.Problem) → StandsFor x w p → trace′ ≡ verdictTrace (proveSequentialEquivalence earliest limit p D .verdict) trace
+  pub most : (p : Model.Problem) → StandsFor x w p → askedOf (r .most) ≡ largestLearned (proveSequentialEquivalence earliest limit p D .asked)

@@ -1,5 +1,5 @@
 // A line of the call check:
-// `check GOLDHEX GATEHEX D LIMIT TRACELEN WORDSLEN SCORESLEN = NUMBER SIDE PLACE STATUS DEPTH MISMATCH QUERY LEARNED LDEPTH LQUERY EQUAL THROUGH TRACEHEX`.
+// `check GOLDHEX GATEHEX D LIMIT EARLIEST TRACELEN WORDSLEN SCORESLEN = NUMBER SIDE PLACE STATUS DEPTH MISMATCH QUERY LEARNED LDEPTH LQUERY EQUAL THROUGH TRACEHEX`.
 // The buffers that it asks for, the answer recorded in it, and what the buffers hold after the call.
 ghost use Prim.Native.Nat.{_≤_};
 use crate::lent::HELD_WORD;
@@ -19,12 +19,13 @@ use lender::text::hex;
 use lender::text::number;
 use lender::text::space;
 
-// What a line asks for: the lengths of the records, the depth, the limit and the lengths of the buffers; and the offset after them.
+// What a line asks for: the lengths of the records, the depth, the limit, 1 or 0 for the earliest cycle or not, and the lengths of the buffers; and the offset after them.
 pub struct Asked {
     pub gold: usize,
     pub gate: usize,
     pub depth: u64,
     pub limit: u64,
+    pub earliest: u64,
     pub trace: usize,
     pub words: usize,
     pub scores: usize,
@@ -34,7 +35,8 @@ pub struct Asked {
 fn asks(line: &[u8], records: Pair) -> Asked {
     let depth = number(line, space(line, records.next));
     let limit = number(line, space(line, depth.next));
-    let trace = number(line, space(line, limit.next));
+    let earliest = number(line, space(line, limit.next));
+    let trace = number(line, space(line, earliest.next));
     let words = number(line, space(line, trace.next));
     let scores = number(line, space(line, words.next));
     Asked {
@@ -42,6 +44,7 @@ fn asks(line: &[u8], records: Pair) -> Asked {
         gate: records.gate,
         depth: depth.value,
         limit: limit.value,
+        earliest: earliest.value,
         trace: trace.value as usize,
         words: words.value as usize,
         scores: scores.value as usize,
@@ -170,7 +173,11 @@ pub fn least(a: usize, b: usize) -> usize
     if a < b { a } else { b }
 }
 
-// Whether the line ends with its answer, and so much as it asks for can be lent.
+// Whether the line ends with its answer, its mode is 0 or 1, and so much as it asks for can be lent.
 pub fn fits(line: &[u8], q: Asked, t: Recorded, trace: usize, words: usize, scores: usize) -> bool {
-    t.next == line.len() && q.trace <= trace && q.words <= words && q.scores <= scores
+    t.next == line.len()
+        && q.earliest <= 1
+        && q.trace <= trace
+        && q.words <= words
+        && q.scores <= scores
 }

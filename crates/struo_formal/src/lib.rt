@@ -116,22 +116,27 @@ pub extern "C" fn struo_step(
     step(gold, gate, cycle, claim, position, bits)
 }
 
-// Check two records of any content and length to a maximum depth, under a limit of learned literals in each query, in lent memory of any content and
-// length: a refusal of 1 to 24 or 36, which leaves everything lent as it was, or a verdict. The trace is written for NotEquivalent only; words and
-// scores are all zero after an accepted check.
+// Check two records of any content and length to a maximum depth, under a limit of learned literals in each query, with cycle 0 alone put first where
+// the earliest mismatch is asked for, in lent memory of any content and length: a refusal of 1 to 24 or 36, which leaves everything lent as it was, or a
+// verdict. The trace is written for NotEquivalent only; words and scores are all zero after an accepted check.
 pub fn check(
     gold: &[u8],
     gate: &[u8],
     depth: u64,
     limit: u64,
+    earliest: bool,
     trace: &mut [u8],
     words: &mut [u32],
     scores: &mut [f64],
 ) -> CheckAnswer
     ensures { λ r. ⌜ checkedOf r (now (trace .exit)) (now (words .exit)) (now (scores .exit))
-        ≡ Check.check (now (gold .entry)) (now (gate .entry)) (record { depth = depth; limit = limit }) (now (trace .entry)) (now (words .entry)) (now (scores .entry)) ⌝ }
+        ≡ Check.check (now (gold .entry)) (now (gate .entry)) (record { depth = depth; limit = limit; earliest = earliest }) (now (trace .entry)) (now (words .entry)) (now (scores .entry)) ⌝ }
 {
-    let options = Options { depth, limit };
+    let options = Options {
+        depth,
+        limit,
+        earliest,
+    };
     checker::call::check(gold, gate, options, trace, words, scores)
 }
 
@@ -142,12 +147,13 @@ pub extern "C" fn struo_check(
     gate: &[u8],
     depth: u64,
     limit: u64,
+    earliest: bool,
     trace: &mut [u8],
     words: &mut [u32],
     scores: &mut [f64],
 ) -> CheckAnswer
     ensures { λ r. ⌜ checkedOf r (now (trace .exit)) (now (words .exit)) (now (scores .exit))
-        ≡ Check.check (now (gold .entry)) (now (gate .entry)) (record { depth = depth; limit = limit }) (now (trace .entry)) (now (words .entry)) (now (scores .entry)) ⌝ }
+        ≡ Check.check (now (gold .entry)) (now (gate .entry)) (record { depth = depth; limit = limit; earliest = earliest }) (now (trace .entry)) (now (words .entry)) (now (scores .entry)) ⌝ }
 {
-    check(gold, gate, depth, limit, trace, words, scores)
+    check(gold, gate, depth, limit, earliest, trace, words, scores)
 }

@@ -77,6 +77,7 @@ fn ask(
     words: &mut [u32],
     scores: &mut [f64],
 ) -> CheckAnswer {
+    let earliest = q.earliest == 1;
     let t = least(q.trace, trace.len());
     let w = least(q.words, words.len());
     let s = least(q.scores, scores.len());
@@ -85,6 +86,7 @@ fn ask(
         gate,
         q.depth,
         q.limit,
+        earliest,
         &mut trace[..t],
         &mut words[..w],
         &mut scores[..s],

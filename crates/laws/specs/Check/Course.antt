@@ -7,8 +7,8 @@ use mathlib.Core.Bool.{Bool, true, false}
 use mathlib.Core.List.{List, []}
 use Rattle.model.specs.Answers.{Asked}
 use Rattle.model.specs.Sat.{Answer, model, noModel, gaveUp, outOfFuel}
-use Rattle.model.specs.Equivalence.{Problem, Query, baseCounterexample, basePreservesNamedState, inductionCloses, ask, Verdict, Equivalent, Inconclusive, GaveUp, Proving, undecided, decided, askedToo, notEquivalentAt, afterQuery4, query4, afterQuery3, afterQuery2, afterQuery1, query1, atDepth, depths, proveSequentialEquivalence}
-use Rattle.laws.specs.Terms.{NoModel, Exceeds, NamedOpen, Passed, Stops, at-query-1, at-query-2, at-query-3, at-query-4}
+use Rattle.model.specs.Equivalence.{Problem, Query, baseCounterexample, basePreservesNamedState, inductionCloses, ask, Verdict, Equivalent, Inconclusive, GaveUp, Proving, undecided, decided, askedToo, notEquivalentAt, afterQuery4, query4, afterQuery3, afterQuery2, afterQuery1, query1, atDepth, depths, afterQuery0, query0, beforeQuery1, proveSequentialEquivalence}
+use Rattle.laws.specs.Terms.{NoModel, Exceeds, NamedOpen, Passed, Cycle0Passed, Stops, at-query-1, at-query-2, at-query-3, at-query-4}
 use Rattle.facts.specs.Numbers.{by-eq}
 use Rattle.laws.specs.Queries.Formed.{Askable, query-1-askable, query-2-askable, query-3-4-askable}
 use Rattle.laws.specs.Search.Ending.{solve-not-out}
@@ -21,10 +21,16 @@ pub data Decides (limit : ℕ) (p : Problem) (d : ℕ) : Verdict → Type 0 wher
   closes : NoModel limit (baseCounterexample p d) → NamedOpen limit p d → NoModel limit (inductionCloses p false d) → Decides limit p d (Equivalent d)
   stops : {q : ℕ} → Stops limit p d q → Decides limit p d (GaveUp d q)
 
--- every depth before d was passed, and d makes the verdict; or all depths were
-pub data Course (limit : ℕ) (p : Problem) (D : ℕ) : Verdict → Type 0 where
-  decides : (d : ℕ) {v : Verdict} → 1 ≤ d → d ≤ D → ((e : ℕ) → 1 ≤ e → e < d → Passed limit p e) → Decides limit p d v → Course limit p D v
-  passes : ((e : ℕ) → 1 ≤ e → e ≤ D → Passed limit p e) → Course limit p D (Inconclusive D)
+-- the answer to query 0 makes this verdict
+pub data Decides0 (limit : ℕ) (p : Problem) : Verdict → Type 0 where
+  differs-0 : (values : List Bool) (n : ℕ) → ask limit (baseCounterexample p 0) ≡ model values n → Decides0 limit p (notEquivalentAt 1 values (baseCounterexample p 0 .comparisons))
+  stops-0 : Exceeds limit (baseCounterexample p 0) → Decides0 limit p (GaveUp 1 0)
+
+-- in the mode of the earliest cycle query 0 makes the verdict; or it was passed, every depth before d was, and d makes it; or all were passed
+pub data Course (earliest : Bool) (limit : ℕ) (p : Problem) (D : ℕ) : Verdict → Type 0 where
+  decides-0 : {v : Verdict} → earliest ≡ true → 1 ≤ D → Decides0 limit p v → Course earliest limit p D v
+  decides : (d : ℕ) {v : Verdict} → 1 ≤ d → d ≤ D → Cycle0Passed earliest limit p → ((e : ℕ) → 1 ≤ e → e < d → Passed limit p e) → Decides limit p d v → Course earliest limit p D v
+  passes : (1 ≤ D → Cycle0Passed earliest limit p) → ((e : ℕ) → 1 ≤ e → e ≤ D → Passed limit p e) → Course earliest limit p D (Inconclusive D)
 
 -- ---- a query that is asked
 
@@ -85,28 +91,44 @@ module _ (limit : ℕ) (p : Problem) where
     unfolding atDepth query1
     depth-leaves earlier = after-1 earlier (ask limit (baseCounterexample p d)) refl
 
-  -- what the loop carries after depth d
-  abbrev SoFar : ℕ → ℕ → Proving → Type 0
-  SoFar D d (undecided earlier) = (e : ℕ) → 1 ≤ e → e ≤ d → Passed limit p e
-  SoFar D d (decided v earlier) = Course limit p D v
+  module _ (earliest : Bool) where
+    -- what the loop carries after depth d
+    abbrev SoFar : ℕ → ℕ → Proving → Type 0
+    SoFar D d (undecided earlier) = (1 ≤ D → Cycle0Passed earliest limit p) × ((e : ℕ) → 1 ≤ e → e ≤ d → Passed limit p e)
+    SoFar D d (decided v earlier) = Course earliest limit p D v
 
-  so-far : (D d : ℕ) → 1 ≤ d → d ≤ D → ((e : ℕ) → 1 ≤ e → e < d → Passed limit p e) → (r : Proving) → Leaves d r → SoFar D d r
-  so-far D d low high passed (undecided earlier) h = λ e a b. by-eq e d (λ z. subst (Passed limit p) (sym z) h) (λ z. passed e a (omega arith))
-  so-far D d low high passed (decided v earlier) h = decides d low high passed h
+    so-far : (D d : ℕ) → 1 ≤ d → d ≤ D → (1 ≤ D → Cycle0Passed earliest limit p) → ((e : ℕ) → 1 ≤ e → e < d → Passed limit p e) → (r : Proving) → Leaves d r → SoFar D d r
+    so-far D d low high first passed (undecided earlier) h = (first, λ e a b. by-eq e d (λ z. subst (Passed limit p) (sym z) h) (λ z. passed e a (omega arith)))
+    so-far D d low high first passed (decided v earlier) h = decides d low high (first (omega arith)) passed h
 
-  depths-course : (D n d : ℕ) → n + d ≡ D → (r : Proving) → SoFar D d r → Course limit p D (depths limit p n d r .verdict)
-  unfolding depths
-  depths-course D zero d z (undecided earlier) h = let q : D ≡ d = omega arith in subst (λ k. Course limit p D (Inconclusive k)) q (passes (λ e a b. h e a (omega arith)))
-  depths-course D zero d z (decided v earlier) h = h
-  depths-course D (suc n) d z (undecided earlier) h =
-      depths-course D n (suc d) (omega arith) (atDepth limit p (suc d) earlier)
-      (so-far D (suc d) (omega arith) (omega arith) (λ e a b. h e a (omega arith)) (atDepth limit p (suc d) earlier) (depth-leaves (suc d) earlier))
-  depths-course D (suc n) d z (decided v earlier) h = h
+    depths-course : (D n d : ℕ) → n + d ≡ D → (r : Proving) → SoFar D d r → Course earliest limit p D (depths limit p n d r .verdict)
+    unfolding depths
+    depths-course D zero d z (undecided earlier) h =
+        let q : D ≡ d = omega arith in subst (λ k. Course earliest limit p D (Inconclusive k)) q (passes (h .0) (λ e a b. h .1 e a (omega arith)))
+    depths-course D zero d z (decided v earlier) h = h
+    depths-course D (suc n) d z (undecided earlier) h =
+        depths-course D n (suc d) (omega arith) (atDepth limit p (suc d) earlier)
+        (so-far D (suc d) (omega arith) (omega arith) (h .0) (λ e a b. h .1 e a (omega arith)) (atDepth limit p (suc d) earlier) (depth-leaves (suc d) earlier))
+    depths-course D (suc n) d z (decided v earlier) h = h
+
+  -- what is known before query 1 of depth 1
+  after-0 : (D : ℕ) → 1 ≤ D → (a : Answer) → ask limit (baseCounterexample p 0) ≡ a → SoFar true D 0 (afterQuery0 (baseCounterexample p 0 .comparisons) a)
+  unfolding afterQuery0
+  after-0 D low (model values n) e = decides-0 refl low (differs-0 values n e)
+  after-0 D low (noModel n) e = (λ l. (n, e), λ i a b. absurd (omega arith))
+  after-0 D low (gaveUp n) e = decides-0 refl low (stops-0 (exceeds limit _ (query-1-askable p 0) n e))
+  after-0 D low (outOfFuel n) e = absurd (ends limit _ (query-1-askable p 0) n e)
+
+  before-course : (earliest : Bool) (D : ℕ) → SoFar earliest D 0 (beforeQuery1 earliest limit p D)
+  unfolding beforeQuery1 query0
+  before-course false D = (λ l. tt, λ e a b. absurd (omega arith))
+  before-course true zero = (λ l. absurd (omega arith), λ e a b. absurd (omega arith))
+  before-course true (suc n) = after-0 (suc n) (omega arith) (ask limit (baseCounterexample p 0)) refl
 
   -- every verdict has its course; none is that a search ran out of rounds
-  pub verdict-course : (D : ℕ) → Course limit p D (proveSequentialEquivalence limit p D .verdict)
+  pub verdict-course : (earliest : Bool) (D : ℕ) → Course earliest limit p D (proveSequentialEquivalence earliest limit p D .verdict)
   unfolding proveSequentialEquivalence
-  verdict-course D = depths-course D D 0 (omega arith) (undecided []) (λ e a b. absurd (omega arith))
+  verdict-course earliest D = depths-course earliest D D 0 (omega arith) (beforeQuery1 earliest limit p D) (before-course earliest D)
 
   -- ---- a course has one verdict
 
@@ -190,8 +212,36 @@ module _ (limit : ℕ) (p : Problem) where
       let z : n + suc d ≡ suc n + d = omega arith in
       ap (λ r. depths limit p n (suc d) r .verdict) (x .1) ∙ depths-pass n (suc d) (λ k a b. f k a (omega arith)) (x .0) ∙ ap Inconclusive z
 
+  -- query 0 decides
+  decide-0 : (v : Verdict) → Decides0 limit p v → (asked : List Asked) × (query0 limit (baseCounterexample p 0) ≡ decided v asked)
+  unfolding query0 afterQuery0
+  decide-0 v (differs-0 values n e) = (askedToo [] 1 0 n, ap (afterQuery0 (baseCounterexample p 0 .comparisons)) e)
+  decide-0 v (stops-0 x) =
+      let g = gave-up limit _ (query-1-askable p 0) x in
+      (askedToo [] 1 0 (g .0), ap (afterQuery0 (baseCounterexample p 0 .comparisons)) (g .1))
+
+  -- or it is passed
+  before-passed : (earliest : Bool) (D : ℕ) → (1 ≤ D → Cycle0Passed earliest limit p) → (asked : List Asked) × (beforeQuery1 earliest limit p D ≡ undecided asked)
+  unfolding beforeQuery1 query0 afterQuery0
+  before-passed false D f = ([], refl)
+  before-passed true zero f = ([], refl)
+  before-passed true (suc n) f =
+      let x = f (omega arith) in
+      (askedToo [] 1 0 (x .0), ap (afterQuery0 (baseCounterexample p 0 .comparisons)) (x .1))
+
+  before-decided : (D : ℕ) (v : Verdict) → 1 ≤ D → Decides0 limit p v → depths limit p D 0 (beforeQuery1 true limit p D) .verdict ≡ v
+  unfolding beforeQuery1
+  before-decided zero v low w = absurd (omega arith)
+  before-decided (suc n) v low w = let x = decide-0 v w in ap (λ r. depths limit p (suc n) 0 r .verdict) (x .1) ∙ verdict-now (suc n) 0 v (x .0)
+
   -- the verdict of a course is the check's
-  pub course-verdict : (D : ℕ) (v : Verdict) → Course limit p D v → proveSequentialEquivalence limit p D .verdict ≡ v
+  pub course-verdict : (earliest : Bool) (D : ℕ) (v : Verdict) → Course earliest limit p D v → proveSequentialEquivalence earliest limit p D .verdict ≡ v
   unfolding proveSequentialEquivalence
-  course-verdict D v (decides d low high passed w) = depths-decide D 0 d v (omega arith) (omega arith) passed w []
-  course-verdict D v (passes f) = let z : D + 0 ≡ D = omega arith in depths-pass D 0 (λ k a b. f k a (omega arith)) [] ∙ ap Inconclusive z
+  course-verdict earliest D v (decides-0 mode low w) = ap (λ e. depths limit p D 0 (beforeQuery1 e limit p D) .verdict) mode ∙ before-decided D v low w
+  course-verdict earliest D v (decides d low high first passed w) =
+      let x = before-passed earliest D (λ l. first) in
+      ap (λ r. depths limit p D 0 r .verdict) (x .1) ∙ depths-decide D 0 d v (omega arith) (omega arith) passed w (x .0)
+  course-verdict earliest D v (passes first f) =
+      let x = before-passed earliest D first in
+      let z : D + 0 ≡ D = omega arith in
+      ap (λ r. depths limit p D 0 r .verdict) (x .1) ∙ depths-pass D 0 (λ k a b. f k a (omega arith)) (x .0) ∙ ap Inconclusive z

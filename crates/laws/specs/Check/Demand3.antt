@@ -6,14 +6,15 @@ use mathlib.Core.List.{List, List·Memᴰ}
 use mathlib.Core.Option.{Option, none, some}
 use lib.Ieee.{Float}
 use Rattle.model.specs.Answers.{Refusal, Status, Equivalent, NotEquivalent, GaveUp, statusNumber, refusedAnswer}
-use Rattle.model.specs.Options.{Options}
+use Rattle.model.specs.Options.{Options, firstQuery}
 use Rattle.model.specs.Pair.{Lent, checkRefusal}
 use Rattle.model.specs.Induction.{answered, Checked, goldFirst, gateFirst, Chain, two, more, Joined}
 use Rattle.model.specs.Check.{lentOf, check, checked}
-use Rattle.laws.specs.Terms.{Numbered, CalledEquivalent, as-given, swapped}
+use Rattle.laws.specs.Terms.{Numbered, learnedOf, CalledEquivalent, as-given, swapped}
 use Rattle.laws.specs.Induction.Pairs.{refusal-swap}
 use Rattle.laws.specs.Check.Call.{check-refused, check-numbered}
-use Rattle.laws.specs.Check.Self.{check-self}
+use Rattle.laws.specs.Check.Self.{check-self, check-self-idle}
+use Rattle.laws.specs.Check.Learned.{call-as-outcome}
 use Rattle.laws.specs.Check.Records.{check-swap, check-chain}
 use Rattle.laws.specs.Check.Ending.{check-answers}
 use Rattle.laws.specs.Check.Refusals.{check-within, check-not-zero}
@@ -106,3 +107,8 @@ call-self a o t w s z =
     let n : Numbered (check a a o t w s .answer) (r .0) (r .1) = check-numbered a a o t w s (r .0) (r .1) (r .2) in
     let v = check-self a o (lentOf t w s) (r .0) (r .1) (r .2) in
     (n .status-number ∙ ap statusNumber (v .0), n .depth ∙ v .1)
+
+-- and tells that nothing was learned
+pub call-self-idle : (a : List ℕ) (o : Options) (t w : List ℕ) (s : List Float) → check a a o t w s .answer .number ≡ 0
+    → learnedOf (check a a o t w s .answer) ≡ record { depth = 1; query = firstQuery (o .earliest); learned = 0 }
+call-self-idle a o t w s z = call-as-outcome a a o t w s .learned ∙ check-self-idle a o (lentOf t w s) (number-zero a a o t w s .0 z)

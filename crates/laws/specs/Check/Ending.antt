@@ -1,6 +1,7 @@
 -- The check always ends with an answer: no query runs out of rounds, so a check is refused or answered with a status and a depth. Assumes nothing.
 use Prim.Native.Nat.{ℕ}
 use mathlib.Core.Path.{_≡_, refl, _∙_}
+use mathlib.Core.Bool.{Bool}
 use mathlib.Core.List.{List}
 use mathlib.Core.Option.{none}
 use Rattle.model.specs.Answers.{Status}
@@ -15,7 +16,7 @@ use Rattle.model.specs.Check.{problemOf, checkDesigns, verdictSays, checked}
 use Rattle.laws.specs.Terms.{checkedDesigns}
 use Rattle.laws.specs.Induction.Pairs.{Accepted, accepted-pair}
 use Rattle.laws.specs.Check.Call.{checked-is}
-use Rattle.laws.specs.Check.Course.{Decides, differs, closes-named, closes, stops, Course, decides, passes, verdict-course}
+use Rattle.laws.specs.Check.Course.{Decides, differs, closes-named, closes, stops, Decides0, differs-0, stops-0, Course, decides-0, decides, passes, verdict-course}
 
 -- the verdict is not that a search ran out of rounds
 abbrev Ends : Verdict → Type 0
@@ -32,9 +33,15 @@ decided-ends limit p d v (closes-named f s x) = tt
 decided-ends limit p d v (closes f s x) = tt
 decided-ends limit p d v (stops s) = tt
 
-course-ends : (limit : ℕ) (p : Problem) (D : ℕ) (v : Verdict) → Course limit p D v → Ends v
-course-ends limit p D v (decides d low high passed w) = decided-ends limit p d v w
-course-ends limit p D v (passes f) = tt
+decided-0-ends : (limit : ℕ) (p : Problem) (v : Verdict) → Decides0 limit p v → Ends v
+unfolding notEquivalentAt
+decided-0-ends limit p v (differs-0 values n e) = tt
+decided-0-ends limit p v (stops-0 x) = tt
+
+course-ends : (earliest : Bool) (limit : ℕ) (p : Problem) (D : ℕ) (v : Verdict) → Course earliest limit p D v → Ends v
+course-ends earliest limit p D v (decides-0 mode low w) = decided-0-ends limit p v w
+course-ends earliest limit p D v (decides d low high first passed w) = decided-ends limit p d v w
+course-ends earliest limit p D v (passes first f) = tt
 
 -- a verdict that ends has a status and a depth
 ends-answered : (v : Verdict) → Ends v → (status : Status) × (d : ℕ) × (verdictSays v ≡ answered status d)
@@ -48,7 +55,8 @@ ends-answered OutOfFuel h = absurd h
 -- the check of two designs, from any start bits, answers a status and a depth
 pub designs-answer : (o : Options) (gold gate : Design) (s t : StoredBits) → (status : Status) × (d : ℕ) × (checkedDesigns o gold gate s t ≡ answered status d)
 unfolding checkDesigns
-designs-answer o gold gate s t = ends-answered _ (course-ends (o .limit) (problemOf gold gate s t) (o .depth) _ (verdict-course (o .limit) (problemOf gold gate s t) (o .depth)))
+designs-answer o gold gate s t =
+    ends-answered _ (course-ends (o .earliest) (o .limit) (problemOf gold gate s t) (o .depth) _ (verdict-course (o .limit) (problemOf gold gate s t) (o .earliest) (o .depth)))
 
 -- so does the check of two records, where no refusal applies
 pub check-answers : (a b : List ℕ) (o : Options) (lent : Lent) → checkRefusal a b o lent ≡ none

@@ -3,7 +3,7 @@ use Prim.Native.Nat.{ℕ, zero, suc, _≤_, _<_}
 use native.Mathlib.Omega.{arith}
 use mathlib.Core.Path.{_≡_, refl, sym, ap, subst, _∙_}
 use mathlib.Core.Logic.{_↔_}
-use mathlib.Core.Bool.{true, false}
+use mathlib.Core.Bool.{Bool, true, false}
 use mathlib.Core.List.{List}
 use mathlib.Core.Option.{Option, none, some}
 use lib.ListN.{length}
@@ -16,45 +16,59 @@ use Rattle.model.specs.Run.{StoredBits, initialBits}
 use Rattle.model.specs.Pair.{both, readPair, checkRefusal}
 use Rattle.model.specs.Equivalence.{Problem, Query, baseCounterexample, basePreservesNamedState, inductionCloses, ask, Verdict, Equivalent, NotEquivalent, Inconclusive, GaveUp, OutOfFuel, askedToo, notEquivalentAt, largestLearned, provedThrough}
 use Rattle.model.specs.Check.{problemOf, checkDesigns, verdictAnswer, checkAnswer, CheckResult, checkResult, lentOf, check}
-use Rattle.laws.specs.Check.Course.{Decides, differs, closes-named, closes, stops, Course, decides, passes, verdict-course, course-verdict}
-use Rattle.laws.specs.Check.Walk.{Final, Asking, nothing, deeper, further, Walked, all-passed, last-gave-up, last-decided, prove-walk}
+use Rattle.laws.specs.Check.Course.{Decides, differs, closes-named, closes, stops, Decides0, differs-0, stops-0, Course, decides-0, decides, passes, verdict-course, course-verdict}
+use Rattle.laws.specs.Check.Walk.{Final, Asking, nothing, first, deeper, further, Walked, all-passed, last-gave-up, last-decided, prove-walk}
 use Rattle.laws.specs.Check.Queries.{query-gives-up}
 use Rattle.laws.specs.Check.Call.{call-is}
 use Rattle.laws.specs.Lists.{length-snoc, last-same}
 use Rattle.laws.specs.Search.Total.{solve-total}
-use Rattle.laws.specs.Terms.{learnedOf, provedOf, Settled, answerTotal, QueryOf, query-1, query-2, query-3, query-4, Passed, StopsAt, LastGivesUp}
+use Rattle.laws.specs.Terms.{learnedOf, provedOf, Settled, answerTotal, QueryOf, query-0, query-1, query-2, query-3, query-4, Passed, Cycle0Passed, StopsAt, at-query-0, at-depth, LastGivesUp}
 
 -- ---- a give-up is where the check stops, and the other way round
 
-decided-stops : (o : Options) (p : Problem) (d : ℕ) (v : Verdict) → 1 ≤ d → d ≤ o .depth → ((e : ℕ) → 1 ≤ e → e < d → Passed (o .limit) p e) → Decides (o .limit) p d v
-    → (e q : ℕ) → v ≡ GaveUp e q → StopsAt o p e q
+decided-stops : (o : Options) (p : Problem) (d : ℕ) (v : Verdict) → 1 ≤ d → d ≤ o .depth → Cycle0Passed (o .earliest) (o .limit) p → ((e : ℕ) → 1 ≤ e → e < d → Passed (o .limit) p e)
+    → Decides (o .limit) p d v → (e q : ℕ) → v ≡ GaveUp e q → StopsAt o p e q
 unfolding notEquivalentAt
-decided-stops o p d v low high passed (differs values n x) e q z = absurd (let y : _≡_ {A = ℕ} 0 1 = cc in omega arith)
-decided-stops o p d v low high passed (closes-named f s x) e q z = absurd (let y : _≡_ {A = ℕ} 0 1 = cc in omega arith)
-decided-stops o p d v low high passed (closes f s x) e q z = absurd (let y : _≡_ {A = ℕ} 0 1 = cc in omega arith)
-decided-stops o p d v low high passed (stops {q = k} s) e q z =
+decided-stops o p d v low high zeroth passed (differs values n x) e q z = absurd (let y : _≡_ {A = ℕ} 0 1 = cc in omega arith)
+decided-stops o p d v low high zeroth passed (closes-named f s x) e q z = absurd (let y : _≡_ {A = ℕ} 0 1 = cc in omega arith)
+decided-stops o p d v low high zeroth passed (closes f s x) e q z = absurd (let y : _≡_ {A = ℕ} 0 1 = cc in omega arith)
+decided-stops o p d v low high zeroth passed (stops {q = k} s) e q z =
     let a : d ≡ e = cc in
     let b : k ≡ q = cc in
-    subst (λ x. StopsAt o p x q) a (subst (StopsAt o p d) b (record { low = low; high = high; passed = passed; stops = s }))
+    subst (λ x. StopsAt o p x q) a (subst (StopsAt o p d) b (at-depth low high zeroth passed s))
 
-course-stops : (o : Options) (p : Problem) (v : Verdict) → Course (o .limit) p (o .depth) v → (e q : ℕ) → v ≡ GaveUp e q → StopsAt o p e q
-course-stops o p v (decides d low high passed w) e q z = decided-stops o p d v low high passed w e q z
-course-stops o p v (passes f) e q z = absurd (let y : _≡_ {A = ℕ} 0 1 = cc in omega arith)
+decided-0-stops : (o : Options) (p : Problem) (v : Verdict) → o .earliest ≡ true → 1 ≤ o .depth → Decides0 (o .limit) p v → (e q : ℕ) → v ≡ GaveUp e q → StopsAt o p e q
+unfolding notEquivalentAt
+decided-0-stops o p v mode low (differs-0 values n x) e q z = absurd (let y : _≡_ {A = ℕ} 0 1 = cc in omega arith)
+decided-0-stops o p v mode low (stops-0 x) e q z =
+    let a : 1 ≡ e = cc in
+    let b : 0 ≡ q = cc in
+    subst (λ i. StopsAt o p i q) a (subst (StopsAt o p 1) b (at-query-0 mode low x))
+
+course-stops : (o : Options) (p : Problem) (v : Verdict) → Course (o .earliest) (o .limit) p (o .depth) v → (e q : ℕ) → v ≡ GaveUp e q → StopsAt o p e q
+course-stops o p v (decides-0 mode low w) e q z = decided-0-stops o p v mode low w e q z
+course-stops o p v (decides d low high zeroth passed w) e q z = decided-stops o p d v low high zeroth passed w e q z
+course-stops o p v (passes zeroth f) e q z = absurd (let y : _≡_ {A = ℕ} 0 1 = cc in omega arith)
+
+-- and where the check stops there is a course to its give-up
+stops-course : (o : Options) (p : Problem) (d q : ℕ) → StopsAt o p d q → Course (o .earliest) (o .limit) p (o .depth) (GaveUp d q)
+stops-course o p d q (at-query-0 mode low x) = decides-0 mode low (stops-0 x)
+stops-course o p d q (at-depth low high zeroth passed w) = decides d low high zeroth passed (stops w)
 
 -- the verdict on two designs, from any start bits, names depth and query exactly where the check stops
 pub designs-give-up : (o : Options) (gold gate : Design) (s t : StoredBits) (d q : ℕ) → (checkDesigns o gold gate s t .verdict ≡ GaveUp d q) ↔ StopsAt o (problemOf gold gate s t) d q
 unfolding checkDesigns
 designs-give-up o gold gate s t d q =
     let p = problemOf gold gate s t in (
-      λ e. course-stops o p _ (verdict-course (o .limit) p (o .depth)) d q e,
-      λ w. course-verdict (o .limit) p (o .depth) (GaveUp d q) (decides d (w .low) (w .high) (w .passed) (stops (w .stops))),
+      λ e. course-stops o p _ (verdict-course (o .limit) p (o .earliest) (o .depth)) d q e,
+      λ w. course-verdict (o .limit) p (o .earliest) (o .depth) (GaveUp d q) (stops-course o p d q w),
     )
 
 -- ---- and in the last query asked
 
 -- a query by its number
 queryAt : Problem → ℕ → ℕ → Query
-queryAt p d zero = baseCounterexample p d
+queryAt p d zero = baseCounterexample p 0
 queryAt p d (suc zero) = baseCounterexample p d
 queryAt p d (suc (suc zero)) = basePreservesNamedState p d
 queryAt p d (suc (suc (suc zero))) = inductionCloses p true d
@@ -62,6 +76,7 @@ queryAt p d (suc (suc (suc (suc k)))) = inductionCloses p false d
 
 query-is : (p : Problem) (d k : ℕ) (q : Query) → QueryOf p d k q → q ≡ queryAt p d k
 unfolding queryAt
+query-is p d k q query-0 = refl
 query-is p d k q query-1 = refl
 query-is p d k q query-2 = refl
 query-is p d k q query-3 = refl
@@ -70,13 +85,14 @@ query-is p d k q query-4 = refl
 same-query : (p : Problem) (d k c j : ℕ) (q r : Query) → QueryOf p d k q → QueryOf p c j r → d ≡ c → k ≡ j → q ≡ r
 same-query p d k c j q r w v x y = query-is p d k q w ∙ ap (λ i. queryAt p i k) x ∙ ap (queryAt p c) y ∙ sym (query-is p c j r v)
 
-module _ (limit : ℕ) (p : Problem) (D : ℕ) where
+module _ (earliest : Bool) (limit : ℕ) (p : Problem) (D : ℕ) where
   -- the last of those so far was settled
-  asking-settled : (d k : ℕ) (earlier : List Asked) → Asking limit p D d k earlier → (before : List Asked) (c j n : ℕ) (r : Query)
+  asking-settled : (d k : ℕ) (earlier : List Asked) → Asking earliest limit p D d k earlier → (before : List Asked) (c j n : ℕ) (r : Query)
       → earlier ≡ snoc before (record { depth = c; query = j; learned = n }) → QueryOf p c j r → Settled (ask limit r)
   unfolding askedToo
-  asking-settled d k earlier nothing before c j n r z w = absurd (omega (arith, ap length z, length-snoc before (record { depth = c; query = j; learned = n })))
-  asking-settled d k earlier (deeper {d = b} h l) before c j n r z w = asking-settled b 5 earlier h before c j n r z w
+  asking-settled d k earlier (nothing y) before c j n r z w = absurd (omega (arith, ap length z, length-snoc before (record { depth = c; query = j; learned = n })))
+  asking-settled d k earlier (first l) before c j n r z w = absurd (omega (arith, ap length z, length-snoc before (record { depth = c; query = j; learned = n })))
+  asking-settled d k earlier (deeper {d = b} l h m) before c j n r z w = asking-settled b 5 earlier h before c j n r z w
   asking-settled d k earlier (further {k = i} {earlier = es} q a next h v e t l) before c j n r z w =
       let x = last-same es before _ _ z in
       subst Settled (sym e ∙ ap (ask limit) (same-query p d i c j q r v w (ap (λ (b : Asked). b .depth) x) (ap (λ (b : Asked). b .query) x))) t
@@ -85,7 +101,7 @@ module _ (limit : ℕ) (p : Problem) (D : ℕ) where
   gives-unsettled : (asked : List Asked) (d q : ℕ) (x : LastGivesUp limit p asked d q) → Settled (ask limit (x .query)) → ⊥
   gives-unsettled asked d q x t = subst Settled (query-gives-up limit p d q (x .query) (x .named) (x .total) .1 (x .gives-up)) t
 
-  walk-gives : (v : Verdict) (asked : List Asked) → Walked limit p D v asked → (d q : ℕ) → v ≡ GaveUp d q → LastGivesUp limit p asked d q
+  walk-gives : (v : Verdict) (asked : List Asked) → Walked earliest limit p D v asked → (d q : ℕ) → v ≡ GaveUp d q → LastGivesUp limit p asked d q
   unfolding askedToo answerTotal ask
   walk-gives v asked (all-passed h) d q z = absurd (let y : _≡_ {A = ℕ} 0 1 = cc in omega arith)
   walk-gives v asked (last-gave-up {d = c} {k = j} {earlier = es} r n h w e) d q z =
@@ -103,7 +119,7 @@ module _ (limit : ℕ) (p : Problem) (D : ℕ) where
       subst (λ i. LastGivesUp limit p asked i q) x (subst (LastGivesUp limit p asked c) y k)
   walk-gives v asked (last-decided r a h w e t f) d q z = absurd (subst Final z f)
 
-  walk-given : (v : Verdict) (asked : List Asked) → Walked limit p D v asked → (d q : ℕ) → LastGivesUp limit p asked d q → v ≡ GaveUp d q
+  walk-given : (v : Verdict) (asked : List Asked) → Walked earliest limit p D v asked → (d q : ℕ) → LastGivesUp limit p asked d q → v ≡ GaveUp d q
   unfolding askedToo
   walk-given v asked (all-passed h) d q x = absurd (gives-unsettled asked d q x (asking-settled D 5 asked h (x .before) d q (x .total) (x .query) (x .last) (x .named)))
   walk-given v asked (last-gave-up {d = c} {k = j} {earlier = es} r n h w e) d q x =
@@ -120,8 +136,8 @@ pub designs-last : (o : Options) (gold gate : Design) (s t : StoredBits) (d q : 
 unfolding checkDesigns
 designs-last o gold gate s t d q =
     let p = problemOf gold gate s t in
-    let w = prove-walk (o .limit) p (o .depth) in
-    (walk-gives (o .limit) p (o .depth) _ _ w d q, walk-given (o .limit) p (o .depth) _ _ w d q)
+    let w = prove-walk (o .limit) p (o .earliest) (o .depth) in
+    (walk-gives (o .earliest) (o .limit) p (o .depth) _ _ w d q, walk-given (o .earliest) (o .limit) p (o .depth) _ _ w d q)
 
 -- ---- the call
 

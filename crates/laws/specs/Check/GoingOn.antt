@@ -11,14 +11,14 @@ use lib.Ieee.{Float}
 use borrow.Author.Tests.{ltb-true, ltb-false}
 use Rattle.model.specs.Answers.{Asked, CheckAnswer}
 use Rattle.model.specs.Lists.{snoc}
-use Rattle.model.specs.Options.{Options}
+use Rattle.model.specs.Options.{Options, firstQuery}
 use Rattle.model.specs.Netlist.{Design}
 use Rattle.model.specs.Run.{StoredBits, initialBits}
 use Rattle.model.specs.Pair.{checkRefusal}
 use Rattle.model.specs.Sat.{Answer, model, noModel, gaveUp, outOfFuel}
-use Rattle.model.specs.Equivalence.{Problem, Query, baseCounterexample, basePreservesNamedState, inductionCloses, ask, Verdict, Equivalent, NotEquivalent, Inconclusive, GaveUp, OutOfFuel, Outcome, Proving, undecided, decided, askedToo, notEquivalentAt, afterQuery4, query4, afterQuery3, afterQuery2, afterQuery1, query1, atDepth, depths, proveSequentialEquivalence}
+use Rattle.model.specs.Equivalence.{Problem, Query, baseCounterexample, basePreservesNamedState, inductionCloses, ask, Verdict, Equivalent, NotEquivalent, Inconclusive, GaveUp, OutOfFuel, Outcome, Proving, undecided, decided, askedToo, notEquivalentAt, afterQuery4, query4, afterQuery3, afterQuery2, afterQuery1, query1, atDepth, depths, afterQuery0, query0, beforeQuery1, proveSequentialEquivalence}
 use Rattle.model.specs.Check.{problemOf, checkDesigns, lentOf, check}
-use Rattle.laws.specs.Terms.{learnedOf, LargerLimit, answerTotal, Sooner, FirstLargest, provedByPlace, NotBelow, GoesOn, AsFar}
+use Rattle.laws.specs.Terms.{learnedOf, LargerLimit, answerTotal, StopsAt, at-query-0, at-depth, Sooner, FirstLargest, provedByPlace, NotBelow, GoesOn, AsFar}
 use Rattle.laws.specs.Lists.{last-or-later}
 use Rattle.laws.specs.Search.Limits.{give-up-no-less}
 use Rattle.laws.specs.Induction.Pairs.{Accepted, accepted-pair}
@@ -73,6 +73,13 @@ module _ (limit : ℕ) (p : Problem) where
     next-1 earlier (noModel n) = next-before earlier _ _ _ (next-2 (askedToo earlier d 1 n) (ask limit (basePreservesNamedState p d)))
     next-1 earlier (gaveUp n) = ([], refl)
     next-1 earlier (outOfFuel n) = ([], refl)
+
+  next-0 : (a : Answer) → Next [] (record { depth = 1; query = 0; learned = answerTotal a }) (ended (afterQuery0 (baseCounterexample p 0 .comparisons) a) .asked)
+  unfolding afterQuery0 askedToo snoc answerTotal
+  next-0 (model values n) = ([], refl)
+  next-0 (noModel n) = ([], refl)
+  next-0 (gaveUp n) = ([], refl)
+  next-0 (outOfFuel n) = ([], refl)
 
   -- the loop adds to those asked so far
   depths-add : (n d : ℕ) (r : Proving) → (more : List Asked) × (depths limit p n d r .asked ≡ ended r .asked ++ more)
@@ -169,6 +176,20 @@ module _ (limit larger : ℕ) (le : limit ≤ larger) (p : Problem) where
     unfolding atDepth query1
     depth-onward earlier = onward-1 earlier (ask limit (baseCounterexample p d)) refl
 
+  onward-0 : (a : Answer) → ask limit (baseCounterexample p 0) ≡ a
+      → Onward (afterQuery0 (baseCounterexample p 0 .comparisons) a) (afterQuery0 (baseCounterexample p 0 .comparisons) (ask larger (baseCounterexample p 0)))
+  unfolding afterQuery0 notEquivalentAt
+  onward-0 (model values n) e = tt
+  onward-0 (noModel n) e = ap (afterQuery0 (baseCounterexample p 0 .comparisons)) (asked-same limit larger le p _ _ e tt)
+  onward-0 (gaveUp n) e = gave-up-onward 1 0 n _ [] _ e (next-0 larger p _)
+  onward-0 (outOfFuel n) e = tt
+
+  before-onward : (earliest : Bool) (D : ℕ) → Onward (beforeQuery1 earliest limit p D) (beforeQuery1 earliest larger p D)
+  unfolding beforeQuery1 query0
+  before-onward false D = refl
+  before-onward true zero = refl
+  before-onward true (suc n) = onward-0 (ask limit (baseCounterexample p 0)) refl
+
   -- a loop that has given up, and one that goes on from there
   decided-goes-on : (n d : ℕ) (v : Verdict) (earlier : List Asked) (r : Proving) → Onward (decided v earlier) r → (e q : ℕ) → v ≡ GaveUp e q
       → GoesOn (ended (decided v earlier)) (depths larger p n d r) e q
@@ -195,9 +216,15 @@ pub designs-go-on : (o larger : Options) → LargerLimit o larger → (gold gate
     → GoesOn (checkDesigns o gold gate s t) (checkDesigns larger gold gate s t) d q
 unfolding checkDesigns proveSequentialEquivalence
 designs-go-on o larger le gold gate s t d q z =
-    rw (← le .depth) (depths-go-on (o .limit) (larger .limit) (le .limit) (problemOf gold gate s t) (o .depth) 0 (undecided []) (undecided []) refl d q z)
+    let p = problemOf gold gate s t in
+    rw (← le .depth, ← le .earliest) (depths-go-on (o .limit) (larger .limit) (le .limit) p (o .depth) 0 _ _ (before-onward (o .limit) (larger .limit) (le .limit) p (o .earliest) (o .depth)) d q z)
 
 -- ---- as far
+
+-- a check stops at depth 1 or deeper
+stops-low : (o : Options) (p : Problem) (d q : ℕ) → StopsAt o p d q → 1 ≤ d
+stops-low o p d q (at-query-0 mode low x) = omega arith
+stops-low o p d q (at-depth low high zeroth passed w) = low
 
 -- the place of a give-up is not before another
 abbrev NotBefore : ℕ → ℕ → ℕ → ℕ → Type 0
@@ -233,19 +260,27 @@ beyond d q e k (inl h) l = h
 beyond d q e k (inr h) l = absurd (omega (arith, h .1, l))
 
 -- it proves no lower cycle
-place-not-below : (d q e k : ℕ) → 1 ≤ d → NotBefore d q e k → NotBelow (provedByPlace d q) (provedByPlace e k)
+place-not-below : (earliest : Bool) (d q e k : ℕ) → 1 ≤ d → NotBefore d q e k → NotBelow (provedByPlace earliest d q) (provedByPlace earliest e k)
 unfolding provedByPlace
-place-not-below d q e k low h = go (ltb 1 q) (ltb 1 d) (ltb 1 k) (ltb 1 e) refl refl refl refl
+place-not-below earliest d q e k low h = go (ltb 1 q) (ltb 1 d) (ltb first q) (ltb 1 k) (ltb 1 e) (ltb first k) refl refl refl refl refl refl
   where
-    go : (q' d' k' e' : Bool) → ltb 1 q ≡ q' → ltb 1 d ≡ d' → ltb 1 k ≡ k' → ltb 1 e ≡ e'
-        → NotBelow (cond q' (some d) (cond d' (some (d - 1)) none)) (cond k' (some e) (cond e' (some (e - 1)) none))
-    go true d' true e' x y z w = not-above d q e k h
-    go true d' false true x y z w = let l = beyond d q e k h (omega (arith, ltb-true 1 q x, ltb-false 1 k z)) in omega (arith, l)
-    go true d' false false x y z w = let l = beyond d q e k h (omega (arith, ltb-true 1 q x, ltb-false 1 k z)) in absurd (omega (arith, l, low, ltb-false 1 e w))
-    go false true true e' x y z w = omega (arith, not-above d q e k h)
-    go false true false true x y z w = omega (arith, not-above d q e k h)
-    go false true false false x y z w = absurd (omega (arith, not-above d q e k h, ltb-true 1 d y, ltb-false 1 e w))
-    go false false k' e' x y z w = tt
+    first : ℕ
+    first = firstQuery earliest
+
+    go : (q' d' f' k' e' g' : Bool) → ltb 1 q ≡ q' → ltb 1 d ≡ d' → ltb first q ≡ f' → ltb 1 k ≡ k' → ltb 1 e ≡ e' → ltb first k ≡ g'
+        → NotBelow (cond q' (some d) (cond d' (some (d - 1)) (cond f' (some 0) none))) (cond k' (some e) (cond e' (some (e - 1)) (cond g' (some 0) none)))
+    go true d' f' true e' g' x y u z w v = not-above d q e k h
+    go true d' f' false true g' x y u z w v = let l = beyond d q e k h (omega (arith, ltb-true 1 q x, ltb-false 1 k z)) in omega (arith, l)
+    go true d' f' false false g' x y u z w v = let l = beyond d q e k h (omega (arith, ltb-true 1 q x, ltb-false 1 k z)) in absurd (omega (arith, l, low, ltb-false 1 e w))
+    go false true f' true e' g' x y u z w v = omega (arith, not-above d q e k h)
+    go false true f' false true g' x y u z w v = omega (arith, not-above d q e k h)
+    go false true f' false false g' x y u z w v = absurd (omega (arith, not-above d q e k h, ltb-true 1 d y, ltb-false 1 e w))
+    go false false true true e' g' x y u z w v = omega arith
+    go false false true false true g' x y u z w v = omega arith
+    go false false true false false true x y u z w v = omega arith
+    go false false true false false false x y u z w v =
+        let l = beyond d q e k h (omega (arith, ltb-true first q u, ltb-false first k v)) in absurd (omega (arith, l, low, ltb-false 1 e w))
+    go false false false k' e' g' x y u z w v = tt
 
 -- none of the queries learned more than the one that learned most
 most-of : (asked : List Asked) (most : Asked) → FirstLargest asked most → (a : Asked) → List·Memᴰ a asked → a .learned ≤ most .learned
@@ -301,10 +336,11 @@ call-as-far a b o larger le trace words scores t w s h i = go (accepted-pair a b
         let g = designs-go-on o larger le (k .gold) (k .gate) x y (first .depth) (first .query) v in
         let l = designs-last larger (k .gold) (k .gate) x y (second .depth) (second .query) .0 u in
         let place = not-before larger (k .gold) (k .gate) x y (g .before) (g .after) (l .before) (first .depth) (first .query) (g .larger-total) (second .depth) (second .query) (l .total) (g .went-on) (l .last) in
-        let low = designs-give-up o (k .gold) (k .gate) x y (first .depth) (first .query) .0 v .low in
+        let low = stops-low o _ (first .depth) (first .query) (designs-give-up o (k .gold) (k .gate) x y (first .depth) (first .query) .0 v) in
+        let m = ap (λ (earliest : Bool). provedByPlace earliest (second .depth) (second .query)) (sym (le .earliest)) in
         record {
           place = place;
-          proved = rw (call-place a b o trace words scores h, call-place a b larger t w s i) (place-not-below (first .depth) (first .query) (second .depth) (second .query) low place);
+          proved = rw (call-place a b o trace words scores h, call-place a b larger t w s i, m) (place-not-below (o .earliest) (first .depth) (first .query) (second .depth) (second .query) low place);
           learned = unfold learnedOf in learned-no-less _ _ _ _ g (learnedOf first) (learnedOf second)
               (call-largest a b o trace words scores (k .gold) (k .gate) free (k .pair)) (call-largest a b larger t w s (k .gold) (k .gate) larger-free (k .pair));
         }

@@ -3,8 +3,8 @@ use Prim.Native.Nat.{ℕ, zero, suc, _≤_}
 use native.Mathlib.Omega.{arith}
 use mathlib.Core.Path.{_≡_, refl, sym, ap, _∙_, subst}
 use mathlib.Core.Logic.{_≢_}
-use mathlib.Core.Bool.{true, false}
-use mathlib.Core.List.{List, []}
+use mathlib.Core.Bool.{Bool, true, false}
+use mathlib.Core.List.{List}
 use mathlib.Core.Option.{Option, none, some}
 use lib.Ieee.{Float}
 use Rattle.model.specs.Answers.{Refusal, Status, statusNumber, Asked}
@@ -15,7 +15,7 @@ use Rattle.model.specs.Run.{StoredBits, initialBits}
 use Rattle.model.specs.Pair.{Lent, checkRefusal}
 use Rattle.model.specs.Induction.{answered}
 use Rattle.model.specs.Sat.{Answer, model, noModel, gaveUp, outOfFuel}
-use Rattle.model.specs.Equivalence.{Problem, Query, baseCounterexample, basePreservesNamedState, inductionCloses, ask, Verdict, Equivalent, NotEquivalent, Inconclusive, GaveUp, OutOfFuel, Outcome, Proving, undecided, decided, askedToo, afterQuery4, query4, afterQuery3, afterQuery2, afterQuery1, query1, atDepth, depths, proveSequentialEquivalence}
+use Rattle.model.specs.Equivalence.{Problem, Query, baseCounterexample, basePreservesNamedState, inductionCloses, ask, Verdict, Equivalent, NotEquivalent, Inconclusive, GaveUp, OutOfFuel, Outcome, Proving, undecided, decided, askedToo, afterQuery4, query4, afterQuery3, afterQuery2, afterQuery1, query1, atDepth, depths, afterQuery0, query0, beforeQuery1, proveSequentialEquivalence}
 use Rattle.model.specs.Check.{problemOf, checkDesigns, checkOutcome, checkAnswer, traceAfter, clearedAfter, checkResult, lentOf, check, verdictSays, checked}
 use Rattle.laws.specs.Search.Limits.{solve-same}
 use Rattle.laws.specs.Terms.{Numbered, checkedDesigns, LargerLimit, Settled}
@@ -91,10 +91,24 @@ module _ (limit larger : ℕ) (le : limit ≤ larger) (p : Problem) where
       ap (depths larger p n (suc d)) (depth-same (suc d) earlier (final-so-far n (suc d) (atDepth limit p (suc d) earlier) f)) ∙ depths-same n (suc d) (atDepth limit p (suc d) earlier) f
   depths-same (suc n) d (decided v earlier) f = refl
 
+  same-0 : (a : Answer) → ask limit (baseCounterexample p 0) ≡ a → FinalSoFar (afterQuery0 (baseCounterexample p 0 .comparisons) a) → ask larger (baseCounterexample p 0) ≡ a
+  unfolding afterQuery0
+  same-0 (model values n) e f = asked-same _ _ e tt
+  same-0 (noModel n) e f = asked-same _ _ e tt
+  same-0 (gaveUp n) e f = absurd f
+  same-0 (outOfFuel n) e f = absurd f
+
+  before-same : (earliest : Bool) (D : ℕ) → FinalSoFar (beforeQuery1 earliest limit p D) → beforeQuery1 earliest larger p D ≡ beforeQuery1 earliest limit p D
+  unfolding beforeQuery1 query0
+  before-same false D f = refl
+  before-same true zero f = refl
+  before-same true (suc n) f = ap (afterQuery0 (baseCounterexample p 0 .comparisons)) (same-0 (ask limit (baseCounterexample p 0)) refl f)
+
   -- the whole outcome, where the verdict was not cut short
-  prove-same : (D : ℕ) → Final (proveSequentialEquivalence limit p D .verdict) → proveSequentialEquivalence larger p D ≡ proveSequentialEquivalence limit p D
+  prove-same : (earliest : Bool) (D : ℕ) → Final (proveSequentialEquivalence earliest limit p D .verdict) → proveSequentialEquivalence earliest larger p D ≡ proveSequentialEquivalence earliest limit p D
   unfolding proveSequentialEquivalence
-  prove-same D f = depths-same D 0 (undecided []) f
+  prove-same earliest D f =
+      ap (depths larger p D 0) (before-same earliest D (final-so-far D 0 (beforeQuery1 earliest limit p D) f)) ∙ depths-same D 0 (beforeQuery1 earliest limit p D) f
 
 -- a status other than GaveUp comes of a verdict that was not cut short
 final-says : (v : Verdict) (status : Status) (d : ℕ) → verdictSays v ≡ answered status d → status ≢ Answers.GaveUp → Final v
@@ -112,7 +126,8 @@ module _ (o larger : Options) (le : LargerLimit o larger) where
   unfolding checkDesigns
   designs-larger gold gate s t status d h n =
       let p = problemOf gold gate s t in
-      ap (proveSequentialEquivalence (larger .limit) p) (sym (le .depth)) ∙ prove-same (o .limit) (larger .limit) (le .limit) p (o .depth) (final-says _ status d h n)
+      ap (λ e. proveSequentialEquivalence e (larger .limit) p (larger .depth)) (sym (le .earliest))
+      ∙ ap (proveSequentialEquivalence (o .earliest) (larger .limit) p) (sym (le .depth)) ∙ prove-same (o .limit) (larger .limit) (le .limit) p (o .earliest) (o .depth) (final-says _ status d h n)
 
   module _ (small : larger .limit ≤ 262144) where
     -- it refuses what the smaller one does

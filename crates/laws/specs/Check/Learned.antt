@@ -10,7 +10,7 @@ use lib.Dec.{ltb}
 use lib.Ieee.{Float}
 use borrow.Author.Tests.{ltb-true, ltb-false}
 use Rattle.model.specs.Answers.{Refusal, statusNumber, Asked, refusedAnswer, acceptedAnswer}
-use Rattle.model.specs.Options.{Options}
+use Rattle.model.specs.Options.{Options, firstQuery}
 use Rattle.model.specs.Netlist.{Design}
 use Rattle.model.specs.Run.{StoredBits, initialBits}
 use Rattle.model.specs.Pair.{both, readPair, checkRefusal}
@@ -107,7 +107,7 @@ pub designs-largest : (o : Options) (gold gate : Design) (s t : StoredBits) → 
 unfolding largestLearned
 designs-largest o gold gate s t low =
     let x = designs-first o gold gate s t low in
-    subst (λ (l : List Asked). FirstLargest l (largestLearned l)) (sym (x .2)) (largest-first (record { depth = 1; query = 1; learned = x .0 }) (x .1))
+    subst (λ (l : List Asked). FirstLargest l (largestLearned l)) (sym (x .2)) (largest-first (record { depth = 1; query = firstQuery (o .earliest); learned = x .0 }) (x .1))
 
 -- ---- the call
 
@@ -139,14 +139,14 @@ module _ (a b : List ℕ) (o : Options) (trace words : List ℕ) (scores : List 
     call-largest = subst (FirstLargest asked) (sym call-learned) (designs-largest o gold gate (initialBits gold) (initialBits gate) positive)
 
     -- where no query learned anything it tells of the first
-    pub call-nothing : ((x : Asked) → List·Memᴰ x asked → x .learned ≡ 0) → learnedOf (check a b o trace words scores .answer) ≡ record { depth = 1; query = 1; learned = 0 }
+    pub call-nothing : ((x : Asked) → List·Memᴰ x asked → x .learned ≡ 0) → learnedOf (check a b o trace words scores .answer) ≡ record { depth = 1; query = firstQuery (o .earliest); learned = 0 }
     call-nothing zeros =
         let x = designs-first o gold gate (initialBits gold) (initialBits gate) positive in
-        let first : Asked = record { depth = 1; query = 1; learned = x .0 } in
+        let first : Asked = record { depth = 1; query = firstQuery (o .earliest); learned = x .0 } in
         let all : (y : Asked) → List·Memᴰ y (first ∷ x .1) → y .learned ≡ 0 = subst (λ (l : List Asked). (y : Asked) → List·Memᴰ y l → y .learned ≡ 0) (x .2) zeros in
         let f = call-largest in
         all-zero first (learnedOf (check a b o trace words scores .answer)) (x .1) (f .before) (f .after) all (sym (x .2) ∙ f .stands) (f .less)
-        ∙ ap (λ (n : ℕ). record { depth = 1; query = 1; learned = n }) (all first (List·Memᴰ·head refl))
+        ∙ ap (λ (n : ℕ). record { depth = 1; query = firstQuery (o .earliest); learned = n }) (all first (List·Memᴰ·head refl))
 
   -- the total of a call, refused or not, is within its limit, and at most 262,144
   pub call-within : (check a b o trace words scores .answer .learned ≤ o .limit) × (check a b o trace words scores .answer .learned ≤ 262144)
@@ -161,7 +161,7 @@ module _ (a b : List ℕ) (o : Options) (trace words : List ℕ) (scores : List 
           let z : check a b o trace words scores .answer .learned ≡ largestLearned (asked (k .gold) (k .gate) e (k .pair)) .learned =
           unfold learnedOf in ap (λ (x : Asked). x .learned) (call-learned (k .gold) (k .gate) e (k .pair)) in
           let y : largestLearned (asked (k .gold) (k .gate) e (k .pair)) .learned ≤ o .limit =
-          unfold checkDesigns in largest-within (o .limit) (problemOf (k .gold) (k .gate) (initialBits (k .gold)) (initialBits (k .gate))) (o .depth) in
+          unfold checkDesigns in largest-within (o .earliest) (o .limit) (problemOf (k .gold) (k .gate) (initialBits (k .gold)) (initialBits (k .gate))) (o .depth) in
           (omega (arith, z, y), omega (arith, z, y, limit-small (k .gold) (k .gate) o (lentOf trace words scores) (k .free)))
 
 verdict-seven : (v : Verdict) (most : Asked) (proved : Option ℕ) → sevenOf (verdictAnswer v most proved) ≡ verdictSeven v

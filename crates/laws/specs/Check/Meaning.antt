@@ -16,7 +16,7 @@ use Rattle.model.specs.Sat.{model, noModel}
 use Rattle.model.specs.Equivalence.{Problem, Query, baseCounterexample, basePreservesNamedState, inductionCloses, ask, firstMismatch, traceBytes, Verdict, Equivalent, NotEquivalent, Inconclusive, GaveUp, OutOfFuel, notEquivalentAt}
 use Rattle.model.specs.Check.{problemOf, checkDesigns}
 use Rattle.laws.specs.Terms.{Comparable, TraceGood, NoModel, Model, NamedOpen, Passed}
-use Rattle.laws.specs.Check.Course.{Decides, differs, closes-named, closes, stops, Course, decides, passes, verdict-course}
+use Rattle.laws.specs.Check.Course.{Decides, differs, closes-named, closes, stops, Decides0, differs-0, stops-0, Course, decides-0, decides, passes, verdict-course}
 use Rattle.laws.specs.Search.Model.{refutes, finds}
 use Rattle.facts.specs.Lists.{All}
 use Rattle.laws.specs.Queries.Base.{Satisfies, query-1-from, query-1-to, query-2-from, query-2-to}
@@ -100,24 +100,40 @@ module _ (limit : ℕ) where
         open-ended (inl x) = named-open d (w .named) x
         open-ended (inr x) = x (yes-4 d (w .last))
 
+    -- the trace of a model of query 1 replays yes, within its cycles
+    pub model-replays : (d : ℕ) (values : List Bool) (n : ℕ) → ask limit (baseCounterexample p d) ≡ model values n
+        → TraceGood gold gate s t d (firstMismatch values (baseCounterexample p d .comparisons))
+        (traceBytes values (baseCounterexample p d .comparisons) (firstMismatch values (baseCounterexample p d .comparisons)))
+    model-replays d values n e =
+        let r = found _ values n (query-1-askable p d) e in
+        let q = baseCounterexample p d in
+        subst (λ (v : List Bool). TraceGood gold gate s t d (firstMismatch v (q .comparisons)) (traceBytes v (q .comparisons) (firstMismatch v (q .comparisons)))) (sym (r .values-are))
+        (trace-replays gold gate (c .gold-valid) (c .gate-valid) (c .input-names) s t (c .output-names) d (r .environment) (r .satisfies))
+
     decided-spoken : (D d : ℕ) (v : Verdict) → 1 ≤ d → d ≤ D → UndecidedBelow gold gate s t d → Decides limit p d v → Spoken gold gate s t D v
     unfolding notEquivalentAt
-    decided-spoken D d v low high before (differs values n e) =
-        let r = found _ values n (query-1-askable p d) e in
-        let q = baseCounterexample p d in (
-          notEquivalent low high before (yes-1 d (values, n, e)),
-          subst (λ (v : List Bool). TraceGood gold gate s t d (firstMismatch v (q .comparisons)) (traceBytes v (q .comparisons) (firstMismatch v (q .comparisons)))) (sym (r .values-are))
-              (trace-replays gold gate (c .gold-valid) (c .gate-valid) (c .input-names) s t (c .output-names) d (r .environment) (r .satisfies)),
-        )
+    decided-spoken D d v low high before (differs values n e) = (notEquivalent low high before (yes-1 d (values, n, e)), model-replays d values n e)
     decided-spoken D d v low high before (closes-named f x y) = equivalent low high before (no-1 d f) (inl (no-2 d x, no-3 d y))
     decided-spoken D d v low high before (closes f x y) = equivalent low high before (no-1 d f) (inr (no-4 d y))
     decided-spoken D d v low high before (stops x) = tt
 
-    course-spoken : (D : ℕ) (v : Verdict) → Course limit p D v → Spoken gold gate s t D v
-    course-spoken D v (decides d low high passed w) = decided-spoken D d v low high (λ e a b. passed-undecided e (passed e a b)) w
-    course-spoken D v (passes f) = inconclusive (λ e a b. passed-undecided e (f e a (omega arith)))
+    -- a difference in cycle 0 is one of depth 1
+    decided-0-spoken : (D : ℕ) (v : Verdict) → 1 ≤ D → Decides0 limit p v → Spoken gold gate s t D v
+    unfolding notEquivalentAt
+    decided-0-spoken D v high (differs-0 values n e) =
+        let x = yes-1 0 (values, n, e) in
+        let r = model-replays 0 values n e in (
+          notEquivalent {d = 1} (omega arith) high (λ i a b. absurd (omega arith)) (record { ins = x .ins; cycle = x .cycle; within = omega (arith, x .within); differ = x .differ }),
+          record { replay = r .replay; early = omega (arith, r .early); size = r .size; bits = r .bits },
+        )
+    decided-0-spoken D v high (stops-0 x) = tt
+
+    course-spoken : (earliest : Bool) (D : ℕ) (v : Verdict) → Course earliest limit p D v → Spoken gold gate s t D v
+    course-spoken earliest D v (decides-0 mode low w) = decided-0-spoken D v low w
+    course-spoken earliest D v (decides d low high first passed w) = decided-spoken D d v low high (λ e a b. passed-undecided e (passed e a b)) w
+    course-spoken earliest D v (passes first f) = inconclusive (λ e a b. passed-undecided e (f e a (omega arith)))
 
 -- the verdict of a check is what k-induction says from the start bits, and its trace replays yes
 pub designs-speak : (o : Options) (gold gate : Design) → Comparable gold gate → (s t : StoredBits) → Spoken gold gate s t (o .depth) (checkDesigns o gold gate s t .verdict)
 unfolding checkDesigns
-designs-speak o gold gate c s t = course-spoken (o .limit) gold gate c s t (o .depth) _ (verdict-course (o .limit) (problemOf gold gate s t) (o .depth))
+designs-speak o gold gate c s t = course-spoken (o .limit) gold gate c s t (o .earliest) (o .depth) _ (verdict-course (o .limit) (problemOf gold gate s t) (o .earliest) (o .depth))

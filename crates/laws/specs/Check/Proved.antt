@@ -12,7 +12,7 @@ use lib.Ieee.{Float}
 use borrow.Author.Tests.{ltb-true, ltb-false, lt-ltb}
 use Rattle.model.specs.Answers.{Refusal, accepted, ReplayAnswer, statusNumber, Asked, CheckAnswer, refusedAnswer, isProved, provedCycle, acceptedAnswer}
 use Rattle.model.specs.Lists.{snoc}
-use Rattle.model.specs.Options.{Options}
+use Rattle.model.specs.Options.{Options, firstQuery}
 use Rattle.model.specs.Netlist.{Design}
 use Rattle.model.specs.Run.{StoredBits, InputSequence, initialBits}
 use Rattle.model.specs.Pair.{replayFault, ReadPair, both, readPair, checkRefusal}
@@ -20,72 +20,85 @@ use Rattle.model.specs.Replay.{claimInputs, differAt, replay}
 use Rattle.model.specs.Equivalence.{Problem, Query, baseCounterexample, Verdict, Equivalent, NotEquivalent, Inconclusive, GaveUp, OutOfFuel, Outcome, askedToo, proveSequentialEquivalence, largestLearned, provedBefore, provedThrough}
 use Rattle.model.specs.Check.{problemOf, checkDesigns, verdictAnswer, checkAnswer, CheckResult, checkResult, lentOf, check}
 use Rattle.facts.specs.Numbers.{by-eq, by-lt}
-use Rattle.laws.specs.Terms.{replayRefusalOf, replayRefusal, provedOf, TraceLeft, Comparable, QueryOf, query-1, query-2, query-3, query-4, NoModel, Stops, at-query-1, at-query-2, at-query-3, at-query-4, StopsAt, EqualThrough, provedByPlace}
+use Rattle.laws.specs.Terms.{replayRefusalOf, replayRefusal, provedOf, TraceLeft, Comparable, QueryOf, query-1, NoModel, Passed, Cycle0Passed, Stops, at-query-1, at-query-2, at-query-3, at-query-4, StopsAt, at-query-0, at-depth, EqualThrough, provedByPlace}
 use Rattle.laws.specs.Induction.Pairs.{Accepted, accepted-pair, free-of, comparable, depth-positive}
 use Rattle.laws.specs.Check.Call.{check-refused, call-is}
 use Rattle.laws.specs.Check.Replaying.{replay-rule, replay-zero}
 use Rattle.laws.specs.Check.Queries.{no-model-no}
-use Rattle.laws.specs.Check.Walk.{Final, Asking, nothing, deeper, further, Walked, all-passed, last-gave-up, last-decided, prove-walk, asked-low}
+use Rattle.laws.specs.Check.Walk.{Final, Asking, nothing, first, deeper, further, Walked, all-passed, last-gave-up, last-decided, prove-walk, asked-low, asking-high}
 use Rattle.laws.specs.Check.Asked.{asking-begins, designs-first}
 use Rattle.laws.specs.Check.GiveUp.{designs-give-up}
 use Rattle.laws.specs.Check.Numbers.{trace-left}
 
 -- ---- by the place of the give-up
 
-number-positive : (p : Problem) (d k : ℕ) (q : Query) → QueryOf p d k q → 1 ≤ k
-number-positive p d k q query-1 = omega arith
-number-positive p d k q query-2 = omega arith
-number-positive p d k q query-3 = omega arith
-number-positive p d k q query-4 = omega arith
+-- in the first query of depth 1 nothing is proved
+first-place : (earliest : Bool) → none ≡ provedByPlace earliest 1 (firstQuery earliest)
+unfolding provedByPlace firstQuery
+first-place true = refl
+first-place false = refl
 
--- after a query before it, which is not query 1 of depth 1
-after-some : (d k : ℕ) → (d ≡ 1 → k ≡ 1 → ⊥) → 1 ≤ d → 1 ≤ k → some (cond (ltb 1 k) d (d - 1)) ≡ provedByPlace d k
+-- in one after it the depth, or the depth before it
+after-some : (earliest : Bool) (d k : ℕ) → (d ≡ 1 → k ≡ firstQuery earliest → ⊥) → 1 ≤ d → (d ≡ 1 → firstQuery earliest ≤ k) → some (cond (ltb 1 k) d (d - 1)) ≡ provedByPlace earliest d k
 unfolding provedByPlace
-after-some d k apart low positive = go (ltb 1 k) refl
+after-some earliest d k apart low late = go (ltb 1 k) (ltb 1 d) refl refl
   where
-    go : (t : Bool) → ltb 1 k ≡ t → some (cond (ltb 1 k) d (d - 1)) ≡ cond (ltb 1 k) (some d) (cond (ltb 1 d) (some (d - 1)) none)
-    go true e = rw e
-    go false e = rw (e, lt-ltb 1 d (deep (ltb-false 1 k e)))
-      where
-        deep : k ≤ 1 → 1 < d
-        deep h = by-eq d 1 (λ z. absurd (apart z (omega (arith, h, positive)))) (λ z. omega (arith, z, low))
+    go : (x y : Bool) → ltb 1 k ≡ x → ltb 1 d ≡ y → some (cond (ltb 1 k) d (d - 1)) ≡ cond (ltb 1 k) (some d) (cond (ltb 1 d) (some (d - 1)) (cond (ltb (firstQuery earliest) k) (some 0) none))
+    go true y e f = rw e
+    go false true e f = rw (e, f)
+    go false false e f =
+        let z : d ≡ 1 = omega (arith, low, ltb-false 1 d f) in
+        let l : firstQuery earliest < k = by-eq k (firstQuery earliest) (λ h. absurd (apart z h)) (λ h. omega (arith, h, late z)) in
+        rw (e, f, lt-ltb (firstQuery earliest) k l, z)
 
-module _ (limit : ℕ) (p : Problem) (D : ℕ) where
-  -- before depth 1 nothing was asked
-  none-before : (d k : ℕ) (earlier : List Asked) → Asking limit p D d k earlier → d ≡ 0 → earlier ≡ []
-  none-before d k earlier nothing z = refl
-  none-before d k earlier (deeper h l) z = absurd (omega arith)
-  none-before d k earlier (further {k = j} {earlier = es} q a n h w e t l) z = absurd (omega (arith, asked-low limit p D d j es q h w))
+module _ (earliest : Bool) (limit : ℕ) (p : Problem) (D : ℕ) where
+  first-small : (e : Bool) → firstQuery e ≤ 1
+  unfolding firstQuery
+  first-small true = omega arith
+  first-small false = omega arith
 
-  -- nor before its query 1
-  first-before : (d k : ℕ) (earlier : List Asked) → Asking limit p D d k earlier → d ≡ 1 → k ≡ 1 → earlier ≡ []
-  first-before d k earlier nothing z y = refl
-  first-before d k earlier (deeper {d = c} h l) z y = none-before c 5 earlier h (omega arith)
-  first-before d k earlier (further {k = j} {earlier = es} q a n h w e t l) z y = absurd (omega (arith, number-positive p d j q w))
+  -- at depth 1 no query stands before the first
+  late-first : (d k : ℕ) (earlier : List Asked) → Asking earliest limit p D d k earlier → firstQuery earliest ≤ k
+  late-first d k earlier (nothing z) = omega (arith, first-small earliest)
+  late-first d k earlier (first l) = omega arith
+  late-first d k earlier (deeper l h m) = first-small earliest
+  late-first d k earlier (further {k = j} {earlier = es} q a n h w e t l) = omega (arith, late-first d j es h, l)
 
-  place : (d k n : ℕ) (earlier : List Asked) (q : Query) → Asking limit p D d k earlier → QueryOf p d k q → provedBefore d k (askedToo earlier d k n) ≡ provedByPlace d k
+  -- before the first query of depth 1 nothing was asked
+  first-before : (d k : ℕ) (earlier : List Asked) → Asking earliest limit p D d k earlier → d ≡ 1 → k ≡ firstQuery earliest → earlier ≡ []
+  first-before d k earlier (nothing z) x y = refl
+  first-before d k earlier (first l) x y = refl
+  first-before d k earlier (deeper l h m) x y = absurd (omega arith)
+  first-before d k earlier (further {k = j} {earlier = es} q a n h w e t l) x y = absurd (omega (arith, late-first d j es h, l, y))
+
+  -- where something was asked before it
+  place-after : (d k : ℕ) (a : Asked) (rest : List Asked) (q : Query) → Asking earliest limit p D d k (a ∷ rest) → QueryOf p d k q → some (cond (ltb 1 k) d (d - 1)) ≡ provedByPlace earliest d k
+  place-after d k a rest q h w =
+      after-some earliest d k (λ z y. absurd (omega (arith, ap length (first-before d k (a ∷ rest) h z y)))) (asked-low earliest limit p D d k (a ∷ rest) q h w) (λ z. late-first d k (a ∷ rest) h)
+
+  place : (d k n : ℕ) (earlier : List Asked) (q : Query) → Asking earliest limit p D d k earlier → QueryOf p d k q → provedBefore d k (askedToo earlier d k n) ≡ provedByPlace earliest d k
   unfolding askedToo snoc provedBefore
-  place d k n [] q h w = alone (asking-begins limit p D d k [] h)
+  place d k n [] q h w = alone (asking-begins earliest limit p D d k [] h)
     where
-      alone : (d ≡ 0) ⊎ ((d ≡ 1) × (k ≡ 1)) → none ≡ provedByPlace d k
-      alone (inl z) = absurd (omega (arith, asked-low limit p D d k [] q h w))
-      alone (inr z) = unfold provedByPlace in rw (z .0, z .1)
-  place d k n (a ∷ []) q h w = after-some d k (λ z y. absurd (omega (arith, ap length (first-before d k (a ∷ []) h z y)))) (asked-low limit p D d k _ q h w) (number-positive p d k q w)
-  place d k n (a ∷ b ∷ rest) q h w = after-some d k (λ z y. absurd (omega (arith, ap length (first-before d k (a ∷ b ∷ rest) h z y)))) (asked-low limit p D d k _ q h w) (number-positive p d k q w)
+      alone : (D ≡ 0) ⊎ ((d ≡ 1) × (k ≡ firstQuery earliest)) → none ≡ provedByPlace earliest d k
+      alone (inl z) = absurd (omega (arith, z, asked-low earliest limit p D d k [] q h w, asking-high earliest limit p D d k [] h))
+      alone (inr z) = rw (z .0, z .1) (first-place earliest)
+  place d k n (a ∷ []) q h w = place-after d k a [] q h w
+  place d k n (a ∷ b ∷ rest) q h w = place-after d k a (b ∷ rest) q h w
 
-  walk-place : (v : Verdict) (asked : List Asked) → Walked limit p D v asked → (d q : ℕ) → v ≡ GaveUp d q → provedThrough v asked ≡ provedByPlace d q
+  walk-place : (v : Verdict) (asked : List Asked) → Walked earliest limit p D v asked → (d q : ℕ) → v ≡ GaveUp d q → provedThrough v asked ≡ provedByPlace earliest d q
   unfolding provedThrough
   walk-place v asked (all-passed h) d q z = absurd (let y : _≡_ {A = ℕ} 0 1 = cc in omega arith)
   walk-place v asked (last-gave-up {d = c} {k = j} {earlier = es} r n h w e) d q z =
       let x : c ≡ d = cc in
       let y : j ≡ q = cc in
-      place c j n es r h w ∙ ap (λ i. provedByPlace i j) x ∙ ap (provedByPlace d) y
+      place c j n es r h w ∙ ap (λ i. provedByPlace earliest i j) x ∙ ap (provedByPlace earliest d) y
   walk-place v asked (last-decided r a h w e t f) d q z = absurd (subst Final z f)
 
   -- a check that gives up at depth d in query q has proved the cycle of that place
-  pub prove-place : (d q : ℕ) → proveSequentialEquivalence limit p D .verdict ≡ GaveUp d q
-      → provedThrough (proveSequentialEquivalence limit p D .verdict) (proveSequentialEquivalence limit p D .asked) ≡ provedByPlace d q
-  prove-place d q z = walk-place _ _ (prove-walk limit p D) d q z
+  pub prove-place : (d q : ℕ) → proveSequentialEquivalence earliest limit p D .verdict ≡ GaveUp d q
+      → provedThrough (proveSequentialEquivalence earliest limit p D .verdict) (proveSequentialEquivalence earliest limit p D .asked) ≡ provedByPlace earliest d q
+  prove-place d q z = walk-place _ _ (prove-walk limit p earliest D) d q z
 
 -- ---- of two designs
 
@@ -98,32 +111,47 @@ module _ (limit : ℕ) (gold gate : Design) (c : Comparable gold gate) (s t : St
       go false e = e
       go true e = absurd (no-model-no limit gold gate c s t through 1 _ query-1 (x .0) (x .1) (record { ins = ins; cycle = i; within = le; differ = e }))
 
--- a check that stops at a place had no model in query 1 of the depth that the place gives
-stopped-first : (o : Options) (p : Problem) (d q through : ℕ) → StopsAt o p d q → provedByPlace d q ≡ some through → NoModel (o .limit) (baseCounterexample p through)
-stopped-first o p d q through w e = go q (w .stops) e
+-- in the mode, where query 0 was passed, a check that proves cycle 0 had no model in it
+zeroth-first : (earliest : Bool) (limit : ℕ) (p : Problem) (q through : ℕ) → q ≡ 1 → Cycle0Passed earliest limit p → cond (ltb (firstQuery earliest) q) (some 0) none ≡ some through → NoModel limit (baseCounterexample p through)
+unfolding firstQuery
+zeroth-first true limit p q through one x h = let e : 0 ≡ through = cc in subst (λ i. NoModel limit (baseCounterexample p i)) e x
+zeroth-first false limit p q through one x h = absurd (let z : _≡_ {A = ℕ} 0 1 = cc in omega arith)
+
+-- a check that stops at a depth had no model in query 1 of the cycle that the place gives, or in query 0
+depth-first : (o : Options) (p : Problem) (d q through : ℕ) → 1 ≤ d → Cycle0Passed (o .earliest) (o .limit) p → ((e : ℕ) → 1 ≤ e → e < d → Passed (o .limit) p e) → Stops (o .limit) p d q
+    → provedByPlace (o .earliest) d q ≡ some through → NoModel (o .limit) (baseCounterexample p through)
+depth-first o p d q through low zeroth passed w e = go q w e
   where
-    passed-first : (z : Bool) → ltb 1 d ≡ z → cond z (some (d - 1)) none ≡ some through → NoModel (o .limit) (baseCounterexample p through)
+    passed-first : (z : Bool) → ltb 1 d ≡ z → cond z (some (d - 1)) (cond (ltb (firstQuery (o .earliest)) 1) (some 0) none) ≡ some through → NoModel (o .limit) (baseCounterexample p through)
     passed-first true h k =
         let x : d - 1 ≡ through = cc in
         let l = ltb-true 1 d h in
-        w .passed through (omega (arith, l, x)) (omega (arith, l, x)) .first
-    passed-first false h k = absurd (let z : _≡_ {A = ℕ} 0 1 = cc in omega arith)
+        passed through (omega (arith, l, x)) (omega (arith, l, x)) .first
+    passed-first false h k = zeroth-first (o .earliest) (o .limit) p 1 through refl zeroth k
 
     same-depth : NoModel (o .limit) (baseCounterexample p d) → some d ≡ some through → NoModel (o .limit) (baseCounterexample p through)
     same-depth f k = let x : d ≡ through = cc in subst (λ i. NoModel (o .limit) (baseCounterexample p i)) x f
 
-    go : (k : ℕ) → Stops (o .limit) p d k → provedByPlace d k ≡ some through → NoModel (o .limit) (baseCounterexample p through)
+    go : (k : ℕ) → Stops (o .limit) p d k → provedByPlace (o .earliest) d k ≡ some through → NoModel (o .limit) (baseCounterexample p through)
     go k (at-query-1 x) h = passed-first (ltb 1 d) refl (unfold provedByPlace in h)
     go k (at-query-2 f x) h = same-depth f (unfold provedByPlace in h)
     go k (at-query-3 f n x) h = same-depth f (unfold provedByPlace in h)
     go k (at-query-4 f n x) h = same-depth f (unfold provedByPlace in h)
 
+-- a check that stops in query 0 proves nothing
+stopped-first : (o : Options) (p : Problem) (d q through : ℕ) → StopsAt o p d q → provedByPlace (o .earliest) d q ≡ some through → NoModel (o .limit) (baseCounterexample p through)
+unfolding firstQuery
+stopped-first o p d q through (at-query-0 mode low x) e =
+    let z : none ≡ some through = first-place true ∙ ap (λ z. provedByPlace z 1 0) (sym mode) ∙ e in
+    absurd (let y : _≡_ {A = ℕ} 0 1 = cc in omega arith)
+stopped-first o p d q through (at-depth low high zeroth passed w) e = depth-first o p d q through low zeroth passed w e
+
 module _ (o : Options) (gold gate : Design) where
   -- a check of two designs that gives up has proved the cycle of that place
   pub designs-place : (s t : StoredBits) (d q : ℕ) → checkDesigns o gold gate s t .verdict ≡ GaveUp d q
-      → provedThrough (checkDesigns o gold gate s t .verdict) (checkDesigns o gold gate s t .asked) ≡ provedByPlace d q
+      → provedThrough (checkDesigns o gold gate s t .verdict) (checkDesigns o gold gate s t .asked) ≡ provedByPlace (o .earliest) d q
   unfolding checkDesigns
-  designs-place s t d q z = prove-place (o .limit) (problemOf gold gate s t) (o .depth) d q z
+  designs-place s t d q z = prove-place (o .earliest) (o .limit) (problemOf gold gate s t) (o .depth) d q z
 
   -- and up to the cycle proved no outputs differ, whatever the inputs
   pub designs-proved : Comparable gold gate → (s t : StoredBits) (through : ℕ)
@@ -203,7 +231,7 @@ module _ (a b : List ℕ) (o : Options) (trace words : List ℕ) (scores : List 
   status-free h = unlike-free (λ r e. let z : check a b o trace words scores .answer .status ≡ 0 = ap (λ (x : CheckAnswer). x .status) e in omega (arith, z, h))
 
   -- one that found a difference
-  differs-free : check a b o trace words scores .answer .status ≡ 1 → checkRefusal a b o (lentOf trace words scores) ≡ none
+  pub differs-free : check a b o trace words scores .answer .status ≡ 1 → checkRefusal a b o (lentOf trace words scores) ≡ none
   differs-free h = status-free (omega (arith, h))
 
   -- one that gives up
@@ -224,7 +252,8 @@ module _ (a b : List ℕ) (o : Options) (trace words : List ℕ) (scores : List 
     abbrev proved : Option ℕ
     proved = provedThrough (outcome .verdict) (outcome .asked)
 
-    answer-is : check a b o trace words scores .answer ≡ verdictAnswer (outcome .verdict) (largestLearned (outcome .asked)) proved
+    -- the answer is that of the outcome
+    pub answer-is : check a b o trace words scores .answer ≡ verdictAnswer (outcome .verdict) (largestLearned (outcome .asked)) proved
     unfolding checkResult checkAnswer
     answer-is = ap (λ (x : CheckResult). x .answer) (call-is a b o trace words scores gold gate free pair)
 
@@ -269,7 +298,7 @@ module _ (a b : List ℕ) (o : Options) (trace words : List ℕ) (scores : List 
 
   -- a call that gives up has proved the cycle of the depth and the query that it answers
   pub call-place : check a b o trace words scores .answer .status ≡ 3
-      → provedOf (check a b o trace words scores .answer) ≡ provedByPlace (check a b o trace words scores .answer .depth) (check a b o trace words scores .answer .query)
+      → provedOf (check a b o trace words scores .answer) ≡ provedByPlace (o .earliest) (check a b o trace words scores .answer .depth) (check a b o trace words scores .answer .query)
   call-place h =
       let k : Accepted a b o (lentOf trace words scores) = accepted-pair a b o (lentOf trace words scores) (gave-free h) in
       answer-proved (k .gold) (k .gate) (gave-free h) (k .pair)

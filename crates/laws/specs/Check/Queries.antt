@@ -21,12 +21,12 @@ use Rattle.model.specs.Sat.{Solver, model, noModel, gaveUp, outOfFuel, encode}
 use Rattle.model.specs.Equivalence.{Problem, Query, ask}
 use Rattle.model.specs.Check.{problemOf}
 use Rattle.facts.specs.Lists.{All, all-from, all-at}
-use Rattle.laws.specs.Terms.{Comparable, QueryOf, query-1, query-2, query-3, query-4, Asks, literalCount, Reached, GivesUp}
+use Rattle.laws.specs.Terms.{Comparable, QueryOf, query-0, query-1, query-2, query-3, query-4, Asks, literalCount, Reached, GivesUp}
 use Rattle.laws.specs.Queries.Formed.{Askable, query-1-askable, query-2-askable, query-3-4-askable}
 use Rattle.laws.specs.Pairwise.{pairs-length}
 use Rattle.laws.specs.Induction.Pairs.{free-of, Facts, facts-of, comparable}
 use Rattle.laws.specs.Lowering.Run.{outputs-at}
-use Rattle.laws.specs.Queries.Bound.{nodeBound, query-1-bound, query-2-bound, query-3-4-bound}
+use Rattle.laws.specs.Queries.Bound.{frameBound, nodeBound, query-1-bound, query-2-bound, query-3-4-bound}
 use Rattle.laws.specs.Queries.Base.{inputs-count}
 use Rattle.laws.specs.Search.Ending.{solve-not-out}
 use Rattle.laws.specs.Search.Reached.{solve-gives-up}
@@ -35,6 +35,7 @@ use Rattle.laws.specs.Check.Meaning.{found, refuted, no-1, no-2, no-3, n
 
 -- each is a query that a solver may be asked
 pub askable : (p : Problem) (d k : ℕ) (q : Query) → QueryOf p d k q → Askable q
+askable p d k q query-0 = query-1-askable p 0
 askable p d k q query-1 = query-1-askable p d
 askable p d k q query-2 = query-2-askable p d
 askable p d k q query-3 = query-3-4-askable p true d
@@ -77,6 +78,7 @@ module _ (limit : ℕ) (p : Problem) (d k : ℕ) (q : Query) (w : QueryOf p d k 
 module _ (limit : ℕ) (gold gate : Design) (c : Comparable gold gate) (s t : StoredBits) where
   -- no model: the question's answer is no
   pub no-model-no : (d k : ℕ) (q : Query) (w : QueryOf (problemOf gold gate s t) d k q) (n : ℕ) → ask limit q ≡ noModel n → Asks gold gate s t d k q w → ⊥
+  no-model-no d k q query-0 n e x = no-1 limit gold gate c s t 0 (n, e) x
   no-model-no d k q query-1 n e x = no-1 limit gold gate c s t d (n, e) x
   no-model-no d k q query-2 n e x = no-2 limit gold gate c s t d (n, e) x
   no-model-no d k q query-3 n e x = no-3 limit gold gate c s t d (n, e) x
@@ -84,6 +86,7 @@ module _ (limit : ℕ) (gold gate : Design) (c : Comparable gold gate) (s t : St
 
   -- a model: it is yes
   pub model-yes : (d k : ℕ) (q : Query) (w : QueryOf (problemOf gold gate s t) d k q) (values : List Bool) (n : ℕ) → ask limit q ≡ model values n → Asks gold gate s t d k q w
+  model-yes d k q query-0 values n e = yes-1 limit gold gate c s t 0 (values, n, e)
   model-yes d k q query-1 values n e = yes-1 limit gold gate c s t d (values, n, e)
   model-yes d k q query-2 values n e = yes-2 limit gold gate c s t d (values, n, e)
   model-yes d k q query-3 values n e = yes-3 limit gold gate c s t d (values, n, e)
@@ -104,6 +107,9 @@ module _ (gold gate : Design) (valid : validate gold ≡ none) where
       + (length (gold .registers) + length (gate .registers))) outputs-many
 
 query-bound : (gold gate : Design) (s t : StoredBits) (d k : ℕ) (q : Query) → QueryOf (problemOf gold gate s t) d k q → length (q .aig) ≤ nodeBound gold gate d
+query-bound gold gate s t d k q query-0 =
+    let more = mul-le-mul-right {m = 1} {n = 2} (frameBound gold gate) (omega arith) in
+    omega (arith, query-1-bound gold gate s t 0, more)
 query-bound gold gate s t d k q query-1 = query-1-bound gold gate s t d
 query-bound gold gate s t d k q query-2 = query-2-bound gold gate s t d
 query-bound gold gate s t d k q query-3 = query-3-4-bound gold gate s t true d

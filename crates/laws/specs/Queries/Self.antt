@@ -16,7 +16,7 @@ use Rattle.model.specs.Names.{Name}
 use Rattle.model.specs.Netlist.{Register, Design}
 use Rattle.model.specs.Run.{StoredBits, byName}
 use Rattle.model.specs.Transition.{StateBit, TransitionSystem, Lowering, Registers, withState, lowerRegister, lowerRegisters, systemOf, withRegisters, fromNetlist}
-use Rattle.model.specs.Equivalence.{Problem, Frame, LiteralList, newVariables, stateLiteral, consPair, namedPairs, orMismatch, compareNamedState, compareOutputs, Cycle, importFrames, cycleOf, comparedCycle, Base, baseStart, baseQuery, counterexampleNext, counterexampleCompared, counterexampleCycle, counterexampleCycles, baseCounterexample, namedStateNext, namedStateCompared, namedStateCycle, namedStateCycles, basePreservesNamedState, Induction, gateVariable, matched, gateVariables, freeProductState, cycleMismatch, assumed, inductionNext, inductionCompared, inductionCycle, inductionCycles, inductionQuery, inductionCloses, ask, Verdict, Equivalent, decided, askedToo, afterQuery3, afterQuery2, afterQuery1, query1, atDepth, depths, proveSequentialEquivalence}
+use Rattle.model.specs.Equivalence.{Problem, Frame, LiteralList, newVariables, stateLiteral, consPair, namedPairs, orMismatch, compareNamedState, compareOutputs, Cycle, importFrames, cycleOf, comparedCycle, Base, baseStart, baseQuery, counterexampleNext, counterexampleCompared, counterexampleCycle, counterexampleCycles, baseCounterexample, namedStateNext, namedStateCompared, namedStateCycle, namedStateCycles, basePreservesNamedState, Induction, gateVariable, matched, gateVariables, freeProductState, cycleMismatch, assumed, inductionNext, inductionCompared, inductionCycle, inductionCycles, inductionQuery, inductionCloses, ask, Verdict, Equivalent, undecided, decided, askedToo, afterQuery3, afterQuery2, afterQuery1, query1, atDepth, depths, afterQuery0, query0, beforeQuery1, proveSequentialEquivalence}
 use Rattle.laws.specs.Queries.Bits.{literals-length}
 use Rattle.laws.specs.Graph.Import.{frame-again, or-false, Alike, compare-alike}
 use Rattle.laws.specs.Search.Adding.{solve-false}
@@ -78,10 +78,14 @@ gate-self S L v (s ∷ ss) (l ∷ ls) e h =
     ∙ gate-self S L (record { aig = v .aig; literals = v .literals ++ (l ∷ []) }) ss ls (omega arith) (h .1)
     ∙ append-assoc (v .literals) (l ∷ []) ls
 
--- the queries asked of a system against itself
-abbrev askedOfSelf : ℕ → List Asked
-askedOfSelf depth =
-    record { depth = depth; query = 1; learned = 0 } ∷ record { depth = depth; query = 2; learned = 0 } ∷ record { depth = depth; query = 3; learned = 0 } ∷ []
+-- a query of depth 1 that learned nothing
+abbrev idle : ℕ → Asked
+idle k = record { depth = 1; query = k; learned = 0 }
+
+-- the queries asked of a system against itself, in the mode of the earliest cycle or without it
+abbrev pub askedOfSelf : Bool → List Asked
+askedOfSelf true = idle 0 ∷ idle 1 ∷ idle 2 ∷ idle 3 ∷ []
+askedOfSelf false = idle 1 ∷ idle 2 ∷ idle 3 ∷ []
 
 -- ---- cycles
 
@@ -189,19 +193,26 @@ module _ (s : TransitionSystem) (bits : List Bool) (d : DistinctNames (s .states
 
   -- ---- the verdict
 
-  depth-self : (limit depth : ℕ) → atDepth limit self depth [] ≡ decided (Equivalent depth) (askedOfSelf depth)
-  unfolding atDepth query1 afterQuery1 afterQuery2 afterQuery3 askedToo snoc
-  depth-self limit depth = rw (query-1-self limit depth, query-2-self limit depth, query-3-self limit depth)
+  depth-self : (limit depth : ℕ) (earlier : List Asked) → atDepth limit self depth earlier ≡ decided (Equivalent depth) (askedToo (askedToo (askedToo earlier depth 1 0) depth 2 0) depth 3 0)
+  unfolding atDepth query1 afterQuery1 afterQuery2 afterQuery3
+  depth-self limit depth earlier = rw (query-1-self limit depth, query-2-self limit depth, query-3-self limit depth)
 
   stays-decided : (limit n depth : ℕ) (v : Verdict) (earlier : List Asked) → depths limit self n depth (decided v earlier) ≡ record { verdict = v; asked = earlier }
   unfolding depths
   stays-decided limit zero depth v earlier = refl
   stays-decided limit (suc n) depth v earlier = refl
 
-  -- under any limit, to any depth but 0: Equivalent, depth 1, and no learned literal
-  self-equivalent : (limit n : ℕ) → proveSequentialEquivalence limit self (suc n) ≡ record { verdict = Equivalent 1; asked = askedOfSelf 1 }
-  unfolding proveSequentialEquivalence depths
-  self-equivalent limit n = rw (depth-self limit 1) (stays-decided limit n 1 (Equivalent 1) (askedOfSelf 1))
+  before-self : (limit n : ℕ) → beforeQuery1 true limit self (suc n) ≡ undecided (idle 0 ∷ [])
+  unfolding beforeQuery1 query0 afterQuery0 askedToo snoc
+  before-self limit n = rw (query-1-self limit 0)
+
+  -- under any limit, to any depth but 0, in either mode: Equivalent, depth 1, and no learned literal
+  self-equivalent : (earliest : Bool) (limit n : ℕ) → proveSequentialEquivalence earliest limit self (suc n) ≡ record { verdict = Equivalent 1; asked = askedOfSelf earliest }
+  unfolding proveSequentialEquivalence depths beforeQuery1 askedToo snoc
+  self-equivalent true limit n =
+      ap (depths limit self (suc n) 0) (unfold beforeQuery1 askedToo snoc in before-self limit n)
+      ∙ ap (depths limit self n 1) (depth-self limit 1 (idle 0 ∷ [])) ∙ stays-decided limit n 1 (Equivalent 1) (askedOfSelf true)
+  self-equivalent false limit n = ap (depths limit self n 1) (depth-self limit 1 []) ∙ stays-decided limit n 1 (Equivalent 1) (askedOfSelf false)
 
 -- ---- a design against itself
 
@@ -228,12 +239,12 @@ distinct-states : (d : Design) → Distinct (namesBy registerName (d .registers)
 unfolding fromNetlist withRegisters systemOf
 distinct-states d h = distinct-sort stateName _ (rw (names-lowered _ (record { aig = _; states = [] }) (d .registers)) h)
 
--- a design whose registers have distinct names, against itself from the same start bits: Equivalent, depth 1, and no learned literal
+-- a design whose registers have distinct names, against itself from the same start bits, in either mode: Equivalent, depth 1, and no learned literal
 pub design-self : (o : Options) (d : Design) (s : StoredBits) → 1 ≤ o .depth → Distinct (namesBy registerName (d .registers))
-    → checkDesigns o d d s s ≡ record { verdict = Equivalent 1; asked = askedOfSelf 1 }
+    → checkDesigns o d d s s ≡ record { verdict = Equivalent 1; asked = askedOfSelf (o .earliest) }
 unfolding checkDesigns problemOf
 design-self o d s l h = to-depth (o .depth) l
   where
-    to-depth : (D : ℕ) → 1 ≤ D → proveSequentialEquivalence (o .limit) (self (fromNetlist d) (byName d s) (distinct-states d h)) D ≡ record { verdict = Equivalent 1; asked = askedOfSelf 1 }
+    to-depth : (D : ℕ) → 1 ≤ D → proveSequentialEquivalence (o .earliest) (o .limit) (self (fromNetlist d) (byName d s) (distinct-states d h)) D ≡ record { verdict = Equivalent 1; asked = askedOfSelf (o .earliest) }
     to-depth zero z = absurd (omega arith)
-    to-depth (suc n) z = self-equivalent (fromNetlist d) (byName d s) (distinct-states d h) (o .limit) n
+    to-depth (suc n) z = self-equivalent (fromNetlist d) (byName d s) (distinct-states d h) (o .earliest) (o .limit) n

@@ -1,4 +1,4 @@
--- `check` puts depth and limit together as the options of the check. Assumes nothing.
+-- `check` puts depth, limit and mode together as the options of the check. Assumes nothing.
 use Rattle.calls.specs.Options.{optionsOf}
 use borrow.Author.Needs.{needs}
 use Rattle.struo_formal.proofs.check.Statement.{statement}

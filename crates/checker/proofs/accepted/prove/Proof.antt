@@ -25,7 +25,7 @@ answered-requires c κs =
     let q = c .before .before .before .before .before .before .before .before .before .before .before .before .before in
     let s = q .before .before .before .before .before .before in
     let p = s .before .before .before .before .before .before .before .pre in
-    most-small _ _ _ _ (accepted _ _ _ _ (p .2) .limit-small) (q .prove-sequential-equivalence .ensures .most _ (s .sides .ensures .stands))
+    most-small _ _ _ _ _ (accepted _ _ _ _ (p .2) .limit-small) (q .prove-sequential-equivalence .ensures .most _ (s .sides .ensures .stands))
 
 returns : tie.Need-returns
 unfolding checkDesigns optionsOf
@@ -35,7 +35,7 @@ returns c =
     let s = q .before .before .before .before .before .before in
     let m = s .sides .ensures in
     let v = q .prove-sequential-equivalence .ensures in
-    proved _ _ _ _ _ _ _ _ _ _ (c .answered .ensures ∙ answer-of _ _ _ _ _ (v .answer _ (m .stands)) (v .most _ (m .stands))) (v .traced _ (m .stands)) (k .clear-memory .ensures .0) (k .clear-memory .ensures .1) (search needs) (search needs)
+    proved _ _ _ _ _ _ _ _ _ _ (c .answered .ensures ∙ answer-of _ _ _ _ _ _ (v .answer _ (m .stands)) (v .most _ (m .stands))) (v .traced _ (m .stands)) (k .clear-memory .ensures .0) (k .clear-memory .ensures .1) (search needs) (search needs)
 
 pub prove-spec : {M : Type 1} → statement M
 prove-spec = tie.close (tie.spec sides-requires prove-sequential-equivalence-requires (λ c κs. search needs) answered-requires (λ c. search needs) (λ c. search needs) (λ c. search needs) returns)

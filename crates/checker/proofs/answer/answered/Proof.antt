@@ -11,25 +11,26 @@ use Rattle.checker.proofs.answer.answered.Tie as tie
 
 returns : tie.Need-returns
 unfolding answerOfVerdict statusNumber provedOf provedBy
-returns c = c .accepted-check .ensures ∙ sym (ap (λ (v : Verdict). answerOfVerdict v (askedOf (c .before .before .before .before .before .args .outcome .most)) (provedBy v)) (c .before .before .verdict .given .1))
+returns c = c .accepted-check .ensures ∙ sym (ap (λ (v : Verdict). answerOfVerdict v (askedOf (c .before .before .before .before .before .args .outcome .most)) (provedBy (c .before .before .before .before .before .args .earliest) v)) (c .before .before .verdict .given .1))
 
 returns-2 : tie.Need-returns-2
 unfolding answerOfVerdict statusNumber provedOf provedBy
-returns-2 c = c .accepted-check2 .ensures ∙ sym (ap (λ (v : Verdict). answerOfVerdict v (askedOf (c .before .before .before .before .before .args .outcome .most)) (provedBy v)) (c .before .before .verdict2 .given .1))
+returns-2 c = c .accepted-check2 .ensures ∙ sym (ap (λ (v : Verdict). answerOfVerdict v (askedOf (c .before .before .before .before .before .args .outcome .most)) (provedBy (c .before .before .before .before .before .args .earliest) v)) (c .before .before .verdict2 .given .1))
 
 returns-3 : tie.Need-returns-3
 unfolding answerOfVerdict statusNumber provedOf provedBy
-returns-3 c = c .accepted-check3 .ensures ∙ sym (ap (λ (v : Verdict). answerOfVerdict v (askedOf (c .before .before .before .before .before .args .outcome .most)) (provedBy v)) (c .before .before .verdict3 .given .1))
+returns-3 c = c .accepted-check3 .ensures ∙ sym (ap (λ (v : Verdict). answerOfVerdict v (askedOf (c .before .before .before .before .before .args .outcome .most)) (provedBy (c .before .before .before .before .before .args .earliest) v)) (c .before .before .verdict3 .given .1))
 
 returns-4 : tie.Need-returns-4
 unfolding answerOfVerdict statusNumber provedBy
 returns-4 c =
     let p = c .before in
     let v = p .before .before in
-    let m = askedOf (v .before .before .before .args .outcome .most) in
+    let a = v .before .before .before .args in
+    let m = askedOf (a .outcome .most) in
     c .accepted-check4 .ensures
     ∙ ap (acceptedAnswer 3 _ 0 _ m) (p .proved-by-place .ensures)
-    ∙ sym (ap (λ (u : Verdict). answerOfVerdict u m (provedBy u)) (v .verdict4 .given .1))
+    ∙ sym (ap (λ (u : Verdict). answerOfVerdict u m (provedBy (a .earliest) u)) (v .verdict4 .given .1))
 
 pub answered-spec : {M : Type 1} → statement M
 answered-spec =

@@ -1,61 +1,32 @@
--- `depths::prove::prove_sequential_equivalence` meets its contract. The invariant: the depths that are left give the outcome of all. Assumes nothing.
-use mathlib.Core.Path.{_≡_, refl}
-use Prim.Native.Nat.{_-_, _≤_}
-use native.Mathlib.Omega.{arith}
-use lib.ListN.{length}
-use Rattle.calls.specs.Answers.{askedOf}
-use Rattle.depths.specs.Depths.{Left, left-none, depth-asked, left-more, stopped, ended}
+-- `depths::prove::prove_sequential_equivalence` meets its contract: what comes before query 1 of depth 1 decides, or the depths do. Assumes nothing.
 use borrow.Author.Needs.{needs}
+use Rattle.queries.specs.Querying.{stands-for-kept}
+use Rattle.depths.specs.Beginning.{provable-kept, decided-first, deepened}
 use Rattle.depths.proofs.prove.prove_sequential_equivalence.Statement.{statement}
 use Rattle.depths.proofs.prove.prove_sequential_equivalence.Tie as tie
 
-abbrev Inv-loop : tie.InvT-loop
-Inv-loop problem words₀ scores₀ trace₀ limit max-depth depth₀ most₀ words scores trace depth most =
-    (depth ≤ max-depth) × (length words ≡ length words₀) × (length scores ≡ length scores₀) × (length trace ≡ length trace₀)
-    × Left problem limit max-depth words₀ trace₀ depth words trace most
+deepen-requires : tie.Need-deepen-requires
+deepen-requires c κs =
+    let q = c .before .before .before .before .before .before .before .before .before .before .before .before in
+    let a = q .before .before .before .before .before .before .before in
+    provable-kept _ _ _ _ _ _ _ _ _ (a .pre) (q .before-query-1 .ensures .kept) (search needs) (search needs) (search needs)
 
-abbrev μ-loop : tie.MeasureT-loop
-μ-loop problem words₀ scores₀ trace₀ limit max-depth depth₀ most₀ words scores trace depth most = max-depth - depth
-
-loop-holds : tie.Need-loop-holds Inv-loop μ-loop
-unfolding askedOf
-loop-holds c = (omega arith, search needs, search needs, search needs, left-none _ _ _ _ _ _ refl)
-
-at-depth-requires : tie.Need-at-depth-requires Inv-loop μ-loop
-at-depth-requires c κs =
-    let t = c .before .before .before in
-    let l = t .before .loop in
-    let a = t .before .before .before .before .before in
-    depth-asked _ _ _ _ _ _ (a .pre) _ _ _ _ (l .inv .4) _ (t .loop-test .taken) (l .inv .1) (l .inv .2)
-
-loop-again : tie.Need-loop-again Inv-loop μ-loop
-loop-again c =
-    let q = c .before .before .before .before .before .before .before .before .before in
-    let t = q .before .before .before .before in
-    let l = t .before .loop in
-    let a = t .before .before .before .before .before in (
-      omega (arith, t .loop-test .taken),
-      search needs,
-      search needs,
-      search needs,
-      left-more _ _ _ _ _ _ (a .pre) _ _ _ _ (l .inv .4) (t .loop-test .taken) _ _ _ (q .at-depth .ensures) _ (c .before .now .given .1),
-    )
-
-returns : tie.Need-returns Inv-loop μ-loop
+returns : tie.Need-returns
 returns c =
-    let q = c .before .before .before .before .before .before .before .before .before in
-    let t = q .before .before .before .before in
-    let l = t .before .loop in
-    let a = t .before .before .before .before .before in
-    stopped _ _ _ _ _ _ (a .pre) _ _ _ _ (l .inv .4) (t .loop-test .taken) _ _ _ (q .at-depth .ensures) _ (c .before .outcome .given .1)
+    let p = c .before .before .before .before .before .before in
+    let b = p .before .before .before .before .before in
+    let q = b .before .before .before .before .before .before .before .before in
+    let a = q .before .before .before .before .before .before .before in
+    let e = q .before-query-1 .ensures in
+    deepened _ _ _ _ _ _ _ _ _ (a .pre .some) e _ (b .begun .given .1) (stands-for-kept _ _ _ (a .pre .paired) (e .kept)) _ _ (p .deepen .ensures)
 
-returns-2 : tie.Need-returns-2 Inv-loop μ-loop
+returns-2 : tie.Need-returns-2
 returns-2 c =
-    let l = c .before .loop in
-    let a = c .before .before .before .before .before in
-    ended _ _ _ _ _ _ (a .pre) _ _ _ _ (l .inv .4) (c .loop-test .left) (l .inv .0)
+    let q = c .before .before .before .before .before .before .before .before .before in
+    let a = q .before .before .before .before .before .before .before in
+    decided-first _ _ _ _ _ _ _ _ _ (a .pre .some) (q .before-query-1 .ensures) _ (c .before .begun2 .given .1)
 
 pub prove-sequential-equivalence-spec : {M : Type 1} → statement M
 prove-sequential-equivalence-spec =
     tie.close
-    (tie.spec Inv-loop μ-loop loop-holds (λ c. search needs) at-depth-requires (λ c. search needs) (λ c. search needs) loop-again (λ c. search needs) (λ c. search needs) (λ c. search needs) (λ c. search needs) returns (λ c. omega (arith, c .before .before .before .before .before .pre .shallow)) (λ c. search needs) (λ c. search needs) (λ c. search needs) returns-2)
+    (tie.spec (λ c κs. search needs) (λ c. search needs) deepen-requires (λ c. search needs) (λ c. search needs) (λ c. search needs) (λ c. search needs) returns (λ c. search needs) (λ c. search needs) (λ c. search needs) returns-2)
