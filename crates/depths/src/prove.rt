@@ -12,7 +12,7 @@ use queries::problem::Outcome;
 use queries::problem::Problem;
 use queries::problem::Verdict;
 
-// Depths 1 to the maximum asked for, each query under the limit asked for, after queries of which `most` learned most.
+// Depths 1 to the maximum asked for, each query under the limit asked for, after queries of which `first` learned most.
 fn deepen(
     problem: Problem,
     words: &mut [u32],

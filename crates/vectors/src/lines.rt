@@ -8,7 +8,7 @@ use recorded::tally::keep;
 use recorded::tally::more;
 
 // The end of a line: comments and empty lines make no call; every other line makes one or differs.
-fn end_line(line: &[u8], t: Tally) -> Tally {
+pub fn end_line(line: &[u8], t: Tally) -> Tally {
     let n = t.held;
     let mut next = t;
     next.held = 0;

@@ -3,6 +3,7 @@ mod cases;
 mod checks;
 mod lines;
 
+use lines::end_line;
 use lines::feed;
 use recorded::tally::Tally;
 use recorded::tally::line;
@@ -66,5 +67,6 @@ fn main() {
     let mut held = line();
     let t = all_lines(fd, &mut held);
     libc::close(fd);
-    tell(t);
+    // A last line that the file does not end is run too.
+    tell(end_line(&held, t));
 }
