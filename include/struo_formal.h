@@ -48,6 +48,7 @@ enum struo_refusal {
     STRUO_REFUSAL_TOO_LARGE = 23,
     STRUO_REFUSAL_MEMORY = 24,
     STRUO_REFUSAL_CLAIM = 25,
+    STRUO_REFUSAL_CLOCK_READ = 30,
     STRUO_REFUSAL_LEARNED_LIMIT = 36
 };
 
@@ -76,25 +77,28 @@ enum struo_refusal {
 #define STRUO_TRACE_LENGTH_MAX 4224
 
 /* How much of the stack each call takes at most, in bytes. No memory is allocated. */
-#define STRUO_READ_STACK 66000
+#define STRUO_READ_STACK 70000
 #define STRUO_CHECK_STACK 145000
 #define STRUO_REPLAY_STACK 170000
 #define STRUO_BEGIN_STACK 145000
 #define STRUO_STEP_STACK 198000
 
-/* number: STRUO_ACCEPTED for an accepted record, else the refusal's number, 1 to 15 (of a begin also 18 to 22 and 24).
-   side: 0. place: a byte offset for 3 to 6, a node number for 7, 8, 13 and 14, a register number for 9 to 12 and 15, else 0. */
+/* number: STRUO_ACCEPTED for an accepted record, else the refusal's number, 1 to 15 or 30 (of a begin also 18 to 22 and 24).
+   side: 0 (of a begin as for a replay). place: a byte offset for 3 to 6, a node number for 7, 8, 13, 14 and 30, a register number for 9 to 12 and 15
+   (of a begin also for 22), else 0. */
 struct struo_read_answer {
     uint32_t number;
     uint32_t side;
     uint32_t place;
 };
 
-/* Reads one design record: accepted, or the first refusal in checking order. Nothing is written. */
+/* Reads one design record: accepted, or the first refusal in checking order, 1 to 15 and then 30: an Input that is the clock of one of the design's registers
+   is read by a node, an Output too, or by a register's data, enable or reset (place: the lowest such Input). So no verdict and no replay depends on the
+   clock's bits. Nothing is written. */
 struct struo_read_answer struo_read(const uint8_t *record, size_t record_length);
 
-/* number, side and place: 0, or a refusal of 1 to 15, 18 to 22 or 25 (of a step also 24); side: 0 gold, 1 gate, and 0 where neither record alone is at fault;
-   place as above, and for 22 a register number. yes: false where the replay is refused. */
+/* number, side and place: 0, or a refusal of 1 to 15, 18 to 22, 25 or 30 (of a step also 24); side: 0 gold, 1 gate, and 0 where neither record alone is at
+   fault; place as above, and for 22 a register number. yes: false where the replay is refused. */
 struct struo_replay_answer {
     uint32_t number;
     uint32_t side;
@@ -103,8 +107,10 @@ struct struo_replay_answer {
 };
 
 /* Replays a claimed trace of STRUO_TRACE_LENGTH(cycle, I, O) bytes: for each cycle from 0 to the claimed one a byte, 0 or 1, for each input in byte order
-   of names, then a byte for each output, 1 where it differs. Yes exactly when the outputs agree in every earlier cycle, and in that cycle differ in
-   exactly the marked outputs, at least one. Nothing is written. */
+   of names, then a byte for each output, 1 where it differs. The clock has its bytes like every input, and no answer depends on whether they are 0 or 1. Yes
+   exactly when the outputs agree in every earlier cycle, and in that cycle differ in exactly the marked outputs, at least one. Nothing is written.
+   Refusals in checking order: gold's record wholly, as struo_read, then gate's, with side 1; then 18 to 22 as of struo_check, and 25: the cycle is over
+   STRUO_DEPTH_LIMIT, the claim has another length, or one of its bytes, the clock's too, is neither 0 nor 1. */
 struct struo_replay_answer struo_replay(const uint8_t *gold, size_t gold_length, const uint8_t *gate, size_t gate_length,
                                         uint64_t cycle, const uint8_t *claim, size_t claim_length);
 
@@ -131,8 +137,8 @@ struct struo_replay_answer struo_step(const uint8_t *gold, size_t gold_length, c
                                       uint64_t cycle, const uint8_t *claim, size_t claim_length,
                                       struct struo_position *position, uint8_t *bits, size_t bits_length);
 
-/* What a check answers. number, side and place: 0, or a refusal of 1 to 24 or 36; side: 0 gold, 1 gate, and 0 where neither record alone is at fault;
-   place as above. The other numbers are 0 where the check is refused.
+/* What a check answers. number, side and place: 0, or a refusal of 1 to 24, 30 or 36; side: 0 gold, 1 gate, and 0 where neither record alone is at
+   fault; place as above. The other numbers are 0 where the check is refused.
    status: an enum struo_status. depth: the depth at which the verdict fell; for STRUO_INCONCLUSIVE the depth asked for; for STRUO_GAVE_UP the depth of the
    query that gave up. mismatch: for STRUO_NOT_EQUIVALENT the first cycle in which outputs differ, else 0. query: for STRUO_GAVE_UP the number of the query
    that gave up, 1 to 4, and in the mode of the earliest cycle 0 to 4; else 0, so that the status says whether a 0 is a query's number.
@@ -173,7 +179,7 @@ struct struo_check_answer {
    without the mode; and where query 0 gives up, the check does, with depth 1 and query 0. Where the check gives up neither in the mode nor without it, status
    and depth are the same in both, and mismatch and trace too unless outputs can differ in cycle 0. The mode changes no refusal.
 
-   Refusals in checking order. Gold's record is read wholly (1 to 15, as struo_read), then gate's, with side 1; then:
+   Refusals in checking order. Gold's record is read wholly (1 to 15, then 30, as struo_read), then gate's, with side 1; then:
      16 depth is 0; 17 depth is over 64; 36 limit is over STRUO_LEARNED_LIMIT; 18 the sets of input names differ; 19 the sets of output names differ;
      20 the registers of one side, gold first, have two clock names or edges (side: that side); 21 clock name or edge differ between the sides, or
      only one side has registers; 22 a register has no reset, gold by name, then gate (side: that side; place: the register's number);
@@ -184,9 +190,10 @@ struct struo_check_answer {
    code writes nothing, and that the bits stay is tested.
 
    An accepted check leaves all of words and scores zero, over their whole length; what they held before never matters. For NotEquivalent the
-   trace begins with a byte, 0 or 1, for each input in byte order of names, for each cycle from 0 to the mismatch, then a byte for each output in byte
-   order of names, 1 where it differs in that cycle; these STRUO_TRACE_LENGTH(mismatch, I, O) bytes are a claim to which struo_replay answers yes. All other
-   bytes of the trace stay, and all of them for the other statuses. The three buffers must not overlap each other or the records, as Rust's &mut says. */
+   trace begins with a byte, 0 or 1, for each input in byte order of names, the clock too, for each cycle from 0 to the mismatch, then a byte for each
+   output in byte order of names, 1 where it differs in that cycle; these STRUO_TRACE_LENGTH(mismatch, I, O) bytes are a claim to which struo_replay answers
+   yes. All other bytes of the trace stay, and all of them for the other statuses. The three buffers must not overlap each other or the records, as Rust's
+   &mut says. */
 struct struo_check_answer struo_check(const uint8_t *gold, size_t gold_length, const uint8_t *gate, size_t gate_length, uint64_t depth, uint64_t limit,
                                       bool earliest, uint8_t *trace, size_t trace_length, uint32_t *words, size_t words_length,
                                       double *scores, size_t scores_length);

@@ -303,6 +303,70 @@ static void earliest_refusals(void) {
     }
 }
 
+/* A record that is refused in every call, as gold and as gate beside the toggle, before anything else that is wrong with the call; what is lent stays. */
+static void refuses_record(const char *what, const uint8_t *record, size_t length, uint32_t number, uint32_t place) {
+    static const uint8_t claim[1] = {2};
+    reads(what, record, length, number, place);
+    for (uint32_t side = 0; side < 2; side++) {
+        const uint8_t *gold = side == STRUO_GOLD ? record : toggle, *gate = side == STRUO_GOLD ? toggle : record;
+        size_t gold_length = side == STRUO_GOLD ? length : sizeof toggle, gate_length = side == STRUO_GOLD ? sizeof toggle : length;
+        struct struo_position position = {9, false};
+        lend(7, 7);
+        struct struo_replay_answer replayed = struo_replay(gold, gold_length, gate, gate_length, 65, claim, sizeof claim);
+        struct struo_read_answer begun = struo_begin(gold, gold_length, gate, gate_length, &position, bits, 0);
+        struct struo_replay_answer stepped = struo_step(gold, gold_length, gate, gate_length, 65, claim, sizeof claim, &position, bits, 0);
+        left(what, replayed.number == number && replayed.side == side && replayed.place == place && !replayed.yes, position, 9, false, 7, 7);
+        left(what, begun.number == number && begun.side == side && begun.place == place, position, 9, false, 7, 7);
+        left(what, stepped.number == number && stepped.side == side && stepped.place == place && !stepped.yes, position, 9, false, 7, 7);
+        checks_in(what, gold, gold_length, gate, gate_length, 0, UINT64_MAX, side == STRUO_GATE, 0,
+                  (struct struo_check_answer){.number = number, .side = side, .place = place}, NULL, 0);
+    }
+}
+
+/* The toggle with one number changed so that its clock is read, in each way; a clock that is no Input beside them. */
+static void clock_reads(void) {
+    static const struct { const char *what; size_t offset; uint8_t node; uint32_t number, place; } cases[] = {
+        {"a Not of the clock", 21, 0, STRUO_REFUSAL_CLOCK_READ, 0},
+        {"an Output of the clock", 26, 0, STRUO_REFUSAL_CLOCK_READ, 0},
+        {"the clock as data", 34, 0, STRUO_REFUSAL_CLOCK_READ, 0},
+        {"the clock as a reset", 41, 0, STRUO_REFUSAL_CLOCK_READ, 0},
+        {"the reset as the clock", 36, 1, STRUO_REFUSAL_CLOCK_READ, 1},
+        {"a clock that is no Input", 36, 2, STRUO_REFUSAL_UNSUPPORTED_CLOCK, 0},
+    };
+    for (size_t i = 0; i < sizeof cases / sizeof cases[0]; i++) {
+        uint8_t record[sizeof toggle];
+        memcpy(record, toggle, sizeof toggle);
+        record[cases[i].offset + 1] = cases[i].node;
+        refuses_record(cases[i].what, record, sizeof record, cases[i].number, cases[i].place);
+    }
+}
+
+/* The toggle with an enable, at bytes 39 to 41: refused where that is the clock, before anything of gate's record; accepted where it is rst. */
+static void clock_enables(void) {
+    uint8_t enabled[sizeof toggle + 2] = {0}, rest = sizeof toggle - 40;
+    memcpy(enabled, toggle, 39);
+    memcpy(enabled + 42, toggle + 40, rest);
+    enabled[4] = sizeof enabled;
+    enabled[39] = 1;
+    refuses_record("the clock as an enable", enabled, sizeof enabled, STRUO_REFUSAL_CLOCK_READ, 0);
+    checks_pair("the clock as an enable before a cut gate", enabled, sizeof enabled, toggle, 5, 1, 0, (struct struo_check_answer){.number = STRUO_REFUSAL_CLOCK_READ}, 0);
+    enabled[41] = 1;
+    reads("rst as an enable", enabled, sizeof enabled, STRUO_ACCEPTED, 0);
+}
+
+/* The trace of a row with each choice of the clock's bits is answered with yes; a 2 among them is refused. */
+static void clock_column(void) {
+    for (unsigned clock = 0; clock < 9; clock++) {
+        uint8_t claim[STRUO_TRACE_LENGTH(2, 3, 1)] = {0, 1, 0, 0, 0, 0, 0, 0, 0, 1};
+        for (unsigned cycle = 0; cycle < 3; cycle++) claim[3 * cycle] = clock < 8 ? clock >> cycle & 1 : cycle;
+        struct struo_replay_answer answer = struo_replay(row, sizeof row, holding, sizeof holding, 2, claim, sizeof claim);
+        if (answer.number != (clock < 8 ? STRUO_ACCEPTED : STRUO_REFUSAL_CLAIM) || answer.yes != (clock < 8)) {
+            printf("boundary: a claim with the clock's bits %u: %u %d\n", clock, answer.number, answer.yes);
+            failed = 1;
+        }
+    }
+}
+
 /* A claim as long as one of cycle 1, of another cycle: taken for cycle 1 it would be answered with no. */
 static void refuses_claim(const char *what, uint64_t cycle) {
     static const uint8_t claim[STRUO_TRACE_LENGTH(1, 1, 1)] = {0, 0, 1};
@@ -417,6 +481,9 @@ int main(void) {
     steps("bits short", (struct struo_position){1, true}, 0, 1, STRUO_BITS_LENGTH - 1, STRUO_REFUSAL_MEMORY, false, 1, true, 0, 1);
     steps("a stored bit 2", (struct struo_position){1, true}, 0, 2, sizeof bits, STRUO_REFUSAL_CLAIM, false, 1, true, 0, 2);
     every_check();
+    clock_reads();
+    clock_enables();
+    clock_column();
     on_stack("a read", reading, STRUO_READ_STACK);
     on_stack("a replay", replaying, STRUO_REPLAY_STACK);
     on_stack("a begin", beginning, STRUO_BEGIN_STACK);

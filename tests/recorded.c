@@ -188,7 +188,7 @@ static void check_line(void) {
 
 /* Whether a call can answer a refusal on a side. */
 static bool can(int call, unsigned refusal, unsigned side) {
-    if (refusal <= 15) return side == 0 || (call != READ && refusal > 0);
+    if (refusal <= 15 || refusal == 30) return side == 0 || (call != READ && refusal > 0);
     if (call == READ || (refusal > 25 && refusal != 36) || (call == CHECK && refusal == 25)) return false;
     if (call == REPLAY && (refusal <= 17 || refusal == 23 || refusal == 24 || refusal == 36)) return false;
     return side == 0 || refusal == 20 || refusal == 22;
@@ -208,13 +208,13 @@ static unsigned unmet_in_mode(bool earliest) {
     return missing;
 }
 
-/* Says what the mode of the earliest cycle alone shows: its mismatches, its give-ups through cycle 0, and the refusals of a pair; how much of it was not met. */
+/* Says what the mode of the earliest cycle alone shows: its mismatches, its give-ups through cycle 0, the refusals of a pair, and 30; how much of it was not met. */
 static unsigned unmet_earliest(void) {
     unsigned missing = !through_0;
     printf("recorded: earliest cycle 0: %u, 1: %u, 2: %u, later: %u; give-ups through cycle 0: %u; by refusal:", cycles[0], cycles[1], cycles[2], cycles[3], through_0);
     for (int i = 0; i < 4; i++) missing += !cycles[i];
     for (unsigned refusal = 16; refusal < REFUSALS; refusal++) {
-        if (refusal > 24 && refusal != 36) continue;
+        if (refusal > 24 && refusal != 30 && refusal != 36) continue;
         printf(" %u:%u", refusal, met_earliest[refusal]);
         missing += !met_earliest[refusal];
     }

@@ -2,7 +2,7 @@
 use std::hint::black_box;
 
 use oracle::bridge::netlist;
-use oracle::random::Size;
+use oracle::random::{ClockRead, Size};
 use oracle::reads::random_design;
 use oracle::record::{self, encode};
 use oracle::rng::Rng;
@@ -21,7 +21,7 @@ pub fn reads(seed: u64) {
         let mut rng = Rng::new(seed);
         let size = Size { inputs: 12, outputs: 6, registers: 12, gates };
         let records: Vec<Vec<u8>> = (0..400)
-            .map(|_| encode(&random_design(&mut rng, size)))
+            .map(|_| encode(&random_design(&mut rng, size, ClockRead::Never)))
             .filter(|bytes| struo_formal::read(bytes).number == 0)
             .take(100)
             .collect();

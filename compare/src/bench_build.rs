@@ -3,7 +3,7 @@ use std::hint::black_box;
 use std::process::ExitCode;
 
 use oracle::bridge::{lower, lowered, netlist};
-use oracle::random::Size;
+use oracle::random::{ClockRead, Size};
 use oracle::reads::random_design;
 use oracle::record::{self, encode};
 use oracle::rng::Rng;
@@ -29,7 +29,7 @@ fn build(lent: &mut Lent, record: &[u8], again: u32) -> usize {
 fn records(rng: &mut Rng, size: Size, count: usize) -> Vec<Vec<u8>> {
     let mut found = Vec::new();
     while found.len() < count {
-        let bytes = encode(&random_design(rng, size));
+        let bytes = encode(&random_design(rng, size, ClockRead::Never));
         if record::read(&bytes).is_ok() {
             found.push(bytes);
         }

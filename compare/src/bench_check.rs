@@ -5,9 +5,10 @@ use std::process::ExitCode;
 use oracle::bridge::netlist;
 use oracle::check::{check, CheckAnswer};
 use oracle::equivalence::prove_sequential_equivalence;
-use oracle::families::generate;
+use oracle::families::generate_reading;
 use oracle::meter::{self, Wish, LEARNED_LIMIT};
 use oracle::pair::{Lent, SCORES, WORDS};
+use oracle::random::ClockRead;
 use oracle::record::{self, encode};
 use oracle::shapes;
 use oracle::struo_ir::Netlist;
@@ -61,14 +62,15 @@ fn rust(pair: &Pair) {
 fn groups(seed: u64) -> Vec<(&'static str, Vec<String>)> {
     let lone = encode(&shapes::lone());
     let counter = |count| encode(&shapes::counter("c", 9, count, false));
-    let one = |family: &str, place: usize| vec![generate(family, 10, seed).into_iter().filter(|line| line.starts_with("check ")).nth(place).expect("a line")];
-    let deep = generate("deep", 30, seed).split_off(3);
+    let generate = |family: &str, count: usize| generate_reading(family, count, seed, ClockRead::Never);
+    let one = |family: &str, place: usize| vec![generate(family, 10).into_iter().filter(|line| line.starts_with("check ")).nth(place).expect("a line")];
+    let deep = generate("deep", 30).split_off(3);
     vec![
         ("nothing to search", vec![check_line(&lone, &lone, 1, LENT)]),
-        ("random pairs, to 30 gates a side", generate("pairs", 60, seed)),
-        ("rewritten pairs", generate("rewritten", 60, seed)),
-        ("proofs that close at depth 2 to 14", generate("late", 30, seed)),
-        ("products of 3 to 5 bits", generate("hard", 20, seed)),
+        ("random pairs, to 30 gates a side", generate("pairs", 60)),
+        ("rewritten pairs", generate("rewritten", 60)),
+        ("proofs that close at depth 2 to 14", generate("late", 30)),
+        ("products of 3 to 5 bits", generate("hard", 20)),
         ("differences at cycle 2 to 46", deep),
         ("a row of 64 registers, depth 64", one("deep", 0)),
         ("the bound 65,535, depth 64", one("limits", 0)),

@@ -2,12 +2,14 @@
 use std::process::ExitCode;
 use std::sync::atomic::{AtomicUsize, Ordering};
 
-use oracle::check::{check_reporting, CheckAnswer, GAVE_UP};
+use oracle::check::{check_reporting, CheckAnswer, GAVE_UP, NOT_EQUIVALENT};
 use oracle::families::generate;
 use oracle::limited::{limits_about, REFUSED};
 use oracle::meter::{Query, Wish, LEARNED_LIMIT};
 use oracle::pair::{Lent, SCORES, WORDS};
+use oracle::record::read;
 use oracle::rng::Rng;
+use oracle::run::clock_bytes;
 use oracle::vectors::{check_call, check_words, mode_line, split};
 
 use struo_formal::CheckAnswer as Check;
@@ -47,6 +49,8 @@ pub struct Tally {
     pub deepest: usize,
     pub latest: usize,
     pub learned: usize,
+    /// Traces of designs with registers.
+    pub clocks: u64,
     /// The mode of the earliest cycle.
     pub modes: Modes,
 }
@@ -86,6 +90,7 @@ impl Tally {
         self.deepest = self.deepest.max(other.deepest);
         self.latest = self.latest.max(other.latest);
         self.learned = self.learned.max(other.learned);
+        self.clocks += other.clocks;
         self.modes.add(&other.modes);
         self
     }
@@ -102,6 +107,7 @@ impl Tally {
         missing.extend(cycles.map(|(_, cycle)| format!("a give-up that proves {cycle}")));
         missing.extend((0..4).filter(|status| self.settled[*status] == 0).map(|status| format!("a give-up under a smaller limit alone, else status {status}")));
         missing.extend((1..5).filter(|query| self.learned_most[*query] == 0).map(|query| format!("a check that learned most in query {query}")));
+        missing.extend((self.clocks == 0).then(|| "a trace with a clock".into()));
         missing.extend(self.modes.missing());
         missing
     }
@@ -177,11 +183,26 @@ impl<C: Call> Worker<'_, C> {
             self.differs(Asked { lent, ..asked }, &answer, &fault);
         }
         let written = trace.lend()[..answer.trace.len()].to_vec();
+        if accepted && answer.status == NOT_EQUIVALENT {
+            self.trace_clock(asked, &answer, &written);
+        }
         let made = Made { told, trace: written, queries: report.queries };
         if asked.earliest {
             self.tally.modes.count(&made, asked.limit != LARGEST);
         }
         (answer, made)
+    }
+
+    /// The clock's bytes of a trace, where there is a clock, are 0.
+    fn trace_clock(&mut self, asked: Asked, answer: &CheckAnswer, trace: &[u8]) {
+        let gold = read(asked.gold).expect("accepted");
+        if gold.registers.is_empty() {
+            return;
+        }
+        self.tally.clocks += 1;
+        if clock_bytes(&gold, trace, answer.mismatch).iter().any(|byte| *byte != 0) {
+            self.differs(asked, answer, "the clock's bytes of the trace are not 0");
+        }
     }
 
     /// Counts a difference, and tells the first ones.
@@ -362,7 +383,7 @@ fn blocks(count: usize, seed: u64) -> Vec<Block> {
         blocks.push(Block { family: "deep", count: 3, skip: 0, seed });
     }
     blocks.extend((2..6).map(|skip| Block { family: "giveup", count: 1, skip, seed }));
-    blocks.extend(["earliest", "sides", "refusals", "limited"].map(fixed));
+    blocks.extend(["earliest", "sides", "refusals", "limited", "clocks"].map(fixed));
     blocks.push(Block { family: "limits", count: 1, skip: 2, seed });
     let mut left = count;
     for number in 0.. {
@@ -394,6 +415,7 @@ pub fn compare(count: u64, seed: u64) -> ExitCode {
     let [refused, limited] = tally.limited;
     println!("under other limits than the largest {limited} checks accepted, {refused} refused; give-ups by their status under the largest {:?}", tally.settled);
     println!("most learned {}, something in {learning} checks (most in query {:?})", tally.learned, tally.learned_most);
+    println!("{} traces of designs with registers, the clock's bytes 0 in each that does not differ", tally.clocks);
     println!("{}", tally.modes.told());
     let missing = unmet(&tally.missing());
     println!("{} pairs, {} checks, {} differ", tally.pairs, tally.checks, tally.differ);
@@ -441,7 +463,7 @@ mod tests {
 
     /// A few pairs: small ones, ones whose queries learn something, ones with other buffers, and ones with a fault.
     fn few() -> Vec<Block> {
-        let block = |family, count, skip| Block { family, count, skip, seed: 3 };
+        let block = |family, count, skip| Block { family, count, skip, seed: 11 };
         vec![block("small", 6, 0), block("rewritten", 2, 0), block("buffers", 7, 0), block("refusals", 4, 84), block("sides", 60, 54)]
     }
 
@@ -510,7 +532,7 @@ mod tests {
     fn the_honest_library_differs_nowhere() {
         let tally = run_blocks(&few(), 2, &honest);
         assert_eq!(tally.differ, 0);
-        assert!(tally.statuses[0] > 0 && tally.statuses[1] > 0 && tally.met.times(24) > 0);
+        assert!(tally.statuses[0] > 0 && tally.statuses[1] > 0 && tally.met.times(24) > 0 && tally.met.times(30) > 0 && tally.clocks > 0);
         let tally = run_blocks(&under_limits(), 2, &honest);
         assert_eq!(tally.differ, 0);
         assert!(tally.statuses.iter().all(|times| *times > 0) && tally.met.times(36) > 0);
@@ -524,6 +546,15 @@ mod tests {
         assert!(differing(|answer, _, _, _| answer.status = if answer.status == 1 { 2 } else { answer.status }) > 0);
         assert!(differing(|answer, _, _, _| answer.place = 0) > 0);
         assert!(differing(|answer, _, _, _| answer.side = 0) > 0);
+    }
+
+    #[test]
+    fn a_wrong_refusal_of_a_read_clock_is_found() {
+        let clocks = [Block { family: "clocks", count: 200, skip: 0, seed: 1 }];
+        assert_eq!(run_blocks(&clocks, 1, &honest).differ, 0);
+        assert!(differing_in(&clocks, |answer, _, _, _| if answer.number == 30 { *answer = Check::default() }) > 0);
+        assert!(differing_in(&clocks, |answer, _, _, _| if answer.number == 30 { answer.side = 0 }) > 0);
+        assert!(differing_in(&clocks, |answer, _, _, _| if answer.number == 30 { answer.place = 0 }) > 0);
     }
 
     #[test]

@@ -6,16 +6,20 @@ pub enum Kind {
     Read,
     Check,
     Replay,
+    Begin,
+    Step,
 }
 
 impl Kind {
     /// Whether it can answer this number with this side; number 0 is an accepted call.
     fn can(self, number: usize, side: usize) -> bool {
-        let (gate, of_one_side) = (side == 1, matches!(number, 1..=15 | 20 | 22));
+        let (gate, of_one_side) = (side == 1, matches!(number, 1..=15 | 20 | 22 | 30));
         let own = match self {
-            Self::Read => number <= 15 && !gate,
-            Self::Check => number <= 24 || number == 36,
-            Self::Replay => matches!(number, 0..=15 | 18..=22 | 25),
+            Self::Read => matches!(number, 0..=15 | 30) && !gate,
+            Self::Check => matches!(number, 0..=24 | 30 | 36),
+            Self::Replay => matches!(number, 0..=15 | 18..=22 | 25 | 30),
+            Self::Begin => matches!(number, 0..=15 | 18..=22 | 24 | 30),
+            Self::Step => matches!(number, 0..=15 | 18..=22 | 24 | 25 | 30),
         };
         own && (!gate || of_one_side)
     }
@@ -89,7 +93,8 @@ mod tests {
 
     #[test]
     fn one_that_was_not_met_is_missing() {
-        for (call, all) in [(Kind::Read, 16), (Kind::Check, 26 + 17), (Kind::Replay, 22 + 17)] {
+        let calls = [(Kind::Read, 17), (Kind::Check, 27 + 18), (Kind::Replay, 23 + 18), (Kind::Begin, 23 + 18), (Kind::Step, 24 + 18)];
+        for (call, all) in calls {
             let mut met = Met::default();
             assert_eq!(met.missing(call).len(), all);
             for number in 0..NUMBERS as u32 {
@@ -97,6 +102,9 @@ mod tests {
                 met.count(number, 1);
             }
             assert!(met.missing(call).is_empty());
+            met.0[30][0] = 0;
+            assert_eq!(met.missing(call), ["refusal 30 of side 0"]);
+            met.0[30][0] = 1;
             met.0[7][0] = 0;
             assert_eq!(met.missing(call), ["refusal 7 of side 0"]);
             assert_eq!(met.missing_numbers(call).is_empty(), met.times(7) > 0);

@@ -2,7 +2,7 @@
 use std::process::ExitCode;
 
 use oracle::families::generate;
-use oracle::random::Size;
+use oracle::random::{ClockRead, Size};
 use oracle::reads::random_design;
 use oracle::record::{self, encode, sized};
 use oracle::rng::Rng;
@@ -74,7 +74,7 @@ fn size(rng: &mut Rng) -> Size {
     }
 }
 
-/// Reads at least `count` records, and says what came of it; each refusal of 1 to 15 has to be met.
+/// Reads at least `count` records, and says what came of it; each refusal of 1 to 15 and 30 has to be met.
 pub fn compare(count: u64, seed: u64) -> ExitCode {
     let tally = run(count, seed);
     println!("reads by refusal: {}", tally.met.told(Kind::Read));
@@ -87,13 +87,13 @@ pub fn compare(count: u64, seed: u64) -> ExitCode {
 fn run(count: u64, seed: u64) -> Tally {
     let mut rng = Rng::new(seed);
     let mut tally = Tally::default();
-    for line in ["listed", "names", "long"].iter().flat_map(|family| generate(family, 400, seed)) {
+    for line in ["listed", "names", "long", "clocks"].iter().flat_map(|family| generate(family, 400, seed)) {
         if let Some(record) = line.strip_prefix("read ") {
             tally.record(&unhex(record));
         }
     }
     for turn in 0..100 {
-        let whole = encode(&random_design(&mut rng, Size { inputs: 3, outputs: 3, registers: 3, gates: 6 }));
+        let whole = encode(&random_design(&mut rng, Size { inputs: 3, outputs: 3, registers: 3, gates: 6 }, ClockRead::Seldom));
         for length in 0..=whole.len() {
             tally.record(&whole[..length]);
             if length >= 5 {
@@ -112,7 +112,7 @@ fn run(count: u64, seed: u64) -> Tally {
     }
     while tally.calls < count {
         let size = size(&mut rng);
-        let whole = encode(&random_design(&mut rng, size));
+        let whole = encode(&random_design(&mut rng, size, ClockRead::Seldom));
         tally.record(&whole);
         for _ in 0..20 {
             let bytes = damaged(&mut rng, &whole);

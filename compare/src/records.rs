@@ -3,13 +3,14 @@ use std::fs;
 use std::path::Path;
 use std::process::ExitCode;
 
-use oracle::families::generate;
+use oracle::families::generate_reading;
+use oracle::random::ClockRead;
 use oracle::vectors::unhex;
 
 /// The check at a place of a family, counted from 0; none where it has fewer.
 fn line(family: &str, place: usize, seed: u64) -> Option<String> {
     const COMMENTS: usize = 60;
-    generate(family, place + 1 + COMMENTS, seed).into_iter().filter(|line| line.starts_with("check ")).nth(place)
+    generate_reading(family, place + 1 + COMMENTS, seed, ClockRead::Never).into_iter().filter(|line| line.starts_with("check ")).nth(place)
 }
 
 /// Writes DIR/gold.struo and DIR/gate.struo of the check at a place of a family, and prints its depth.

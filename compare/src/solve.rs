@@ -1,8 +1,9 @@
 //! Searches: random problems and the queries of generated pairs, each answered by the proved search and by the Rust's.
 use std::process::ExitCode;
 
-use oracle::families::generate;
+use oracle::families::generate_reading;
 use oracle::meter::{Ending, Problem, Wish, LEARNED_LIMIT};
+use oracle::random::ClockRead;
 use oracle::rng::Rng;
 use oracle::solving::{large_graph, random_search, Graph};
 use oracle::vectors;
@@ -214,7 +215,7 @@ fn damaged(rng: &mut Rng, mut problem: Problem) -> Problem {
 /// The queries of generated pairs, with their problems.
 pub fn queries(family: &str, count: usize, seed: u64) -> Vec<Problem> {
     let wish = Wish { problems: true, ..Wish::default() };
-    generate(family, count, seed).iter().filter_map(|line| vectors::report(line, wish)).flat_map(|report| report.problems).collect()
+    generate_reading(family, count, seed, ClockRead::Never).iter().filter_map(|line| vectors::report(line, wish)).flat_map(|report| report.problems).collect()
 }
 
 /// At least `count` searches: all of the hard families, queries of random and rewritten pairs, the largest graph, and random problems with their damage.

@@ -1,21 +1,24 @@
 //! Steps: lent positions, fresh and mid-way, on true, false and damaged claims of random pairs, each moved on by the library and by the oracle. Answer,
 //! position and every lent byte are compared, and every kind of answer has to be met.
+use std::cmp::Ordering;
 use std::collections::BTreeMap;
 use std::process::ExitCode;
 
 use oracle::check::check;
-use oracle::families::random_pair;
+use oracle::families::{generate, random_pair};
 use oracle::meter::LEARNED_LIMIT;
 use oracle::pair::{trace_need, Lent};
-use oracle::random::Size;
+use oracle::random::{ClockRead, Size};
 use oracle::reads::random_reads;
 use oracle::record::{encode, Design, Refusal};
 use oracle::refusals::refused_replays;
 use oracle::rng::Rng;
 use oracle::run;
-use oracle::steps::{self, Position as Plain};
+use oracle::steps::{self, Moved, Position as Plain};
 use oracle::vectors::{hex, unhex};
 
+use crate::met::{unmet, Kind, Met};
+use crate::replays::clock_turned;
 use struo_formal::{Position, ReadAnswer, ReplayAnswer, BITS, GATE_BITS};
 
 /// A claim on a pair of records.
@@ -26,12 +29,15 @@ struct Claim<'a> {
     bytes: &'a [u8],
 }
 
-/// How many calls were made, how many differ, and how many there were of each kind of answer.
+/// How many calls were made, how many differ, what begins and steps met, how many steps there were of each kind of answer, and how many were made again with the clock's bits turned.
 #[derive(Default)]
 struct Tally {
     calls: u64,
     differ: u64,
-    kinds: BTreeMap<String, u64>,
+    begins: Met,
+    steps: Met,
+    kinds: BTreeMap<&'static str, u64>,
+    turned: u64,
 }
 
 /// A refusal's three numbers, as the boundary has them.
@@ -39,20 +45,22 @@ fn numbers(refusal: Option<Refusal>) -> (u32, u32, u32) {
     refusal.map_or((0, 0, 0), |refusal| (u32::from(refusal.number), u32::from(refusal.side), refusal.place as u32))
 }
 
-/// The kinds that have to be met.
-fn wanted() -> Vec<String> {
-    let own = (1..=15).chain(18..=22);
-    let begins = own.clone().chain([24]).map(|number| format!("begin refused {number}"));
-    let steps = own.chain([24, 25]).map(|number| format!("step refused {number}"));
-    let accepted = ["begin accepted", "step no before", "step no at", "step yes at", "step no past"].map(String::from);
-    begins.chain(steps).chain(accepted).collect()
+/// The kinds of accepted steps, which have to be met.
+const KINDS: [&str; 4] = ["no before", "no at", "yes at", "no past"];
+
+/// The kind of an accepted step.
+fn kind(position: u64, cycle: u64, yes: bool) -> &'static str {
+    match position.cmp(&cycle) {
+        Ordering::Less => "no before",
+        Ordering::Greater => "no past",
+        Ordering::Equal => if yes { "yes at" } else { "no at" },
+    }
 }
 
 impl Tally {
     /// One call counted, and told where it differs.
-    fn count(&mut self, kind: String, same: bool, told: impl FnOnce() -> String) {
+    fn count(&mut self, same: bool, told: impl FnOnce() -> String) {
         self.calls += 1;
-        *self.kinds.entry(kind).or_default() += 1;
         if !same {
             self.differ += 1;
             if self.differ <= 10 {
@@ -70,13 +78,27 @@ impl Tally {
         let same = answered == ReadAnswer { number, side, place }
             && (position.cycle, position.agreed) == (expected.position.cycle, expected.position.agreed)
             && after == expected.bits;
-        let kind = if number > 0 { format!("begin refused {number}") } else { "begin accepted".into() };
-        self.count(kind, same, || format!("begin {} {} {lent:?} {}: {answered:?} {position:?} {}, expected {expected:?}", hex(gold), hex(gate), hex(bits), hex(&after)));
+        self.begins.count(number, side);
+        self.count(same, || format!("begin {} {} {lent:?} {}: {answered:?} {position:?} {}, expected {expected:?}", hex(gold), hex(gate), hex(bits), hex(&after)));
         (expected.position, expected.bits)
     }
 
-    /// A step by both, from what is lent; its answer, and what it leaves.
+    /// A step by both, from what is lent, and where it is accepted and there is a clock again with the clock's bits turned, which changes nothing; its answer, and what it leaves.
     fn step(&mut self, claim: &Claim, lent: Plain, bits: &[u8]) -> (bool, Plain, Vec<u8>) {
+        let first = self.moved(claim, lent, bits);
+        if let Some(bytes) = clock_turned(claim.gold, claim.cycle, claim.bytes).filter(|_| first.refusal.is_none()) {
+            self.turned += 1;
+            let again = self.moved(&Claim { bytes: &bytes, ..*claim }, lent, bits);
+            if again != first {
+                self.differ += 1;
+                println!("step {} {} {} {} {lent:?}: another answer with the clock's bits turned", hex(claim.gold), hex(claim.gate), claim.cycle, hex(claim.bytes));
+            }
+        }
+        (first.yes, first.position, first.bits)
+    }
+
+    /// A step by both, from what is lent; the oracle's answer.
+    fn moved(&mut self, claim: &Claim, lent: Plain, bits: &[u8]) -> Moved {
         let Claim { gold, gate, cycle, bytes } = *claim;
         let expected = steps::step(gold, gate, cycle, bytes, lent, bits);
         let (number, side, place) = numbers(expected.refusal);
@@ -85,17 +107,15 @@ impl Tally {
         let same = answered == ReplayAnswer { number, side, place, yes: expected.yes }
             && (position.cycle, position.agreed) == (expected.position.cycle, expected.position.agreed)
             && after == expected.bits;
-        let kind = match (number, lent.cycle.cmp(&cycle)) {
-            (0, std::cmp::Ordering::Less) => "step no before".into(),
-            (0, std::cmp::Ordering::Greater) => "step no past".into(),
-            (0, _) => format!("step {} at", if expected.yes { "yes" } else { "no" }),
-            _ => format!("step refused {number}"),
-        };
-        self.count(kind, same, || {
+        self.steps.count(number, side);
+        if number == 0 {
+            *self.kinds.entry(kind(lent.cycle, cycle, expected.yes)).or_default() += 1;
+        }
+        self.count(same, || {
             let call = format!("step {} {} {cycle} {} {lent:?} {}", hex(gold), hex(gate), hex(bytes), hex(bits));
             format!("{call}: {answered:?} {position:?} {}, expected {expected:?}", hex(&after))
         });
-        (expected.yes, expected.position, expected.bits)
+        expected
     }
 
     /// From begin to the claimed cycle and past it; where the bits are long enough the step at the claimed cycle answers as replay does.
@@ -139,7 +159,7 @@ fn lent_position(rng: &mut Rng, cycle: u64) -> Plain {
 
 /// Walks and single steps on one pair.
 fn pair(rng: &mut Rng, tally: &mut Tally) {
-    let pair = random_pair(rng, Size { inputs: 4, outputs: 3, registers: 4, gates: 9 }, 3);
+    let pair = random_pair(rng, Size { inputs: 4, outputs: 3, registers: 4, gates: 9 }, 3, ClockRead::Seldom);
     let (gold, gate) = (encode(&pair.gold), encode(&pair.gate));
     let answer = check(&gold, &gate, 3, LEARNED_LIMIT as u64, false, Lent { trace: 8192, words: 8_388_608, scores: 65_536 });
     let mut claims: Vec<(u64, Vec<u8>)> = (0..3)
@@ -170,8 +190,8 @@ fn refusals(rng: &mut Rng, tally: &mut Tally) {
     let position = Plain { cycle: rng.below(3) as u64, agreed: rng.one_in(2) };
     let length = *rng.pick(&[0, 255, 256, 300]);
     let bits: Vec<u8> = (0..length).map(|_| rng.below(256) as u8).collect();
-    let whole = encode(&oracle::reads::random_design(rng, Size { inputs: 3, outputs: 3, registers: 3, gates: 6 }));
-    let mut records: Vec<Vec<u8>> = random_reads(rng, 4).iter().map(|line| unhex(line.split_whitespace().nth(1).expect("a record"))).collect();
+    let whole = encode(&oracle::reads::random_design(rng, Size { inputs: 3, outputs: 3, registers: 3, gates: 6 }, ClockRead::Seldom));
+    let mut records: Vec<Vec<u8>> = random_reads(rng, 4, ClockRead::Seldom).iter().map(|line| unhex(line.split_whitespace().nth(1).expect("a record"))).collect();
     records.push(crate::reads::damaged(rng, &whole));
     let claim = bytes(rng, 5, 50);
     for other in &records {
@@ -182,9 +202,10 @@ fn refusals(rng: &mut Rng, tally: &mut Tally) {
     }
 }
 
-/// Calls on the pairs of the oracle's refused replays: 18 to 22, 25, and damaged records.
+/// Calls on the pairs of the oracle's refused replays: 18 to 22, 25, 30, and damaged records.
 fn refused_pairs(rng: &mut Rng, tally: &mut Tally) {
-    for line in refused_replays(rng, 400) {
+    let listed = generate("clocks", 300, 1).into_iter().filter(|line| line.starts_with("replay "));
+    for line in listed.chain(refused_replays(rng, 400, ClockRead::Seldom)) {
         let words: Vec<&str> = line.split_whitespace().collect();
         let ["replay", gold, gate, cycle, claim] = words[..] else { panic!("no replay: {line}") };
         let (gold, gate, claim) = (unhex(gold), unhex(gate), unhex(claim));
@@ -205,14 +226,14 @@ pub fn compare(count: u64, seed: u64) -> ExitCode {
         pair(&mut rng, &mut tally);
         refusals(&mut rng, &mut tally);
     }
-    let mut missing = 0;
-    for (kind, calls) in &tally.kinds {
-        println!("{kind}: {calls}");
-    }
-    for kind in wanted().iter().filter(|kind| !tally.kinds.contains_key(*kind)) {
-        println!("not met: {kind}");
-        missing += 1;
-    }
-    println!("{} begins and steps of {} kinds, {missing} kinds not met, {} differ", tally.calls, tally.kinds.len(), tally.differ);
-    ExitCode::from(u8::from(tally.differ > 0 || missing > 0))
+    println!("begins by refusal, gold+gate: {}", tally.begins.told(Kind::Begin));
+    println!("steps by refusal, gold+gate: {}", tally.steps.told(Kind::Step));
+    println!("accepted steps: {:?}, {} with the clock's bits turned", tally.kinds, tally.turned);
+    let mut missing: Vec<String> = tally.begins.missing(Kind::Begin).iter().map(|what| format!("begin: {what}")).collect();
+    missing.extend(tally.steps.missing(Kind::Step).iter().map(|what| format!("step: {what}")));
+    missing.extend(KINDS.iter().filter(|kind| !tally.kinds.contains_key(*kind)).map(|kind| format!("step: {kind}")));
+    missing.extend((tally.turned == 0).then(|| "step: the clock's bits turned".into()));
+    let missing = unmet(&missing);
+    println!("{} begins and steps, {} differ", tally.calls, tally.differ);
+    ExitCode::from(u8::from(tally.differ > 0 || missing))
 }

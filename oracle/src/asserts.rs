@@ -4,10 +4,10 @@ use crate::exhaustive::{first_difference, induction, least_over_sequences};
 use crate::families::{random_pair, Pair};
 use crate::limited::limits_about;
 use crate::meter::{Ending, Query, Report, Wish, LEARNED_LIMIT};
-use crate::random::Size;
-use crate::record::{encode, Design};
+use crate::random::{ClockRead, Size};
+use crate::record::{clock_refusal, encode, Design};
 use crate::rng::Rng;
-use crate::run::replay;
+use crate::run::{clock_bytes, clock_column, initial, next, outputs, replay, values, Inputs};
 
 /// How often each thing was seen.
 #[derive(Debug, Default)]
@@ -32,6 +32,9 @@ pub struct Summary {
     pub first_most: usize,
     pub least: usize,
     pub sequences: usize,
+    /// Designs with registers that were run on two input sequences which differ in the clock's bits alone, and traces of such designs.
+    pub two_clocks: usize,
+    pub clock_columns: usize,
     pub failures: Vec<String>,
 }
 
@@ -55,6 +58,41 @@ fn trace_replays(summary: &mut Summary, pair: &Pair, answer: &CheckAnswer) {
     summary.expect(no.refusal.is_none() && !no.yes, "a turned mark replays", pair);
     summary.expect(answer.mismatch <= answer.depth, "the mismatch is past the depth", pair);
     summary.replays += 1;
+    if !pair.gold.registers.is_empty() {
+        let clock = clock_bytes(&pair.gold, &answer.trace, answer.mismatch);
+        summary.expect(clock.iter().all(|byte| *byte == 0), "the clock's bytes of a trace are 0", pair);
+        summary.clock_columns += 1;
+    }
+}
+
+/// Whether a design with registers has the same outputs and stored bits in so many cycles of two random input sequences that differ in every bit of the clock and in nothing else.
+pub fn clock_is_no_data(rng: &mut Rng, design: &Design, cycles: usize) -> bool {
+    let names = design.input_names();
+    let clock = &names[clock_column(design).expect("a design with registers")];
+    let (mut stored, mut other_stored) = (initial(design), initial(design));
+    for _ in 0..cycles {
+        let inputs: Inputs = names.iter().map(|name| (name.clone(), rng.one_in(2))).collect();
+        let mut other_inputs = inputs.clone();
+        other_inputs.insert(clock.clone(), !inputs[clock]);
+        let (bits, other_bits) = (values(design, &inputs, &stored), values(design, &other_inputs, &other_stored));
+        let same_outputs = outputs(design, &bits) == outputs(design, &other_bits);
+        (stored, other_stored) = (next(design, &bits, &stored), next(design, &other_bits, &other_stored));
+        if !same_outputs || stored != other_stored {
+            return false;
+        }
+    }
+    true
+}
+
+/// The clock is no data of either design of a pair that is accepted.
+fn clocks(summary: &mut Summary, rng: &mut Rng, pair: &Pair) {
+    for design in [&pair.gold, &pair.gate] {
+        summary.expect(clock_refusal(design).is_ok(), "a design reads its clock", pair);
+        if !design.registers.is_empty() {
+            summary.expect(clock_is_no_data(rng, design, 12), "the clock is data", pair);
+            summary.two_clocks += 1;
+        }
+    }
 }
 
 /// A design against itself is Equivalent at depth 1, with nothing learned, which query 1 of depth 1 has first, or query 0 in the mode.
@@ -223,6 +261,7 @@ fn is_tiny(pair: &Pair) -> bool {
 pub fn run(count: usize, seed: u64) -> Summary {
     let mut rng = Rng::new(seed);
     let mut limits = Rng::new(!seed);
+    let mut inputs = Rng::new(seed.rotate_left(32));
     let mut summary = Summary::default();
     for _ in 0..count {
         let tiny = !rng.one_in(3);
@@ -231,7 +270,7 @@ pub fn run(count: usize, seed: u64) -> Summary {
         } else {
             Size { inputs: 6, outputs: 5, registers: 6, gates: 24 }
         };
-        let pair = random_pair(&mut rng, size, 5);
+        let pair = random_pair(&mut rng, size, 5, ClockRead::Never);
         let (answer, report) = prove(&pair.gold, &pair.gate, pair.depth, false, Wish::default());
         summary.pairs += 1;
         summary.statuses[usize::from(answer.status)] += 1;
@@ -240,6 +279,7 @@ pub fn run(count: usize, seed: u64) -> Summary {
         if answer.status == NOT_EQUIVALENT {
             trace_replays(&mut summary, &pair, &answer);
         }
+        clocks(&mut summary, &mut inputs, &pair);
         self_check(&mut summary, &pair, &pair.gold, false);
         self_check(&mut summary, &pair, &pair.gate, false);
         swapped(&mut summary, &pair, &answer, false);

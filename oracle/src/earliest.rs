@@ -6,7 +6,7 @@ use crate::families::{product_pair, random_pair, Pair};
 use crate::limited::{enough, learning_pair, limits_about, stored_product, toggle};
 use crate::meter::{Query, Wish, LEARNED_LIMIT};
 use crate::pair::{trace_need, Lent, SCORES, WORDS};
-use crate::random::Size;
+use crate::random::{ClockRead, Size};
 use crate::record::{encode, Design, Reset};
 use crate::refusals::{clock_faults, port_faults, record_with, reset_faults, wide};
 use crate::rng::Rng;
@@ -117,8 +117,8 @@ fn resets() -> Vec<String> {
 }
 
 /// Refusals in the mode, each at the place that it has without it: refusal 24 asks for the trace of D + 1 cycles though cycle 0 is told.
-fn refused() -> Vec<String> {
-    let (clocks, without, ports) = (clock_faults(), reset_faults(), port_faults());
+fn refused(clock: ClockRead) -> Vec<String> {
+    let (clocks, without, ports) = (clock_faults(clock), reset_faults(), port_faults());
     let (gold, gate) = (toggle("q"), toggle("p"));
     let mut lines = vec!["# 16, 17 and 36".into()];
     lines.extend([(0, LARGEST), (0, LARGEST + 1), (65, 0), (65, LARGEST + 1), (u64::MAX, 0)].map(|(depth, limit)| line(&gold, &gate, depth, limit)));
@@ -177,15 +177,15 @@ fn class(plain: &CheckAnswer, answer: &CheckAnswer, queries: &[Query], outputs: 
 
 /// A small pair without registers whose queries may learn much.
 fn gates_alone(rng: &mut Rng) -> Pair {
-    random_pair(rng, Size { inputs: 5, outputs: 3, registers: 0, gates: 24 }, 2)
+    random_pair(rng, Size { inputs: 5, outputs: 3, registers: 0, gates: 24 }, 2, ClockRead::Freely)
 }
 
 /// Random pairs in the mode, under the largest limit and under limits about their totals: of each class so many, of each pair at most two and of two classes.
-fn by_class(rng: &mut Rng, quota: usize) -> Vec<String> {
+fn by_class(rng: &mut Rng, quota: usize, clock: ClockRead) -> Vec<String> {
     let mut met: BTreeMap<Class, usize> = BTreeMap::new();
     let mut lines = vec!["# by status, query, depth and cycle: the cycle another than without the mode, several outputs marked, something learned in cycle 0, query 0 learned most, the most learned elsewhere, one mode alone gives up".into()];
     for place in 0..2_000 {
-        let pair = if place % 2 == 0 { learning_pair(rng) } else { gates_alone(rng) };
+        let pair = if place % 2 == 0 { learning_pair(rng, clock) } else { gates_alone(rng) };
         let under = |limit: usize, earliest: bool| prove(&pair.gold, &pair.gate, pair.depth, earliest, Wish { limit, ..Wish::default() });
         let (_, report) = under(LEARNED_LIMIT, true);
         let mut limits = limits_about(rng, &report.queries);
@@ -208,10 +208,10 @@ fn by_class(rng: &mut Rng, quota: usize) -> Vec<String> {
 }
 
 /// At most so many lines of the family; the random pairs come last.
-pub fn earliest(rng: &mut Rng, count: usize) -> Vec<String> {
-    let mut lines = [named(), resets(), refused(), buffers()].concat();
+pub fn earliest(rng: &mut Rng, count: usize, clock: ClockRead) -> Vec<String> {
+    let mut lines = [named(), resets(), refused(clock), buffers()].concat();
     if lines.len() < count {
-        lines.extend(by_class(rng, 2));
+        lines.extend(by_class(rng, 2, clock.chosen()));
     }
     lines.truncate(count);
     lines

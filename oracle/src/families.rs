@@ -1,11 +1,12 @@
 //! The families of vector lines: pairs, reads, replays; each deterministic by its seed.
 use crate::check::{prove, NOT_EQUIVALENT};
+use crate::clocks;
 use crate::dense::{dense, Dense};
 use crate::earliest;
 use crate::limited;
 use crate::meter::Wish;
 use crate::pair::{cost, trace_need, Lent, SCORES, WORDS};
-use crate::random::{changed, design, interface, register_names, Size};
+use crate::random::{changed, design, interface, register_names, ClockRead, Size};
 use crate::record::{encode, Design, Name};
 use crate::reads;
 use crate::refusals;
@@ -60,9 +61,9 @@ fn renaming(rng: &mut Rng) -> impl Fn(&Name) -> Name {
 }
 
 /// A random pair with one interface: changed, rewritten, or another design altogether.
-pub fn random_pair(rng: &mut Rng, size: Size, depth: usize) -> Pair {
+pub fn random_pair(rng: &mut Rng, size: Size, depth: usize, clock: ClockRead) -> Pair {
     let registers = rng.below(size.registers + 1);
-    let interface = interface(rng, size, registers > 0);
+    let interface = interface(rng, size, registers > 0, clock);
     let names = register_names(rng, registers);
     let gates = rng.below(size.gates + 1);
     let gold = design(rng, &interface, &names, gates);
@@ -73,15 +74,15 @@ pub fn random_pair(rng: &mut Rng, size: Size, depth: usize) -> Pair {
             let chosen = if rng.one_in(2) { &names } else { &other };
             design(rng, &interface, chosen, gates)
         }
-        1 | 2 => changed(rng, &gold),
+        1 | 2 => changed(rng, &gold, interface.clock_read),
         3 => {
-            let once = changed(rng, &gold);
+            let once = changed(rng, &gold, interface.clock_read);
             let rename = renaming(rng);
-            rewritten(rng, &once, rename)
+            rewritten(rng, &once, interface.clock_read, rename)
         }
         _ => {
             let rename = renaming(rng);
-            rewritten(rng, &gold, rename)
+            rewritten(rng, &gold, interface.clock_read, rename)
         }
     };
     let depth = rng.range(1, depth);
@@ -89,12 +90,12 @@ pub fn random_pair(rng: &mut Rng, size: Size, depth: usize) -> Pair {
 }
 
 /// Random valid pairs of all shapes.
-fn pairs(rng: &mut Rng, count: usize) -> Vec<String> {
+fn pairs(rng: &mut Rng, count: usize, clock: ClockRead) -> Vec<String> {
     (0..count)
         .map(|_| {
             let size = Size { inputs: 6, outputs: 5, registers: 6, gates: rng.range(0, 30) };
             let depth = if rng.one_in(8) { 64 } else { 8 };
-            let pair = random_pair(rng, size, depth);
+            let pair = random_pair(rng, size, depth, clock);
             let more = if rng.one_in(4) { rng.range(1, 9) as u64 } else { 0 };
             pair.line_with(more)
         })
@@ -102,23 +103,23 @@ fn pairs(rng: &mut Rng, count: usize) -> Vec<String> {
 }
 
 /// Small pairs.
-fn small_pairs(rng: &mut Rng, count: usize) -> Vec<String> {
+fn small_pairs(rng: &mut Rng, count: usize, clock: ClockRead) -> Vec<String> {
     let size = Size { inputs: 3, outputs: 2, registers: 2, gates: 4 };
-    (0..count).map(|_| random_pair(rng, size, 3).line()).collect()
+    (0..count).map(|_| random_pair(rng, size, 3, clock).line()).collect()
 }
 
 /// Rewritten equivalents.
-fn rewritten_pairs(rng: &mut Rng, count: usize) -> Vec<String> {
+fn rewritten_pairs(rng: &mut Rng, count: usize, clock: ClockRead) -> Vec<String> {
     (0..count)
         .map(|_| {
             let size = Size { inputs: 5, outputs: 4, registers: 6, gates: 30 };
             let registers = rng.below(size.registers + 1);
-            let interface = interface(rng, size, registers > 0);
+            let interface = interface(rng, size, registers > 0, clock);
             let names = register_names(rng, registers);
             let gates = rng.range(1, size.gates);
             let gold = design(rng, &interface, &names, gates);
             let rename = renaming(rng);
-            let gate = rewritten(rng, &gold, rename);
+            let gate = rewritten(rng, &gold, interface.clock_read, rename);
             let depth = rng.range(1, 10);
             Pair { gold, gate, depth }.fitted().line()
         })
@@ -148,7 +149,7 @@ pub fn deep_pair(rng: &mut Rng, cycle: usize) -> Pair {
 }
 
 /// A pair whose induction closes at depth k and not before: rows of k registers, all named apart or but for one.
-pub fn late_proof(rng: &mut Rng, length: usize) -> Pair {
+pub fn late_proof(rng: &mut Rng, length: usize, clock: ClockRead) -> Pair {
     let gold = long_row("p", length);
     let kept = rng.below(2 * length);
     let rename = move |name: &Name| {
@@ -158,14 +159,15 @@ pub fn late_proof(rng: &mut Rng, length: usize) -> Pair {
         }
         name
     };
-    let gate = rewritten(rng, &gold, rename);
+    let clock_read = clock.drawn(rng);
+    let gate = rewritten(rng, &gold, clock_read, rename);
     Pair { gold, gate, depth: length }
 }
 
 /// A row of 32 registers against one rewritten, with no register named alike: Equivalent at depth 32, by query 4.
 fn shift_rows(rng: &mut Rng) -> Vec<String> {
     let gold = long_row("p", 32);
-    let gate = rewritten(rng, &gold, |name| [b"q", &name[1..]].concat());
+    let gate = rewritten(rng, &gold, false, |name| [b"q", &name[1..]].concat());
     vec![Pair { gold, gate, depth: 32 }.line()]
 }
 
@@ -194,11 +196,11 @@ fn sums() -> Vec<String> {
 }
 
 /// Equivalent at depth k: checked to k, one short of it, and past it.
-fn late_proofs(rng: &mut Rng, count: usize) -> Vec<String> {
+fn late_proofs(rng: &mut Rng, count: usize, clock: ClockRead) -> Vec<String> {
     (0..count)
         .map(|_| {
             let length = rng.range(2, 14);
-            let mut pair = late_proof(rng, length);
+            let mut pair = late_proof(rng, length, clock);
             pair.depth = match rng.below(4) {
                 0 => length - 1,
                 1 => length + rng.range(1, 4),
@@ -313,11 +315,11 @@ fn give_ups(count: usize) -> Vec<String> {
 }
 
 /// Buffers of the least length, one short, and longer.
-fn buffers(rng: &mut Rng, count: usize) -> Vec<String> {
+fn buffers(rng: &mut Rng, count: usize, clock: ClockRead) -> Vec<String> {
     let mut lines = Vec::new();
     while lines.len() < count {
         let size = Size { inputs: 4, outputs: 3, registers: 3, gates: 6 };
-        let pair = random_pair(rng, size, 4);
+        let pair = random_pair(rng, size, 4, clock);
         let depth = pair.depth as u64;
         let need = trace_need(&pair.gold, depth);
         let lengths = [
@@ -358,11 +360,11 @@ fn damaged_claim(rng: &mut Rng, claim: &[u8]) -> Vec<u8> {
 }
 
 /// Replays: true claims, claims changed in one place, claims of another cycle, random claims.
-fn replays(rng: &mut Rng, count: usize) -> Vec<String> {
+fn replays(rng: &mut Rng, count: usize, clock: ClockRead) -> Vec<String> {
     let mut lines = Vec::new();
     while lines.len() < count {
         let size = Size { inputs: 4, outputs: 4, registers: 4, gates: 8 };
-        let pair = if rng.one_in(6) { let cycle = rng.range(2, 12); deep_pair(rng, cycle) } else { random_pair(rng, size, 6) };
+        let pair = if rng.one_in(6) { let cycle = rng.range(2, 12); deep_pair(rng, cycle) } else { random_pair(rng, size, 6, clock) };
         let (gold, gate) = (encode(&pair.gold), encode(&pair.gate));
         let (answer, _) = prove(&pair.gold, &pair.gate, pair.depth, false, Wish::default());
         if answer.status == NOT_EQUIVALENT {
@@ -386,12 +388,12 @@ fn replays(rng: &mut Rng, count: usize) -> Vec<String> {
 }
 
 /// Checks of small pairs under limits about the totals that their queries learn.
-fn under(rng: &mut Rng, count: usize) -> Vec<String> {
+fn under(rng: &mut Rng, count: usize, clock: ClockRead) -> Vec<String> {
     let mut lines = Vec::new();
     while lines.len() < count {
         let size = Size { inputs: 4, outputs: 3, registers: 4, gates: 14 };
         let length = rng.range(2, 4);
-        let mut pair = if rng.one_in(4) { late_proof(rng, length) } else { random_pair(rng, size, 3) };
+        let mut pair = if rng.one_in(4) { late_proof(rng, length, clock) } else { random_pair(rng, size, 3, clock) };
         pair.depth = pair.depth.min(4);
         let (_, report) = prove(&pair.gold, &pair.gate, pair.depth, false, Wish::default());
         let mut limits: Vec<usize> = report.queries.iter().filter(|query| query.learned > 0).flat_map(|query| [query.learned - 1, query.learned]).collect();
@@ -405,47 +407,60 @@ fn under(rng: &mut Rng, count: usize) -> Vec<String> {
 }
 
 /// The names of the families.
-pub const FAMILIES: [&str; 30] = [
+pub const FAMILIES: [&str; 31] = [
     "cases", "pairs", "small", "rewritten", "deep", "late", "hard", "rescale", "giveup", "limits", "buffers", "refusals", "sides", "replays", "refused-replays", "reads",
-    "listed", "cuts", "changes", "long", "names", "wire-bytes", "under", "limited", "earliest", "solve", "dense", "rows", "feedback", "sums",
+    "listed", "cuts", "changes", "long", "names", "wire-bytes", "under", "limited", "earliest", "solve", "dense", "rows", "feedback", "sums", "clocks",
 ];
 
-/// The lines of a family, without answers.
+/// The lines of a family, without answers; random designs seldom read their clock.
 pub fn generate(family: &str, count: usize, seed: u64) -> Vec<String> {
+    generate_reading(family, count, seed, ClockRead::Seldom)
+}
+
+/// The lines of a family whose designs read their clock so often, without answers.
+pub fn generate_reading(family: &str, count: usize, seed: u64, clock: ClockRead) -> Vec<String> {
     let rng = &mut Rng::new(seed);
     let mut lines = match family {
+        "pairs" => pairs(rng, count, clock),
+        "small" => small_pairs(rng, count, clock),
+        "rewritten" => rewritten_pairs(rng, count, clock),
+        "late" => late_proofs(rng, count, clock),
+        "buffers" => buffers(rng, count, clock),
+        "replays" => replays(rng, count, clock),
+        "under" => under(rng, count, clock.chosen()),
+        "refusals" => refusals::refused_checks(rng, count, clock),
+        "refused-replays" => refusals::refused_replays(rng, count, clock),
+        "reads" => reads::random_reads(rng, count, clock),
+        "cuts" => reads::cuts(rng, count, clock),
+        "changes" => reads::changes(rng, count, clock),
+        "long" => reads::long(clock),
+        "limited" => limited::limited(rng, count, clock),
+        "earliest" => earliest::earliest(rng, count, clock),
+        _ => without_random_clocks(family, rng, count),
+    };
+    lines.truncate(count);
+    lines
+}
+
+/// The lines of a family whose designs are the same however often clocks are read.
+fn without_random_clocks(family: &str, rng: &mut Rng, count: usize) -> Vec<String> {
+    match family {
         "cases" => refusals::cases(),
-        "pairs" => pairs(rng, count),
-        "small" => small_pairs(rng, count),
-        "rewritten" => rewritten_pairs(rng, count),
         "deep" => deep(rng, count),
-        "late" => late_proofs(rng, count),
         "hard" => hard(rng, count),
         "rescale" => rescale(),
         "giveup" => give_ups(count),
         "limits" => refusals::limits(),
-        "buffers" => buffers(rng, count),
-        "refusals" => refusals::refused_checks(rng, count),
         "sides" => refusals::sides(),
-        "replays" => replays(rng, count),
-        "refused-replays" => refusals::refused_replays(rng, count),
-        "reads" => reads::random_reads(rng, count),
         "listed" => reads::listed(),
-        "cuts" => reads::cuts(rng, count),
-        "changes" => reads::changes(rng, count),
-        "long" => reads::long(),
         "names" => reads::names(),
         "wire-bytes" => reads::wire_bytes(),
-        "under" => under(rng, count),
-        "limited" => limited::limited(rng, count),
-        "earliest" => earliest::earliest(rng, count),
         "dense" => dense_pairs(rng, count),
         "rows" => shift_rows(rng),
         "feedback" => feedback(),
         "sums" => sums(),
+        "clocks" => clocks::clocks(),
         "solve" => (0..count).map(|_| solving::random_problem(rng)).collect(),
         _ => panic!("no family {family}; there are {}", FAMILIES.join(", ")),
-    };
-    lines.truncate(count);
-    lines
+    }
 }

@@ -5,6 +5,7 @@ include!(concat!(env!("OUT_DIR"), "/struo.rs"));
 pub mod asserts;
 pub mod bridge;
 pub mod check;
+pub mod clocks;
 pub mod dense;
 pub mod earliest;
 pub mod exhaustive;

@@ -5,7 +5,7 @@ use crate::check::{prove, CheckAnswer, GAVE_UP};
 use crate::families::{deep_pair, late_proof, product_pair, random_pair, Pair};
 use crate::meter::{Query, Wish, LEARNED_LIMIT};
 use crate::pair::{trace_need, Lent, SCORES, WORDS};
-use crate::random::Size;
+use crate::random::{ClockRead, Size};
 use crate::record::{encode, Design};
 use crate::refusals::{clock_faults, port_faults, record_with, reset_faults, wide};
 use crate::rng::Rng;
@@ -113,8 +113,8 @@ fn refused_before() -> Vec<String> {
 }
 
 /// A limit that is refused beside the refusals after it, and the same calls under the limit 0.
-fn refused_after() -> Vec<String> {
-    let (clocks, resets, ports) = (clock_faults(), reset_faults(), port_faults());
+fn refused_after(clock: ClockRead) -> Vec<String> {
+    let (clocks, resets, ports) = (clock_faults(clock), reset_faults(), port_faults());
     let one = |pair: &(Design, Design)| (pair.0.clone(), pair.1.clone(), 1);
     let mut pairs = vec![(toggle("q"), shapes::wire(), 1)];
     pairs.extend([&ports[0], &ports[3], &clocks[0], &clocks[1], &clocks[4], &resets[0], &resets[2]].map(one));
@@ -148,21 +148,21 @@ fn class(answer: &CheckAnswer) -> (u8, usize, usize, bool) {
 }
 
 /// A small pair whose queries may learn something.
-pub fn learning_pair(rng: &mut Rng) -> Pair {
+pub fn learning_pair(rng: &mut Rng, clock: ClockRead) -> Pair {
     let length = rng.range(2, 8);
     match rng.below(12) {
-        0 => late_proof(rng, length),
+        0 => late_proof(rng, length, clock),
         1 => deep_pair(rng, length),
-        _ => random_pair(rng, Size { inputs: 4, outputs: 3, registers: 4, gates: 14 }, 4),
+        _ => random_pair(rng, Size { inputs: 4, outputs: 3, registers: 4, gates: 14 }, 4, clock),
     }
 }
 
 /// Random pairs under limits about their totals: of each class so many, of each pair at most two. A check that does not give up has exactly its largest total as limit.
-fn by_class(rng: &mut Rng, quota: usize) -> Vec<String> {
+fn by_class(rng: &mut Rng, quota: usize, clock: ClockRead) -> Vec<String> {
     let mut met: BTreeMap<(u8, usize, usize, bool), usize> = BTreeMap::new();
     let mut lines = vec!["# give-ups in each query, at depth 1, 2 and deeper, the most learned there or elsewhere; and limits that are just enough".into()];
     for _ in 0..2_000 {
-        let pair = learning_pair(rng);
+        let pair = learning_pair(rng, clock);
         let under = |limit: usize| prove(&pair.gold, &pair.gate, pair.depth, false, Wish { limit, ..Wish::default() });
         let (_, report) = under(LEARNED_LIMIT);
         let mut limits = limits_about(rng, &report.queries);
@@ -183,10 +183,10 @@ fn by_class(rng: &mut Rng, quota: usize) -> Vec<String> {
 }
 
 /// At most so many lines of the family; the random pairs come last.
-pub fn limited(rng: &mut Rng, count: usize) -> Vec<String> {
-    let mut lines = [named(), refused_before(), refused_after()].concat();
+pub fn limited(rng: &mut Rng, count: usize, clock: ClockRead) -> Vec<String> {
+    let mut lines = [named(), refused_before(), refused_after(clock)].concat();
     if lines.len() < count {
-        lines.extend(by_class(rng, 2));
+        lines.extend(by_class(rng, 2, clock.chosen()));
     }
     lines.truncate(count);
     lines

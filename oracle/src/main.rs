@@ -2,11 +2,12 @@
 use std::io::Read;
 use std::process::ExitCode;
 
-use oracle::families::{generate, FAMILIES};
+use oracle::families::{generate, generate_reading, FAMILIES};
 use oracle::meter::Wish;
+use oracle::random::ClockRead;
 use oracle::{asserts, solving, vectors};
 
-const USAGE: &str = "oracle answer FILE | verify FILE | generate FAMILY COUNT SEED | assert COUNT SEED | queries FILE | queries FAMILY COUNT SEED | trace FILE TURNS | totals FILE
+const USAGE: &str = "oracle answer FILE | verify FILE | generate FAMILY COUNT SEED [freely] | assert COUNT SEED | queries FILE | queries FAMILY COUNT SEED | trace FILE TURNS | totals FILE
 FILE may be - for the standard input.";
 
 /// The lines of a file, or of the standard input.
@@ -23,6 +24,12 @@ fn lines(file: &str) -> Vec<String> {
 /// A number of the command line.
 fn number(word: &str) -> usize {
     word.parse().unwrap_or_else(|_| panic!("no number: {word}"))
+}
+
+/// Prints lines.
+fn print(lines: &[String]) -> ExitCode {
+    lines.iter().for_each(|line| println!("{line}"));
+    ExitCode::SUCCESS
 }
 
 /// Prints every line with its answer.
@@ -62,6 +69,7 @@ fn assert(count: usize, seed: u64) -> ExitCode {
     println!("{} checks under limits; give-ups in queries 0 to 4, at depth 1 and deeper: {:?}; {} proved cycles searched exhaustively", summary.limited, summary.given_up, summary.searched);
     println!("earliest cycle: {} pairs differ in cycle 0, {} of them in cycle 1 without the mode; query 0 learned most in {} others", summary.at_once, summary.earlier, summary.first_most);
     println!("least cycles searched exhaustively: {} by states, {} by input sequences", summary.least, summary.sequences);
+    println!("clock: {} designs run on two sequences that differ in its bits alone, {} traces with its bytes 0", summary.two_clocks, summary.clock_columns);
     println!("deepest {}, most learned {}, {} failures", summary.deepest, summary.most_learned, summary.failures.len());
     ExitCode::from(u8::from(!summary.failures.is_empty()))
 }
@@ -118,10 +126,8 @@ fn main() -> ExitCode {
         ["answer", file] => answer(file),
         ["verify", file] => verify(file),
         ["assert", count, seed] => assert(number(count), number(seed) as u64),
-        ["generate", family, count, seed] => {
-            generate(family, number(count), number(seed) as u64).iter().for_each(|line| println!("{line}"));
-            ExitCode::SUCCESS
-        }
+        ["generate", family, count, seed] => print(&generate(family, number(count), number(seed) as u64)),
+        ["generate", family, count, seed, "freely"] => print(&generate_reading(family, number(count), number(seed) as u64, ClockRead::Freely)),
         ["queries", family, count, seed] => queries(&generate(family, number(count), number(seed) as u64)),
         ["queries", file] => queries(&lines(file)),
         ["totals", file] => totals(&lines(file)),

@@ -21,7 +21,7 @@ fn refused(number: u8, side: u8, place: usize) -> Result<(), Refusal> {
     Err(Refusal { number, side, place })
 }
 
-/// Both records through 15, gold wholly first.
+/// Both records through 15 and 30, gold wholly first.
 pub fn read_pair(gold: &[u8], gate: &[u8]) -> Result<(Design, Design), Refusal> {
     let gold = read(gold)?;
     let gate = read(gate).map_err(|refusal| Refusal { side: 1, ..refusal })?;

@@ -1,14 +1,14 @@
 //! Lines of reads: valid records and records with a fault of each number and kind of place.
-use crate::random::{design, interface, register_names, Size};
+use crate::random::{design, interface, register_names, ClockRead, Size};
 use crate::record::{encode, sized, Design, Enable, Node, Reset};
 use crate::rng::Rng;
 use crate::shapes::{numbered, sync, Builder};
 use crate::vectors::read_line;
 
-/// A random accepted design.
-pub fn random_design(rng: &mut Rng, size: Size) -> Design {
+/// A random design, accepted where it does not read its clock.
+pub fn random_design(rng: &mut Rng, size: Size, clock: ClockRead) -> Design {
     let registers = rng.below(size.registers + 1);
-    let interface = interface(rng, size, registers > 0);
+    let interface = interface(rng, size, registers > 0, clock);
     let names = register_names(rng, registers);
     let gates = rng.below(size.gates + 1);
     let mut design = design(rng, &interface, &names, gates);
@@ -58,11 +58,11 @@ fn damaged(rng: &mut Rng, mut design: Design) -> Design {
 }
 
 /// Random records, most with a fault in a field.
-pub fn random_reads(rng: &mut Rng, count: usize) -> Vec<String> {
+pub fn random_reads(rng: &mut Rng, count: usize, clock: ClockRead) -> Vec<String> {
     let size = Size { inputs: 5, outputs: 4, registers: 5, gates: 10 };
     (0..count)
         .map(|_| {
-            let mut design = random_design(rng, size);
+            let mut design = random_design(rng, size, clock);
             for _ in 0..rng.below(4) {
                 design = damaged(rng, design);
             }
@@ -93,7 +93,7 @@ pub fn full_design() -> Design {
 }
 
 /// Every cut of some records, with the length field as it was and as it should be.
-pub fn cuts(rng: &mut Rng, count: usize) -> Vec<String> {
+pub fn cuts(rng: &mut Rng, count: usize, clock: ClockRead) -> Vec<String> {
     let mut lines = Vec::new();
     let mut whole = encode(&full_design());
     while lines.len() < count {
@@ -105,14 +105,14 @@ pub fn cuts(rng: &mut Rng, count: usize) -> Vec<String> {
                 lines.push(read_line(&whole[..length]));
             }
         }
-        whole = encode(&random_design(rng, Size { inputs: 3, outputs: 2, registers: 2, gates: 4 }));
+        whole = encode(&random_design(rng, Size { inputs: 3, outputs: 2, registers: 2, gates: 4 }, clock));
     }
     lines.truncate(count);
     lines
 }
 
 /// Records with one byte changed, at every place in turn.
-pub fn changes(rng: &mut Rng, count: usize) -> Vec<String> {
+pub fn changes(rng: &mut Rng, count: usize, clock: ClockRead) -> Vec<String> {
     let mut lines = Vec::new();
     let mut whole = encode(&full_design());
     while lines.len() < count {
@@ -122,7 +122,7 @@ pub fn changes(rng: &mut Rng, count: usize) -> Vec<String> {
             other[place] = if rng.one_in(4) { u8::try_from(rng.below(256)).expect("a byte") } else { *rng.pick(&near) };
             lines.push(read_line(&other));
         }
-        whole = encode(&random_design(rng, Size { inputs: 3, outputs: 2, registers: 3, gates: 5 }));
+        whole = encode(&random_design(rng, Size { inputs: 3, outputs: 2, registers: 3, gates: 5 }, clock));
     }
     lines.truncate(count);
     lines
@@ -337,8 +337,8 @@ pub fn listed() -> Vec<String> {
     [listed_bytes(), listed_codes(), listed_counts(), listed_nodes(), listed_registers()].concat()
 }
 
-/// Long records: 65,535 and 65,536 bytes; the largest counts.
-pub fn long() -> Vec<String> {
+/// Long records: 65,535 and 65,536 bytes; the largest counts, the registers taking the clock or their own bits.
+pub fn long(clock: ClockRead) -> Vec<String> {
     let mut lines = vec!["# 65,535 bytes, with bytes left over: 3; 65,536 bytes: 1; 1,024 nodes".to_string()];
     let mut rest = encode(&crate::shapes::wire())[5..].to_vec();
     rest.resize(65_530, 0);
@@ -357,7 +357,7 @@ pub fn long() -> Vec<String> {
     for place in 0..128 {
         let state = b.state();
         let name = String::from_utf8(numbered("r", place)).expect("ASCII");
-        b.register(&name, state, 0, None);
+        b.register(&name, state, if clock == ClockRead::Freely { 0 } else { state }, None);
     }
     lines.push(read_line(&encode(&b.design)));
     lines

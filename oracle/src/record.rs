@@ -1,4 +1,4 @@
-//! The record of the specification: its design, its reader with refusals 1 to 15, and its writer.
+//! The record of the specification: its design, its reader with refusals 1 to 15 and 30, and its writer.
 use std::collections::HashSet;
 
 /// A name's bytes.
@@ -286,6 +286,11 @@ pub fn register_nets(register: &Register) -> Vec<u16> {
     nets
 }
 
+/// Whether a register reads a node: as its data, its enable's signal or its reset's. Its clock is no reading.
+fn register_reads(register: &Register, number: u16) -> bool {
+    register.data == number || register.enable.is_some_and(|enable| enable.signal == number) || register.reset.is_some_and(|reset| reset.signal == number)
+}
+
 /// Refusals 13 and 14, by node, then 15, by register.
 fn state_refusal(design: &Design) -> Result<(), Refusal> {
     let states: Vec<usize> = (0..design.nodes.len()).filter(|number| design.nodes[*number] == Node::RegisterOutput).collect();
@@ -313,12 +318,27 @@ pub fn validate(design: &Design) -> Result<(), Refusal> {
     state_refusal(design)
 }
 
-/// The design of a record that passes 1 to 15; the Rust's own checks must agree.
+/// Refusal 30: the lowest Input that clocks a register and that a node or a register reads.
+pub fn clock_refusal(design: &Design) -> Result<(), Refusal> {
+    for number in 0..u16::try_from(design.nodes.len()).expect("a design is small") {
+        let clocks = design.registers.iter().any(|register| register.clock == number);
+        let by_node = design.nodes.iter().any(|node| node.inputs().contains(&number));
+        let by_register = design.registers.iter().any(|register| register_reads(register, number));
+        if clocks && (by_node || by_register) {
+            return refused(30, usize::from(number));
+        }
+    }
+    Ok(())
+}
+
+/// The design of a record that passes 1 to 15 and 30. The Rust's own checks must agree with 7 to 15; it has none for 30.
 pub fn read(bytes: &[u8]) -> Result<Design, Refusal> {
     let design = parse(bytes)?;
     let refusal = validate(&design);
     crate::bridge::agree(&design, refusal.err());
-    refusal.map(|()| design)
+    refusal?;
+    clock_refusal(&design)?;
+    Ok(design)
 }
 
 // ---- the writer

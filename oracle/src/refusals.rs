@@ -1,7 +1,7 @@
 //! The specification's cases, the sum of refusal 23 at its limit, and checks and replays that meet refusals.
 use crate::families::{random_pair, Pair};
 use crate::pair::{trace_need, Lent, SCORES, WORDS};
-use crate::random::Size;
+use crate::random::{ClockRead, Size};
 use crate::reads;
 use crate::record::{encode, read, Design, Node, Reset};
 use crate::rng::Rng;
@@ -114,12 +114,22 @@ pub fn cases() -> Vec<String> {
     lines
 }
 
-/// A toggle on another clock or edge, or with a second register there.
-pub fn clock_faults() -> Vec<(Design, Design)> {
+/// A toggle on another clock or edge, or with a second register there; the other clock is rst where clocks are read, else an Input more, ck.
+pub fn clock_faults(read: ClockRead) -> Vec<(Design, Design)> {
+    let freely = read == ClockRead::Freely;
+    let with_ck = |design: Design| {
+        let mut b = Builder { design };
+        if !freely {
+            b.input("ck");
+        }
+        b.design
+    };
+    let toggle = |name: &str| with_ck(toggle(name));
+    let other = if freely { 1 } else { 5 };
     let mut falling = toggle("q");
     falling.registers[0].falling = true;
     let mut other_clock = toggle("q");
-    other_clock.registers[0].clock = 1;
+    other_clock.registers[0].clock = other;
     let two = |clock: u16, edge: bool| {
         let mut b = Builder { design: toggle("q") };
         let state = b.state();
@@ -129,14 +139,14 @@ pub fn clock_faults() -> Vec<(Design, Design)> {
         b.design
     };
     vec![
-        (two(1, false), toggle("q")),
-        (toggle("q"), two(1, false)),
-        (two(0, true), two(1, false)),
+        (two(other, false), toggle("q")),
+        (toggle("q"), two(other, false)),
+        (two(0, true), two(other, false)),
         (toggle("q"), two(0, true)),
         (falling.clone(), toggle("q")),
         (toggle("q"), other_clock.clone()),
         (falling, other_clock),
-        (shapes::constant_zero(), toggle("q")),
+        (with_ck(shapes::constant_zero()), toggle("q")),
         (two(0, false), toggle("q")),
     ]
 }
@@ -196,9 +206,9 @@ fn faulty(rng: &mut Rng, bytes: &[u8]) -> Vec<u8> {
 }
 
 /// Pairs that meet 16 to 24, pairs with a fault in a record, and two faults at once.
-pub fn refused_checks(rng: &mut Rng, count: usize) -> Vec<String> {
+pub fn refused_checks(rng: &mut Rng, count: usize, clock: ClockRead) -> Vec<String> {
     let mut lines = Vec::new();
-    let all = [clock_faults(), reset_faults(), port_faults()].concat();
+    let all = [clock_faults(clock), reset_faults(), port_faults()].concat();
     for (gold, gate) in &all {
         for depth in [1, 0, 65] {
             lines.push(check_of(gold, gate, depth));
@@ -207,7 +217,7 @@ pub fn refused_checks(rng: &mut Rng, count: usize) -> Vec<String> {
         lines.push(check_line(&encode(gold), &encode(gate), 2, short));
     }
     while lines.len() < count {
-        let pair = random_pair(rng, Size { inputs: 4, outputs: 3, registers: 3, gates: 6 }, 3);
+        let pair = random_pair(rng, Size { inputs: 4, outputs: 3, registers: 3, gates: 6 }, 3, clock);
         let (gold, gate) = (encode(&pair.gold), encode(&pair.gate));
         let depth = *rng.pick(&[0, 1, 2, 65]);
         lines.push(match rng.below(4) {
@@ -221,7 +231,7 @@ pub fn refused_checks(rng: &mut Rng, count: usize) -> Vec<String> {
     lines
 }
 
-/// The first listed record with a refusal of 1 to 15.
+/// The first listed record with a refusal of 1 to 15 or 30.
 pub fn record_with(number: u8) -> Vec<u8> {
     let faulty = [reads::listed(), reads::names()].concat().iter().find_map(|line| {
         let bytes = unhex(line.strip_prefix("read ")?);
@@ -230,11 +240,11 @@ pub fn record_with(number: u8) -> Vec<u8> {
     faulty.expect("each refusal is listed")
 }
 
-/// A record of each of refusals 1 to 15, as gold and as gate of a check and of a replay.
+/// A record of each of refusals 1 to 15 and 30, as gold and as gate of a check and of a replay.
 pub fn sides() -> Vec<String> {
     let wire = encode(&shapes::wire());
     let mut lines = Vec::new();
-    for number in 1..=15 {
+    for number in (1..=15).chain([30]) {
         let faulty = record_with(number);
         for (gold, gate) in [(&faulty, &wire), (&wire, &faulty), (&faulty, &faulty)] {
             lines.push(check_line(gold, gate, u64::from(number) % 3, LENT));
@@ -258,9 +268,9 @@ fn unreset_pair(rng: &mut Rng, mut pair: Pair) -> Pair {
 }
 
 /// Replays that meet refusals, with claims that fit and not.
-pub fn refused_replays(rng: &mut Rng, count: usize) -> Vec<String> {
+pub fn refused_replays(rng: &mut Rng, count: usize, clock: ClockRead) -> Vec<String> {
     let mut lines = Vec::new();
-    for (gold, gate) in [clock_faults(), reset_faults(), port_faults()].concat() {
+    for (gold, gate) in [clock_faults(clock), reset_faults(), port_faults()].concat() {
         let fits = vec![0; usize::try_from(trace_need(&gold, 1)).expect("a claim is short")];
         lines.push(replay_line(&encode(&gold), &encode(&gate), 1, &fits));
         lines.push(replay_line(&encode(&gold), &encode(&gate), 70, &[2]));
@@ -270,7 +280,7 @@ pub fn refused_replays(rng: &mut Rng, count: usize) -> Vec<String> {
         lines.push(replay_line(&wire, &encode(&shapes::inverter()), cycle, &vec![0; length]));
     }
     while lines.len() < count {
-        let pair = random_pair(rng, Size { inputs: 3, outputs: 2, registers: 3, gates: 5 }, 2);
+        let pair = random_pair(rng, Size { inputs: 3, outputs: 2, registers: 3, gates: 5 }, 2, clock);
         let (gold, gate) = (encode(&pair.gold), encode(&pair.gate));
         let claim: Vec<u8> = (0..trace_need(&pair.gold, 0)).map(|_| u8::try_from(rng.below(3)).expect("a byte")).collect();
         lines.push(match rng.below(3) {

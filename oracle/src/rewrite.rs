@@ -1,4 +1,5 @@
 //! A design rewritten into another with the same run: other gates, other order, other register names, dead logic.
+use crate::random::{input_place, Readable};
 use crate::record::{Design, Enable, Name, Node};
 use crate::rng::Rng;
 use crate::shapes::Builder;
@@ -79,14 +80,18 @@ fn rewritten_node(rng: &mut Rng, b: &mut Builder, node: &Node, new: &[u16]) -> u
     }
 }
 
-/// A gate that nothing reads.
-fn dead(rng: &mut Rng, b: &mut Builder) {
-    let count = b.design.nodes.len();
-    if count > 0 && rng.one_in(6) {
-        let mut one = || u16::try_from(rng.below(count)).expect("a design is small");
-        let (x, y) = (one(), one());
+/// A gate that nothing reads, over any nodes but this Input.
+fn dead(rng: &mut Rng, b: &mut Builder, kept: Option<&Name>) {
+    let readable = Readable::below(b.design.nodes.len(), kept.and_then(|name| input_place(&b.design.nodes, name)));
+    if readable.count() > 0 && rng.one_in(6) {
+        let (x, y) = (readable.any(rng), readable.any(rng));
         b.xor(x, y);
     }
+}
+
+/// The name of the clock of a design of one clock.
+fn clock_name(design: &Design) -> Option<&Name> {
+    design.nodes[usize::from(design.registers.first()?.clock)].port()
 }
 
 /// The enable's polarity turned, or the enable as a Mux before the data.
@@ -114,13 +119,14 @@ fn rewritten_reset(rng: &mut Rng, b: &mut Builder, register: usize) {
     }
 }
 
-/// The design rewritten; `rename` gives each register's new name.
-pub fn rewritten(rng: &mut Rng, design: &Design, rename: impl Fn(&Name) -> Name) -> Design {
+/// The design rewritten; `rename` gives each register's new name. Dead logic reads the clock only where that may be read.
+pub fn rewritten(rng: &mut Rng, design: &Design, clock_read: bool, rename: impl Fn(&Name) -> Name) -> Design {
     let mut b = Builder::new("gate");
+    let kept = clock_name(design).filter(|_| !clock_read);
     let mut new = vec![0; design.nodes.len()];
     for place in order(rng, design) {
         new[place] = rewritten_node(rng, &mut b, &design.nodes[place], &new);
-        dead(rng, &mut b);
+        dead(rng, &mut b, kept);
     }
     let at = |old: u16| new[usize::from(old)];
     for register in &design.registers {

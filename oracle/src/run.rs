@@ -75,6 +75,29 @@ pub fn outputs(design: &Design, bits: &[bool]) -> Vec<bool> {
     named.into_iter().map(|(_, bit)| bit).collect()
 }
 
+/// The place of the clock's name among the inputs in byte order; none without registers.
+pub fn clock_column(design: &Design) -> Option<usize> {
+    let clock = usize::from(design.registers.first()?.clock);
+    let name = design.nodes[clock].port().expect("a clock is an Input");
+    design.input_names().iter().position(|other| other == name)
+}
+
+/// A claim or trace of a design with registers, with these bytes in the clock's column from cycle 0 on.
+pub fn with_clock(design: &Design, claim: &[u8], bytes: &[u8]) -> Vec<u8> {
+    let (inputs, column) = (design.input_names().len(), clock_column(design).expect("a design with registers"));
+    let mut claim = claim.to_vec();
+    for (cycle, byte) in bytes.iter().enumerate() {
+        claim[cycle * inputs + column] = *byte;
+    }
+    claim
+}
+
+/// The clock's bytes of a claim or trace of a design with registers, cycles 0 to a last one.
+pub fn clock_bytes(design: &Design, claim: &[u8], last: usize) -> Vec<u8> {
+    let (inputs, column) = (design.input_names().len(), clock_column(design).expect("a design with registers"));
+    (0..=last).map(|cycle| claim[cycle * inputs + column]).collect()
+}
+
 /// What a replay answers.
 #[derive(Clone, Copy, Debug, Eq, PartialEq)]
 pub struct ReplayAnswer {

@@ -2,12 +2,12 @@
 from __future__ import annotations
 
 from dataclasses import dataclass
-from typing import Callable, Dict, List, Optional
+from typing import Callable, Dict, List, Optional, Tuple
 
 from . import record as form
 from .answers import LEARNED_LIMIT, Refusal, Side
 from .pair import LARGEST_DEPTH, Clock, clocks, largest_depth, only_clock, proof_sum
-from .record import Design, Kind, decode, field_at
+from .record import Design, Kind, Register, decode, field_at
 from .refusals import BY_NUMBER, OFFSET, NODE, NONE
 from .text import counted, listed, shown
 
@@ -41,7 +41,7 @@ class Question:
 def explain(refusal: Refusal, question: Question) -> str:
     """The refusal in words, without its number: `gate: register s[0] has no reset`."""
     words = _WORDS[refusal.number](refusal, question)
-    its_own = refusal.number <= 15 or refusal.number in (20, 22)
+    its_own = refusal.number <= 15 or refusal.number in (20, 22, 30)
     side = f"{refusal.side.word}: " if its_own and question.gate is not None else ""
     return side + words
 
@@ -172,13 +172,20 @@ def _multiple_drivers(refusal: Refusal, question: Question) -> str:
     return f"{register_words(design, refusal.place)} drives node {output}, which {register_words(design, earlier or 0)} drives already"
 
 
+def _read_by(register: Register) -> List[Tuple[str, int]]:
+    """The nets that a register reads, its clock not among them."""
+    nets = [("data", register.data)]
+    nets += [("enable", register.enable.signal)] if register.enable else []
+    nets += [("reset", register.reset.signal)] if register.reset else []
+    return nets
+
+
 def _register_net(refusal: Refusal, question: Question) -> str:
     """12: the register, and the first of its nets that there is not."""
     design = question.design(refusal.side)
     register = design.registers[refusal.place]
-    nets = [("data", register.data), ("clock", register.clock)]
-    nets += [("enable", register.enable.signal)] if register.enable else []
-    nets += [("reset", register.reset.signal)] if register.reset else []
+    data, *controls = _read_by(register)
+    nets = [data, ("clock", register.clock), *controls]
     what, number = next((net for net in nets if net[1] >= len(design.nodes)), nets[0])
     return f"the {what} of {register_words(design, refusal.place)} is net {number}, and there are {counted(len(design.nodes), 'node')}"
 
@@ -202,6 +209,37 @@ def _clock(refusal: Refusal, question: Question) -> str:
     design = question.design(refusal.side)
     clock = node_words(design, design.registers[refusal.place].clock)
     return f"the clock of {register_words(design, refusal.place)} is {clock}, and no Input"
+
+
+def _on_the_way(design: Design, number: int) -> str:
+    """The first Output that a node's value reaches through nodes, else the first register, in words; nothing for an Output itself."""
+    if design.nodes[number].kind is Kind.OUTPUT:
+        return ""
+    reached = {number}
+    for later, node in enumerate(design.nodes):
+        if reached.intersection(node.inputs):
+            if node.kind is Kind.OUTPUT:
+                return f", on the way to output {shown(node.name)},"
+            reached.add(later)
+    for register in design.registers:
+        for what, net in _read_by(register):
+            if net in reached:
+                return f", on the way to the {what} of register {shown(register.name)},"
+    return ""
+
+
+def _clock_read(refusal: Refusal, question: Question) -> str:
+    """30: the first that reads the clock, the clock with the register that it clocks, and what can stand in its place."""
+    design, clock = question.design(refusal.side), refusal.place
+    nodes = [number for number, node in enumerate(design.nodes) if clock in node.inputs]
+    pins = [f"the {what} of register {shown(register.name)}" for register in design.registers for what, net in _read_by(register) if net == clock]
+    first = node_words(design, nodes[0]) + _on_the_way(design, nodes[0]) if nodes else pins[0]
+    others = len(nodes) + len(pins) - 1
+    more = f"; {others} more {'reads' if others == 1 else 'read'} it" if others else ""
+    clocked = [register.name for register in design.registers if register.clock == clock]
+    registers = f"register {shown(clocked[0])}{f' and {len(clocked) - 1} more' if len(clocked) > 1 else ''}"
+    return (f"{first} reads the clock {shown(design.nodes[clock].name)} (Input, node {clock}) of {registers}{more}; "
+            "a clock has edges and no level: in place of a gated clock take its enable")
 
 
 def _zero_depth(refusal: Refusal, question: Question) -> str:
@@ -296,5 +334,5 @@ _WORDS: Dict[int, Callable[[Refusal, Question], str]] = {
     1: _length, 2: _version, 3: _cut, 4: _code, 5: _name, 6: _count, 7: _undefined_net, 8: _duplicate_port, 9: _duplicate_register,
     10: _register_output, 11: _multiple_drivers, 12: _register_net, 13: _unconnected, 14: _late_reset, 15: _clock, 16: _zero_depth,
     17: _depth_limit, 18: _interface(Kind.INPUT), 19: _interface(Kind.OUTPUT), 20: _many_clocks, 21: _clock_domain, 22: _no_reset,
-    23: _too_large, 24: _memory, 25: _claim, 36: _learned_limit,
+    23: _too_large, 24: _memory, 25: _claim, 30: _clock_read, 36: _learned_limit,
 }

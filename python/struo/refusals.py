@@ -25,7 +25,8 @@ LENT, CLAIMED = "check, begin, step", "replay, step"
 RECORD, NEITHER, ITS = "the record's", "0", "the side at fault"
 OFFSET, NODE, REGISTER, NONE = "byte offset", "node number", "register number", "0"
 
-# By number, which is the checking order but for 36: gold is checked wholly through 15, then gate; then the pair, by a check with 36 between 17 and 18.
+# By number, which is the checking order but for 30 and 36: gold is checked wholly through 15 and then 30, then gate; then the pair, by a check with 36 between
+# 17 and 18.
 TABLE: Tuple[Row, ...] = (
     Row(1, "Length", ALL, "the record has under 5 or over 65,535 bytes, or its length field differs from the bytes lent", RECORD, NONE),
     Row(2, "Version", ALL, "byte 0 is not 1", RECORD, NONE),
@@ -53,6 +54,7 @@ TABLE: Tuple[Row, ...] = (
     Row(24, "Memory", LENT,
         "the trace buffer is under (D+1)×I + O bytes, or the work memory is under 8,388,608 words of 32 bits or under 65,536 f64; of a begin or a step, the bits are under 256 bytes", NEITHER, NONE),
     Row(25, "Claim", CLAIMED, "the cycle is over 64, the claim's length is not (cycle+1)×I + O, or a byte of it is neither 0 nor 1; of a step, also a register's stored bit", NEITHER, NONE),
+    Row(30, "ClockRead", ALL, "an Input that clocks a register is read by a node, or by a register's data, enable or reset", RECORD, NODE),
     Row(36, "LearnedLimit", CHECK, "the limit of learned literals is over 262,144", NEITHER, NONE),
 )
 

@@ -52,7 +52,7 @@ def _declarations(variables: List[Variable]) -> List[str]:
 
 
 def vcd(difference: Difference) -> str:
-    """The text of the waveform: a cycle takes ten units; the clock is an input bit like the others."""
+    """The text of the waveform: a cycle takes ten units; the clock has its column like every input, and no edges are drawn."""
     variables = _variables(difference)
     lines = [f"$version struo {VERSION} $end", "$timescale 1 ns $end", *_declarations(variables), "$enddefinitions $end"]
     before: Dict[int, int] = {}

@@ -1,6 +1,7 @@
 """Designs for the tests, built node by node."""
 from __future__ import annotations
 
+import random
 from typing import List, Optional, Sequence
 
 from struo.record import Design, Enable, Kind, Node, Register, Reset
@@ -54,12 +55,12 @@ def inverter() -> Design:
     return builder.design
 
 
-def toggle(name: str = "q", clock: int = 0, falling: bool = False, reset: Optional[Reset] = Reset(1, False, False, 0)) -> Design:
+def toggle(name: str = "q", falling: bool = False, reset: Optional[Reset] = Reset(1, False, False, 0)) -> Design:
     """A register that turns each cycle, shown at y."""
     builder = Builder("clk", "rst")
     state = builder.state()
     builder.output("y", state)
-    builder.register(name, state, builder.node(Kind.NOT, state), clock, falling, None, reset)
+    builder.register(name, state, builder.node(Kind.NOT, state), 0, falling, None, reset)
     return builder.design
 
 
@@ -145,4 +146,24 @@ def multiplied(width: int, swapped: bool, late: bool) -> Design:
     middle = bits[width]
     assert middle is not None
     builder.register("m", kept, middle)
+    return builder.design
+
+
+def random_design(dice: random.Random, lowest: int = 1) -> Design:
+    """A design with every kind of node, enables and resets of both kinds and levels. Nodes from `lowest` on are read: from 1 on the clock, node 0, is not."""
+    builder = Builder("clk", "rst", "e", "f")
+    states = [builder.state() for _ in range(4)]
+    builder.node(Kind.CONSTANT, value=dice.randrange(2))
+    for _ in range(14):
+        kind = dice.choice((Kind.NOT, Kind.AND, Kind.OR, Kind.XOR, Kind.MUX))
+        builder.node(kind, *(dice.randrange(lowest, len(builder.design.nodes)) for _ in range(kind.input_count)))
+    last = len(builder.design.nodes)
+    for place, state in enumerate(states):
+        asynchronous = bool(dice.randrange(2))
+        signal = dice.randrange(lowest, 4 if asynchronous else last)
+        enable = Enable(dice.randrange(lowest, last), bool(dice.randrange(2))) if dice.randrange(2) else None
+        builder.register(f"r{place}", state, dice.randrange(lowest, last), enable=enable,
+                         reset=Reset(signal, bool(dice.randrange(2)), asynchronous, dice.randrange(2)))
+    for name in "yz":
+        builder.output(name, dice.randrange(lowest, last))
     return builder.design

@@ -208,6 +208,20 @@ class Faults(Case):
         with self.assertRaisesRegex(Unreadable, "none is marked as top: name one with --top"):
             convert(json.dumps(two), "file")
 
+    def test_a_clock_that_is_read(self):
+        ports = {"clk": ("input", [2]), "en": ("input", [3]), "d": ("input", [4]), "r": ("input", [5]), "q": ("output", [6]), "sclk": ("output", [7])}
+        register = {"ff": ("$_SDFF_PP0_", {"C": 2, "D": 4, "R": 5, "Q": 6})}
+        gated = netlist(ports, {**register, "gate": ("$_AND_", {"A": 2, "B": 3, "Y": 7})})
+        straight = netlist({**ports, "sclk": ("output", [2])}, register)
+        sampled = netlist({**ports, "sclk": ("output", [3])}, {"ff": ("$_SDFF_PP0_", {"C": 2, "D": 2, "R": 5, "Q": 6})})
+        for text, reader in ((gated, r"node \d \(And\), on the way to output sclk,"), (straight, r"node \d \(Output sclk\)"), (sampled, "the data of register q")):
+            ended = inside("convert", self.file("n.json", text), self.path("read"))
+            self.assertEqual(ended.status, 4)
+            self.assertRegex(ended.out, rf"^Refused: .*n\.json: {reader} reads the clock clk \(Input, node 0\) of register q; .* \(30 ClockRead, node 0\)\n$")
+            self.assertFalse(Path(self.path("read")).exists())
+        shown = netlist({**ports, "sclk": ("output", [3])}, register)
+        self.assertEqual(inside("convert", self.file("n.json", shown), self.path("read")).status, 0)
+
     def test_the_command(self):
         source, out = self.file("n.json", flop("$_SDFF_PP0_")), self.path("out")
         ended = inside("convert", source, out)

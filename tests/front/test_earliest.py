@@ -18,7 +18,6 @@ from struo.options import parser
 from struo.record import Design, encode
 from struo.report import CheckReport
 from struo.run import run
-from test_traces import random_design
 
 GROUNDED = str(EXAMPLES / "grounded.struo")
 
@@ -128,7 +127,7 @@ class EverySequence(unittest.TestCase):
     def test_the_mismatch_is_the_least(self):
         dice, library, met = random.Random(7), open_library(), set()
         for _ in range(60):
-            gold, gate = (random_design(dice) for _ in range(2))
+            gold, gate = (designs.random_design(dice) for _ in range(2))
             if dice.randrange(2):
                 gate = Design(gold.name, [*gold.nodes[:-1], gate.nodes[-1]], gold.registers)
             pair = encode(gold), encode(gate)

@@ -1,4 +1,4 @@
-"""Refusals 1 to 25 and 36: each one met, with its words, its names and its place; and the one table of them beside the documents."""
+"""Refusals 1 to 25, 30 and 36: each one met, with its words, its names and its place; and the one table of them beside the documents."""
 from __future__ import annotations
 
 import re
@@ -15,10 +15,13 @@ from struo.refusals import TABLE, markdown
 
 NAMES = ("Length Version Cut Code Name Count UndefinedNet DuplicatePortName DuplicateRegisterName InvalidRegisterOutput MultipleDrivers RegisterNet "
          "UnconnectedRegister UnsupportedAsyncReset UnsupportedClock ZeroDepth DepthLimit InputInterface OutputInterface MultipleClockDomains "
-         "ClockDomain UnknownInitialState TooLarge Memory Claim LearnedLimit").split()
-NUMBERS = [*range(1, 26), 36]
+         "ClockDomain UnknownInitialState TooLarge Memory Claim ClockRead LearnedLimit").split()
+NUMBERS = [*range(1, 26), 30, 36]
 
 WIRE = encode(wire())
+
+# What is said of every clock that is read.
+NO_DATA = "a clock has edges and no level: in place of a gated clock take its enable"
 
 
 def changed(record: bytes, offset: int, *values: int) -> bytes:
@@ -38,10 +41,10 @@ def with_register(**parts) -> bytes:
 
 
 def with_second(**parts) -> Design:
-    """A toggle with a second state and register."""
+    """A toggle with a second state and register, which takes what the toggle shows."""
     design = toggle()
     nodes = [*design.nodes, Node(Kind.REGISTER_OUTPUT)]
-    second = Register(b"p", len(nodes) - 1, 0, 0, False, None, Reset(1, False, False, 0))
+    second = Register(b"p", len(nodes) - 1, 2, 0, False, None, Reset(1, False, False, 0))
     return Design(design.name, nodes, [*design.registers, replace(second, **parts)])
 
 
@@ -94,12 +97,22 @@ RECORDS = (
     (14, late_reset(), "the asynchronous reset of register q is node 4 (Not), which is not below the register's output, node 2",
      "14 UnsupportedAsyncReset, node 2"),
     (15, with_register(clock=4), "the clock of register q is node 4 (Not), and no Input", "15 UnsupportedClock, register 0"),
+    (30, with_register(data=0), f"the data of register q reads the clock clk (Input, node 0) of register q; {NO_DATA}", "30 ClockRead, node 0"),
 )
 
 
 def two_clocks() -> Design:
     """A toggle beside a register on the other edge."""
     return with_second(falling=True)
+
+
+def tick_too(first: int, second: int) -> Design:
+    """Two registers that hold, p and q, each clocked by node 0, clk, or by node 2, tick."""
+    builder = Builder("clk", "rst", "tick")
+    for name, clock in (("p", first), ("q", second)):
+        state = builder.state()
+        builder.register(name, state, state, clock)
+    return builder.design
 
 
 def only(inputs: str, outputs: str) -> Design:
@@ -133,10 +146,10 @@ PAIRS = (
     (18, 0, only("a", "y"), only("ab", "y"), 1, "the inputs differ: only gate has b", "18 InputInterface"),
     (19, 0, only("a", "yz"), only("a", "xy"), 1, "the outputs differ: only gold has z; only gate has x", "19 OutputInterface"),
     (20, 0, two_clocks(), toggle(), 1, "gold: its registers have 2 clocks: clk rising (register q), clk falling (register p)", "20 MultipleClockDomains"),
-    (20, 1, toggle(), with_second(clock=1), 1, "gate: its registers have 2 clocks: clk rising (register q), rst rising (register p)",
+    (20, 1, tick_too(0, 0), tick_too(2, 0), 1, "gate: its registers have 2 clocks: tick rising (register p), clk rising (register q)",
      "20 MultipleClockDomains"),
     (21, 0, toggle(), toggle(falling=True), 1, "gold's registers are clocked by clk rising, gate's by clk falling", "21 ClockDomain"),
-    (21, 0, toggle(clock=1), toggle(), 1, "gold's registers are clocked by rst rising, gate's by clk rising", "21 ClockDomain"),
+    (21, 0, tick_too(2, 2), tick_too(0, 0), 1, "gold's registers are clocked by tick rising, gate's by clk rising", "21 ClockDomain"),
     (21, 0, toggle(), only(["clk", "rst"], "y"), 1, "gold has 1 register, and gate has none", "21 ClockDomain"),
     (22, 0, toggle(reset=None), toggle(), 1, "gold: register q has no reset, so that its initial bit is not known", "22 UnknownInitialState, register 0"),
     (22, 1, toggle(), with_second(name=b"s[0]", reset=None), 1, "gate: register s[0] has no reset, so that its initial bit is not known",
@@ -186,8 +199,8 @@ class Refusals(Case):
         self.assertEqual(library.check(record, record, 18).refusal.number, 23)
 
     def test_the_largest_pair_fits_to_depth_six(self):
-        nodes = [Node(Kind.INPUT, b"clk"), Node(Kind.INPUT, b"rst")] + [Node(Kind.NOT, inputs=(0,))] * 894 + [Node(Kind.REGISTER_OUTPUT)] * 128
-        registers = [Register(f"r{place}".encode(), 896 + place, 0, 0, False, None, Reset(1, False, False, 0)) for place in range(128)]
+        nodes = [Node(Kind.INPUT, b"clk"), Node(Kind.INPUT, b"rst")] + [Node(Kind.NOT, inputs=(1,))] * 894 + [Node(Kind.REGISTER_OUTPUT)] * 128
+        registers = [Register(f"r{place}".encode(), 896 + place, 1, 0, False, None, Reset(1, False, False, 0)) for place in range(128)]
         record = encode(Design(b"g", nodes, registers))
         refusal = open_library().check(record, record, 7).refusal
         self.assertEqual(refusal.number, 23)
@@ -250,11 +263,12 @@ class Table(unittest.TestCase):
     def test_calls_are_those_that_give_it(self):
         calls = {row.number: row.calls for row in TABLE}
         for number in NUMBERS:
-            self.assertEqual("read" in calls[number], number <= 15)
-            self.assertEqual("check" in calls[number], number <= 24 or number == 36)
-            self.assertEqual("replay" in calls[number], number <= 15 or 18 <= number <= 22 or number == 25)
-            self.assertEqual("begin" in calls[number], number <= 15 or 18 <= number <= 22 or number == 24)
-            self.assertEqual("step" in calls[number], number <= 15 or 18 <= number <= 22 or number in (24, 25))
+            own = number <= 15 or number == 30
+            self.assertEqual("read" in calls[number], own)
+            self.assertEqual("check" in calls[number], own or 16 <= number <= 24 or number == 36)
+            self.assertEqual("replay" in calls[number], own or 18 <= number <= 22 or number == 25)
+            self.assertEqual("begin" in calls[number], own or 18 <= number <= 22 or number == 24)
+            self.assertEqual("step" in calls[number], own or 18 <= number <= 22 or number in (24, 25))
 
     def test_the_specification_has_the_same_rows(self):
         path = ROOT / "docs" / "SPECIFICATION.md"
@@ -275,7 +289,7 @@ class Table(unittest.TestCase):
 
     def test_the_table_as_the_documents_have_it(self):
         lines = markdown().splitlines()
-        self.assertEqual(len(lines), 28)
+        self.assertEqual(len(lines), 29)
         self.assertTrue(lines[2].startswith("| 1 | Length | read, check, replay, begin, step | "))
 
 

@@ -105,34 +105,13 @@ class Waveforms(Case):
         self.assertEqual((rows["struo.gold.inputs.\\$end"], rows["struo.gate.outputs.y[0]"]), ([1], [1]))
 
 
-def random_design(dice: random.Random) -> Design:
-    """A design with every kind of node, enables and resets of both kinds and levels."""
-    builder = designs.Builder("clk", "rst", "e", "f")
-    states = [builder.state() for _ in range(4)]
-    builder.node(Kind.CONSTANT, value=dice.randrange(2))
-    for _ in range(14):
-        kind = dice.choice((Kind.NOT, Kind.AND, Kind.OR, Kind.XOR, Kind.MUX))
-        count = {Kind.NOT: 1, Kind.MUX: 3}.get(kind, 2)
-        builder.node(kind, *(dice.randrange(len(builder.design.nodes)) for _ in range(count)))
-    last = len(builder.design.nodes)
-    for place, state in enumerate(states):
-        asynchronous = bool(dice.randrange(2))
-        signal = dice.randrange(1, 4) if asynchronous else dice.randrange(last)
-        enable = Enable(dice.randrange(last), bool(dice.randrange(2))) if dice.randrange(2) else None
-        builder.register(f"r{place}", state, dice.randrange(last), enable=enable,
-                         reset=Reset(signal, bool(dice.randrange(2)), asynchronous, dice.randrange(2)))
-    for name in "yz":
-        builder.output(name, dice.randrange(last))
-    return builder.design
-
-
 class OwnRun(unittest.TestCase):
     """The front end's own run beside the library's replay: `replayed` raises where they disagree."""
 
     def test_random_pairs_and_claims(self):
         dice, library, yes = random.Random(18), open_library(), 0
         for _ in range(300):
-            gold, gate = (encode(random_design(dice)) for _ in range(2))
+            gold, gate = (encode(designs.random_design(dice)) for _ in range(2))
             cycle = dice.randrange(4)
             claim = Claim(cycle, bytes(dice.randrange(2) for _ in range((cycle + 1) * 4 + 2)))
             replayed(library, gold, gate, claim)
@@ -150,7 +129,7 @@ class Records(unittest.TestCase):
     def test_random_designs_read_back(self):
         dice, library = random.Random(1), open_library()
         for _ in range(200):
-            design = random_design(dice)
+            design = designs.random_design(dice)
             self.assertEqual(decode(encode(design)), design)
             self.assertTrue(library.read(encode(design)).accepted)
 

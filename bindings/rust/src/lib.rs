@@ -53,7 +53,7 @@ pub const BITS: usize = 256;
 pub const GATE_BITS: usize = 128;
 
 /// How many bytes of stack a read takes at most.
-pub const READ_STACK: usize = 66_000;
+pub const READ_STACK: usize = 70_000;
 
 /// How many bytes of stack a check takes at most.
 pub const CHECK_STACK: usize = 145_000;
@@ -67,14 +67,14 @@ pub const BEGIN_STACK: usize = 145_000;
 /// How many bytes of stack a step takes at most.
 pub const STEP_STACK: usize = 198_000;
 
-/// Reads a design record: accepted, or the first refusal of 1 to 15 with its place.
+/// Reads a design record: accepted, or the first refusal of 1 to 15, then 30, with its place.
 pub fn read(record: &[u8]) -> ReadAnswer {
     // The library reads as many bytes as the length says.
     unsafe { boundary::struo_read(record.as_ptr(), record.len()) }
 }
 
 /// Checks whether two designs can ever differ, by k-induction for depths 1 to `depth`, in which each query may learn clauses of `limit` literals together: a
-/// refusal of 1 to 24 or 36, which leaves all buffers as they were, or a verdict. Where `earliest` is true query 0 puts cycle 0 alone first, so that a mismatch
+/// refusal of 1 to 24, 30 or 36, which leaves all buffers as they were, or a verdict. Where `earliest` is true query 0 puts cycle 0 alone first, so that a mismatch
 /// is the earliest cycle that any input sequence can show. The trace is written for NotEquivalent; after an accepted check all of `words` and `scores` is zero.
 #[allow(clippy::too_many_arguments)]
 pub fn check(gold: &[u8], gate: &[u8], depth: u64, limit: u64, earliest: bool, trace: &mut [u8], words: &mut [u32], scores: &mut [f64]) -> CheckAnswer {
@@ -98,21 +98,21 @@ pub fn check(gold: &[u8], gate: &[u8], depth: u64, limit: u64, earliest: bool, t
     }
 }
 
-/// Replays a claimed trace: a refusal of 1 to 15, 18 to 22 or 25, or whether the outputs agree before the claimed cycle and differ in it exactly as
+/// Replays a claimed trace: a refusal of 1 to 15, 18 to 22, 25 or 30, or whether the outputs agree before the claimed cycle and differ in it exactly as
 /// marked, in at least one.
 pub fn replay(gold: &[u8], gate: &[u8], cycle: u64, claim: &[u8]) -> ReplayAnswer {
     // The library reads as many bytes as the lengths say.
     unsafe { boundary::struo_replay(gold.as_ptr(), gold.len(), gate.as_ptr(), gate.len(), cycle, claim.as_ptr(), claim.len()) }
 }
 
-/// Sets a lent position before cycle 0: a refusal of 1 to 15, 18 to 22 or 24, which changes nothing, or accepted. Gold's initial bits are written from byte
+/// Sets a lent position before cycle 0: a refusal of 1 to 15, 18 to 22, 24 or 30, which changes nothing, or accepted. Gold's initial bits are written from byte
 /// 0 on and gate's from byte 128 on, by register number; every other byte stays.
 pub fn begin(gold: &[u8], gate: &[u8], position: &mut Position, bits: &mut [u8]) -> ReadAnswer {
     // The library reads the records and writes the position and the bits, as far as the lengths say; the borrows keep them apart.
     unsafe { boundary::struo_begin(gold.as_ptr(), gold.len(), gate.as_ptr(), gate.len(), position, bits.as_mut_ptr(), bits.len()) }
 }
 
-/// Moves a lent position on by one cycle of a claimed trace: a refusal of 1 to 15, 18 to 22, 24 or 25, which changes nothing, or yes or no. Past the claimed
+/// Moves a lent position on by one cycle of a claimed trace: a refusal of 1 to 15, 18 to 22, 24, 25 or 30, which changes nothing, or yes or no. Past the claimed
 /// cycle nothing changes and the answer is no; before it the answer is no; at it yes exactly when the position says that the outputs agreed so far and in this
 /// cycle they differ in exactly the marked ones, at least one.
 pub fn step(gold: &[u8], gate: &[u8], cycle: u64, claim: &[u8], position: &mut Position, bits: &mut [u8]) -> ReplayAnswer {
@@ -369,14 +369,51 @@ mod tests {
     }
 
     #[test]
+    fn a_clock_that_is_read_is_refused_in_every_call() {
+        // The Not, the Output, the data and the reset read node 0, the clock; then the register is clocked by rst, node 1, which its reset reads.
+        for (offset, node, place) in [(22, 0, 0), (27, 0, 0), (35, 0, 0), (42, 0, 0), (37, 1, 1)] {
+            let mut record = TOGGLE.to_vec();
+            record[offset] = node;
+            assert_eq!(read(&record), ReadAnswer { number: 30, side: 0, place });
+            for (side, gold, gate) in [(0, &record[..], TOGGLE), (1, TOGGLE, &record[..])] {
+                let (mut position, mut bits) = (Position { cycle: 9, agreed: false }, [7; BITS]);
+                let refused = ReplayAnswer { number: 30, side, place, yes: false };
+                assert_eq!(check(gold, gate, 0, u64::MAX, false, &mut [], &mut [], &mut []), CheckAnswer { number: 30, side, place, ..CheckAnswer::default() });
+                assert_eq!(replay(gold, gate, 65, &[2]), refused);
+                assert_eq!(step(gold, gate, 65, &[2], &mut position, &mut bits), refused);
+                assert_eq!(begin(gold, gate, &mut position, &mut bits), ReadAnswer { number: 30, side, place });
+                assert!(position == Position { cycle: 9, agreed: false } && bits == [7; BITS]);
+            }
+        }
+    }
+
+    #[test]
+    fn the_clocks_bits_change_no_answer() {
+        // The toggle with y behind its Not, so that the outputs differ at once; inputs clk and rst.
+        let inverted = b"\x01\0\0\0\x2d\x01t\0\x05\0\x03clk\0\x03rst\x02\x10\0\x02\x11\x01y\0\x03\0\x01\x01q\0\x02\0\x03\0\0\0\0\x01\0\x01\0\0";
+        for mark in [0, 1] {
+            for (clock, number) in [(0, 0), (1, 0), (2, 25)] {
+                let answer = ReplayAnswer { number, yes: number == 0 && mark == 1, ..ReplayAnswer::default() };
+                assert_eq!(replay(TOGGLE, inverted, 0, &[clock, 1, mark]), answer);
+            }
+        }
+    }
+
+    #[test]
     fn refusals_and_statuses_in_words() {
         let mut own = WIRE.to_vec();
         own[16] = 1;
         let refused = read(&own).result().unwrap_err();
         assert_eq!(refused.to_string(), "refused: 7 UndefinedNet: a node's input number is not below the node's own (gold node 1)");
         assert_eq!(check(WIRE, WIRE, 0, 0, false, &mut [], &mut [], &mut []).result().unwrap_err().to_string(), "refused: 16 ZeroDepth: the depth is 0");
-        assert!((1..=25).chain([36]).all(|number| Refusal::from_number(number).is_some_and(|refusal| refusal as u32 == number)));
-        assert!([0, 26, 35, 37].into_iter().all(|number| Refusal::from_number(number).is_none()));
+        let mut clocked = TOGGLE.to_vec();
+        clocked[27] = 0;
+        assert_eq!(
+            check(TOGGLE, &clocked, 1, 0, false, &mut [], &mut [], &mut []).result().unwrap_err().to_string(),
+            "refused: 30 ClockRead: an Input that clocks a register is read by a node, or by a register's data, enable or reset (gate node 0)"
+        );
+        assert!((1..=25).chain([30, 36]).all(|number| Refusal::from_number(number).is_some_and(|refusal| refusal as u32 == number)));
+        assert!([0, 26, 29, 31, 35, 37].into_iter().all(|number| Refusal::from_number(number).is_none()));
         assert!((0..4).all(|number| Status::from_number(number).is_some_and(|status| status as u32 == number)));
         assert!(Status::from_number(4).is_none());
         assert!(Status::Equivalent.to_string().starts_with("Equivalent: ") && Status::NotEquivalent.to_string().starts_with("NOT EQUIVALENT: "));

@@ -1,4 +1,5 @@
-//! The refusals of the calls by number, with side and place; that is the checking order but for 36, which a check tests after 17 and before 18.
+//! The refusals of the calls by number, with side and place; that is the checking order but for 30, which is tested of each record after its 15, and 36, which
+//! a check tests after 17 and before 18.
 use std::error::Error;
 use std::fmt;
 
@@ -56,12 +57,14 @@ pub enum Refusal {
     Memory = 24,
     /// The cycle is over 64, the claim's length is not (cycle+1)×I + O, or a byte of it is neither 0 nor 1; of a step, also a register's stored bit.
     Claim = 25,
+    /// An Input that clocks a register is read by a node, or by a register's data, enable or reset.
+    ClockRead = 30,
     /// The limit of learned literals is over 262,144.
     LearnedLimit = 36,
 }
 
 /// The refusals by number.
-const ALL: [Refusal; 26] = [
+const ALL: [Refusal; 27] = [
     Refusal::Length,
     Refusal::Version,
     Refusal::Cut,
@@ -87,11 +90,12 @@ const ALL: [Refusal; 26] = [
     Refusal::TooLarge,
     Refusal::Memory,
     Refusal::Claim,
+    Refusal::ClockRead,
     Refusal::LearnedLimit,
 ];
 
 impl Refusal {
-    /// The refusal of a number, 1 to 25 or 36.
+    /// The refusal of a number, 1 to 25, 30 or 36.
     #[must_use]
     pub fn from_number(number: u32) -> Option<Self> {
         ALL.into_iter().find(|refusal| *refusal as u32 == number)
@@ -126,6 +130,7 @@ impl Refusal {
             Self::TooLarge => "(D+1)×F + R is over 65,535, where F = I + 3×N + 10×R + 4×O + 1",
             Self::Memory => "the trace buffer is under (D+1)×I + O bytes, or the work memory is under 8,388,608 words of 32 bits or under 65,536 f64; of a begin or a step, the bits are under 256 bytes",
             Self::Claim => "the cycle is over 64, the claim's length is not (cycle+1)×I + O, or a byte of it is neither 0 nor 1; of a step, also a register's stored bit",
+            Self::ClockRead => "an Input that clocks a register is read by a node, or by a register's data, enable or reset",
             Self::LearnedLimit => "the limit of learned literals is over 262,144",
         }
     }
@@ -164,7 +169,7 @@ pub struct Refused {
     pub refusal: Refusal,
     /// Whose record is at fault; gold where neither alone is.
     pub side: Side,
-    /// A byte offset for 3 to 6, a node number for 7, 8, 13 and 14, a register number for 9 to 12, 15 and 22, and else 0.
+    /// A byte offset for 3 to 6, a node number for 7, 8, 13, 14 and 30, a register number for 9 to 12, 15 and 22, and else 0.
     pub place: u32,
 }
 
@@ -180,7 +185,7 @@ impl fmt::Display for Refused {
     fn fmt(&self, out: &mut fmt::Formatter<'_>) -> fmt::Result {
         let what = match self.refusal as u32 {
             3..=6 => "byte",
-            7 | 8 | 13 | 14 => "node",
+            7 | 8 | 13 | 14 | 30 => "node",
             9..=12 | 15 | 22 => "register",
             _ => return write!(out, "refused: {}", self.refusal),
         };

@@ -1,4 +1,5 @@
 pub mod Faults
+pub mod FaultLaws
 pub mod Options
 pub mod Answers
 pub mod Positions

@@ -1,10 +1,13 @@
--- Facts of numbers: cases of an equation and of an order, and what `compare` gives. Assumes nothing.
+-- Facts of numbers: cases of an equation and of an order, an equation tested either way round, and what `compare` gives. Assumes nothing.
 use Prim.Native.Nat.{ℕ, zero, suc, _≤_, _<_, compare, Ordering·lt, Ordering·eq, Ordering·gt, compare·zero-zero, compare·zero-suc, compare·suc-zero, compare·suc-suc}
 use native.Mathlib.Omega.{arith}
 use native.Mathlib.Decide.{ℕ-discrete, decLt}
-use mathlib.Core.Path.{_≡_, _∙_}
+use mathlib.Core.Path.{_≡_, sym, _∙_}
 use mathlib.Core.Logic.{_≢_, _⊎_, inl, inr}
 use mathlib.Core.Bool.{Bool, true, false, cond}
+use lib.Dec.{eqb}
+use borrow.Author.Tests.{eqb-true, eq-eqb}
+use Rattle.facts.specs.Bools.{both-ways}
 
 -- ---- cases
 
@@ -27,6 +30,10 @@ by-lt {C} a b f g = go (decLt a b)
 -- the same as a fact
 pub below : (i n : ℕ) → (i < n) ⊎ (n ≤ i)
 below i n = by-lt i n (λ h. inl h) (λ h. inr h)
+
+-- an equation tested either way round
+pub eqb-swap : (a b : ℕ) → eqb a b ≡ eqb b a
+eqb-swap a b = both-ways (eqb a b) (eqb b a) (λ e. eq-eqb b a (sym (eqb-true a b e))) (λ e. eq-eqb a b (sym (eqb-true b a e)))
 
 -- a bit counts at most 1
 pub cond-le : (b : Bool) → cond b 1 0 ≤ 1

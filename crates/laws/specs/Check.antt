@@ -10,6 +10,7 @@ pub mod Meaning
 pub mod Designs
 pub mod Records
 pub mod Replaying
+pub mod Clock
 -- the queries asked, and the limit of learned literals
 pub mod Queries
 pub mod Walk

@@ -13,8 +13,8 @@ use Rattle.model.specs.Names.{Name, memberName, namesOf}
 use Rattle.model.specs.Netlist.{Node, Design, inputs, outputs, inputNumbers}
 use Rattle.model.specs.Record.{got, listedKind, node, parsed, parse}
 use Rattle.model.specs.Validate.{validate, read}
-use Rattle.model.specs.Run.{StoredBits, InputSequence, initialBits}
-use Rattle.model.specs.Pair.{Lent, both, readPair, inputsDiffer, outputsDiffer, proofNodes, checkRefusal, replayFault}
+use Rattle.model.specs.Run.{StoredBits, InputSequence, storedAt, outputsAt, initialBits}
+use Rattle.model.specs.Pair.{Lent, both, readPair, inputsDiffer, outputsDiffer, interfaceFault, proofNodes, checkRefusal, replayFault}
 use Rattle.model.specs.Replay.{claimInputs, differAt, agreeBefore, replays, replay, stepsReplay}
 use Rattle.model.specs.Stepping.{LentPosition, stepFault, begin, step}
 use Rattle.model.specs.Induction.{Query1, Says, Begun, initially, SameOutputs, Chain, answered, Refuses, Sound, Checked, Joined, SwapLaw, ChainLaw, SelfLaw}
@@ -25,9 +25,11 @@ use Rattle.model.specs.Equivalence.{Problem, Query, baseCounterexample, ask, un
 use Rattle.model.specs.Equivalence as Search
 use Rattle.model.specs.Check.{problemOf, checkDesigns, acceptedCheck, checkOutcome, checkResult, lentOf, check, checked}
 use Rattle.laws.specs.Search.Limits.{give-up-needed}
-use Rattle.laws.specs.Terms.{OfRecord, UpToKind, OfCheck, OfReplay, replayRefusal, RefusedWith, UnusedZero, learnedOf, provedOf, sevenOf, AsOutcome, Called, TraceLeft, CalledEquivalent, Comparable, checkedDesigns, LargerLimit, inMode, outcomeTo, OverLimit, Linked, JoinedDesigns, TraceGood, Yes, Settled, answerTotal, literalCount, Reached, GivesUp, QueryOf, Asks, StopsAt, Told, Sooner, FirstLargest, LastGivesUp, EqualThrough, provedByPlace, CanDiffer, Earliest, EarliestAt, GoesOn, AsFar}
+use Rattle.laws.specs.Terms.{faultTo15, OfRecord, UpToKind, OfCheck, OfReplay, replayRefusal, RefusedWith, UnusedZero, learnedOf, provedOf, sevenOf, AsOutcome, Called, TraceLeft, CalledEquivalent, Comparable, checkedDesigns, LargerLimit, inMode, outcomeTo, OverLimit, Linked, JoinedDesigns, ClockReadAt, LowestClockRead, AlikeButClocks, SameButClock, SameRuns, SameClaim, TraceGood, Yes, Settled, answerTotal, literalCount, Reached, GivesUp, QueryOf, Asks, StopsAt, Told, Sooner, FirstLargest, LastGivesUp, EqualThrough, provedByPlace, CanDiffer, Earliest, EarliestAt, GoesOn, AsFar}
 use Rattle.laws.specs.StepTerms.{beginRefusal, stepRefusal, OfBegin, OfStep, afterBegin, stepAnswer, afterSteps, runPosition, heldAt, movedFrom, BytesKept, SameBits}
 use Rattle.laws.specs.Record.KindBytes.{node-counted, unlisted-refused}
+use Rattle.laws.specs.Record.ClockRead.{clock-refused, reads-no-clock}
+use Rattle.laws.specs.ClockRun.{stored-same, run-outputs-same}
 use Rattle.laws.specs.Induction.Chain.{chain-outputs}
 use Rattle.laws.specs.Induction.Pairs.{comparable}
 use Rattle.laws.specs.Check.Call.{check-refuses, outcome-is, check-refused, check-cleared}
@@ -43,6 +45,7 @@ use Rattle.laws.specs.Check.Limited.{over-limit, above-refused, refuse-a
 use Rattle.laws.specs.Check.Reading.{read-zero, read-answers, gold-refused, gate-refused}
 use Rattle.laws.specs.Replay.{steps-replay, agree-every, every-agree}
 use Rattle.laws.specs.Stepping.{begin-zero, step-zero, begin-refuses, step-refuses, steps-run, steps-no, steps-answer, step-past, step-runs, begin-kept, step-kept, step-alike}
+use Rattle.laws.specs.Check.Clock.{runs-same, differ-same, replay-same, step-same, check-replays-clock}
 use Rattle.laws.specs.Check.Replaying.{replay-rule, replay-refused-with, replay-zero, inputs-compared, outputs-compared}
 use Rattle.laws.specs.Check.Queries.{query-ends, query-refutes, query-evaluates, query-gives-up, query-total, no-model-no, model-yes, query-size, query-fits}
 use Rattle.laws.specs.Check.GiveUp.{designs-give-up, designs-last, call-gives-up}
@@ -62,7 +65,7 @@ refused-exactly = check-refuses
 pub else-answered : (a b : List ℕ) (o : Options) (lent : Lent) → checkRefusal a b o lent ≡ none → (status : Status) × (d : ℕ) × (checked a b o lent ≡ answered status d)
 else-answered = check-answers
 
--- every refusal of a check has a number from 1 to 24, or is 36 with side and place 0
+-- every refusal of a check has a number from 1 to 24, or 30, or is 36 with side and place 0
 pub refusal-numbered : (a b : List ℕ) (o : Options) (lent : Lent) (r : Refusal) → checkRefusal a b o lent ≡ some r → OfCheck r
 refusal-numbered = check-within
 
@@ -75,7 +78,7 @@ number-zero-exactly = number-zero
 pub read-accepts-exactly : (s : List ℕ) → (read s .number ≡ 0) ↔ ((d : Design) × (parse s ≡ parsed d) × (validate d ≡ none))
 read-accepts-exactly = read-zero
 
--- it answers three zeros, or a number from 1 to 15 on side 0
+-- it answers three zeros, or a number from 1 to 15, or 30, on side 0
 pub read-numbered : (s : List ℕ) → (read s ≡ accepted) ⊎ OfRecord (read s)
 read-numbered = read-answers
 
@@ -513,7 +516,7 @@ replay-refused-exactly = replay-refused-with
 pub replay-zero-exactly : (a b : List ℕ) (cycle : ℕ) (claim : List ℕ) → (replay a b cycle claim .refusal .number ≡ 0) ↔ (replayRefusal a b cycle claim ≡ none)
 replay-zero-exactly = replay-zero
 
--- every refusal of a replay has a number from 1 to 15 or 18 to 22, or 25
+-- every refusal of a replay has a number from 1 to 15 or 18 to 22, or 25 or 30
 pub replay-numbered : (a b : List ℕ) (cycle : ℕ) (claim : List ℕ) (r : Refusal) → replayRefusal a b cycle claim ≡ some r → OfReplay r
 replay-numbered = replay-within
 
@@ -549,7 +552,7 @@ pub step-number-zero-exactly : (a b : List ℕ) (cycle : ℕ) (claim : List ℕ)
     → (step a b cycle claim p bits .answer .refusal .number ≡ 0) ↔ (stepRefusal a b cycle claim bits ≡ none)
 step-number-zero-exactly = step-zero
 
--- every refusal of a begin has a number from 1 to 15 or 18 to 22, or 24
+-- every refusal of a begin has a number from 1 to 15 or 18 to 22, or 24 or 30
 pub begin-numbered : (a b bits : List ℕ) (r : Refusal) → beginRefusal a b bits ≡ some r → OfBegin r
 begin-numbered = begin-within
 
@@ -614,6 +617,52 @@ step-keeps-bytes = step-kept
 pub step-looks-at-registers : (a b : List ℕ) (gold gate : Design) → readPair a b ≡ both gold gate → (p : LentPosition) (bits : List ℕ) (cycle : ℕ) (claim others : List ℕ) → SameBits gold gate bits others
     → (step a b cycle claim p bits .answer ≡ step a b cycle claim p others .answer) × (step a b cycle claim p bits .position ≡ step a b cycle claim p others .position)
 step-looks-at-registers = step-alike
+
+-- ==== the clock is no data
+
+-- read answers 30 exactly where the bytes are parsed to a design that passes every check before it and has an Input that clocks one of its registers and is read; the place is the lowest such Input
+pub clock-read-refused-exactly : (s : List ℕ) (k : ℕ)
+    → (read s ≡ record { number = 30; side = 0; place = k }) ↔ ((d : Design) × (parse s ≡ parsed d) × (faultTo15 d ≡ none) × LowestClockRead d k)
+clock-read-refused-exactly = clock-refused
+
+-- no check refuses a design exactly where those before 30 do not and it reads none of its clocks
+pub accepted-reads-no-clock : (d : Design) → (validate d ≡ none) ↔ ((faultTo15 d ≡ none) × ((k : ℕ) → ClockReadAt d k → ⊥))
+accepted-reads-no-clock = reads-no-clock
+
+-- two input sequences that differ at Inputs that clock its registers alone give a design the same outputs in every cycle, from any start bits
+pub clock-changes-no-output : (d : Design) → validate d ≡ none → (start : StoredBits) (last : ℕ) (ins others : InputSequence) → AlikeButClocks d last ins others
+    → (c : ℕ) → c ≤ last → outputsAt d start ins c ≡ outputsAt d start others c
+clock-changes-no-output = run-outputs-same
+
+-- and the same stored bits
+pub clock-changes-no-stored-bit : (d : Design) → validate d ≡ none → (start : StoredBits) (last : ℕ) (ins others : InputSequence) → AlikeButClocks d last ins others
+    → (c : ℕ) → c ≤ suc last → storedAt d start ins c ≡ storedAt d start others c
+clock-changes-no-stored-bit = stored-same
+
+-- of a pair that passes 18 to 21, and so has one clock by name: two input sequences that agree on all inputs but the clock give both sides the same run
+pub clock-changes-no-run : (a b : List ℕ) (gold gate : Design) → readPair a b ≡ both gold gate → interfaceFault gold gate ≡ none → (last : ℕ) (ins others : InputSequence) → SameButClock gold last ins others
+    → (s t : StoredBits) → SameRuns gold gate s t last ins others
+clock-changes-no-run = runs-same
+
+-- so that outputs differ in the same cycles: no verdict depends on the clock's bits
+pub clock-changes-no-difference : (a b : List ℕ) (gold gate : Design) → readPair a b ≡ both gold gate → interfaceFault gold gate ≡ none → (last : ℕ) (ins others : InputSequence) → SameButClock gold last ins others
+    → (s t : StoredBits) (c : ℕ) → c ≤ last → differAt gold gate s t ins c ≡ differAt gold gate s t others c
+clock-changes-no-difference = differ-same
+
+-- two claims that differ in the clock's bits alone have the same replay, refused or not
+pub clock-changes-no-replay : (a b : List ℕ) (gold gate : Design) → readPair a b ≡ both gold gate → (cycle : ℕ) (claim other : List ℕ) → SameClaim gold cycle claim other
+    → replay a b cycle claim ≡ replay a b cycle other
+clock-changes-no-replay = replay-same
+
+-- and the same steps: the answer, the position and every byte after each
+pub clock-changes-no-step : (a b : List ℕ) (gold gate : Design) → readPair a b ≡ both gold gate → (cycle : ℕ) (claim other : List ℕ) → SameClaim gold cycle claim other
+    → (p : LentPosition) (bits : List ℕ) → step a b cycle claim p bits ≡ step a b cycle other p bits
+clock-changes-no-step = step-same
+
+-- the trace of NotEquivalent replays yes with any bits of the clock in place of its own
+pub trace-replays-on-any-clock : (a b : List ℕ) (o : Options) (lent : Lent) (gold gate : Design) (d m : ℕ) (bytes other : List ℕ) → checkRefusal a b o lent ≡ none → readPair a b ≡ both gold gate
+    → checkDesigns o gold gate (initialBits gold) (initialBits gate) .verdict ≡ Search.NotEquivalent d m bytes → SameClaim gold m bytes other → replay a b m other ≡ record { refusal = accepted; yes = true }
+trace-replays-on-any-clock = check-replays-clock
 
 -- ==== the check of two designs, each from its own start bits: the laws of two records are these at the initial bits
 

@@ -6,3 +6,4 @@ pub mod Limits
 pub mod KindBytes
 pub mod Accepted
 pub mod Valid
+pub mod ClockRead

@@ -12,7 +12,7 @@ use Rattle.model.specs.Run.{StoredBits, InputSequence, storedAt, outputsAt}
 use Rattle.model.specs.Pair.{ReadPair, both, refusedPair, readPair}
 use Rattle.model.specs.Replay.{Position, claimInputs, differAt, agreeBefore, differAsClaimed}
 use Rattle.model.specs.Stepping.{LentPosition, StepResult, gateBits, storedBits, withStored, lentPosition, lentBits, tooFewBits, beginFault, stepFault, begin, step}
-use Rattle.laws.specs.Terms.{Within, OfReplay}
+use Rattle.laws.specs.Terms.{Within, OfOne, OfReplay}
 
 -- ---- the refusal of a call, from the bytes of both records
 
@@ -34,9 +34,9 @@ stepRefusalOf (both gold gate) cycle claim bits = stepFault gold gate cycle clai
 unfoldable pub stepRefusal : List ℕ → List ℕ → ℕ → List ℕ → List ℕ → Option Refusal
 stepRefusal a b cycle claim bits = stepRefusalOf (readPair a b) cycle claim bits
 
--- a refusal of a begin: 1 to 15, 18 to 22, or 24
+-- a refusal of a begin: one of a record, 18 to 22, or 24
 pub data OfBegin (r : Refusal) : Type 0 where
-  of-reading : Within 1 15 r → OfBegin r
+  of-reading : OfOne r → OfBegin r
   of-comparing : Within 18 22 r → OfBegin r
   of-length : r .number ≡ 24 → OfBegin r
 

@@ -5,19 +5,19 @@ use mathlib.Core.Logic.{_≢_, _⊎_}
 use mathlib.Core.Bool.{Bool, true, false, cond, xor}
 use mathlib.Core.List.{List, [], _∷_, _++_, List·Memᴰ}
 use mathlib.Core.Option.{Option, none, some}
-use lib.ListN.{length, getD, drop}
+use lib.ListN.{length, getD, getElem?, drop}
 use lib.Dec.{eqb, ltb}
 use lib.Ieee.{Float}
 use Rattle.model.specs.Answers.{Refusal, accepted, Status, statusNumber, Asked, CheckAnswer, refusedAnswer}
 use Rattle.model.specs.Answers as Answers
 use Rattle.model.specs.Lists.{snoc}
 use Rattle.model.specs.Options.{Options, toDepth, firstQuery}
-use Rattle.model.specs.Names.{Name, namesOf}
-use Rattle.model.specs.Netlist.{Node, Design, inputs, outputs, inputCount}
+use Rattle.model.specs.Names.{Name, memberName, namesOf}
+use Rattle.model.specs.Netlist.{Node, Input, Register, Design, inputs, outputs, inputCount, inputNumbers}
 use Rattle.model.specs.Record.{got, number, name, listedKind, nodesFrom, lengthFits}
-use Rattle.model.specs.Validate.{_otherwise_, refuseIf, validate}
-use Rattle.model.specs.Run.{StoredBits, InputSequence, bitAt, outputsAt, initialBits}
-use Rattle.model.specs.Pair.{Lent, interfaceFault, initialFault, proofNodes, traceLength, tooShort, allBits, replayFault, ReadPair, both, refusedPair, readPair}
+use Rattle.model.specs.Validate.{_otherwise_, refuseIf, nodesFault, isInputAt, registersFault, connectionFault, resetFault, clockFault, clocks, dataNumbers, validate}
+use Rattle.model.specs.Run.{StoredBits, InputSequence, bitAt, storedAt, outputsAt, initialBits}
+use Rattle.model.specs.Pair.{Lent, Domain, domain, interfaceFault, initialFault, proofNodes, traceLength, tooShort, allBits, replayFault, ReadPair, both, refusedPair, readPair}
 use Rattle.model.specs.Replay.{claimBit, claimInputs, differAt, replays, replay}
 use Rattle.model.specs.Induction.{Query1, Query2, Query3, Query4, Says, Begun, SameOutputs, Verdict, answered}
 use Rattle.model.specs.Literal.{Literal}
@@ -35,10 +35,23 @@ pub record Within (first last : ℕ) (r : Refusal) : Type 0 where
   pub low : first ≤ r .number
   pub high : r .number ≤ last
 
--- a refusal of one record: 1 to 15, on side 0
+-- the first refusal of 7 to 15, the checks of a design before 30
+unfoldable pub faultTo15 : Design → Option Refusal
+faultTo15 d =
+    nodesFault 0 [] (d .nodes)
+    otherwise registersFault (d .nodes) 0 [] [] (d .registers)
+    otherwise connectionFault (d .registers) 0 (d .nodes)
+    otherwise resetFault (d .registers) 0 (d .nodes)
+    otherwise clockFault (d .nodes) 0 (d .registers)
+
+-- a refusal of one record, on either side: 1 to 15, or 30
+pub data OfOne (r : Refusal) : Type 0 where
+  of-fields : Within 1 15 r → OfOne r
+  of-clock : r .number ≡ 30 → OfOne r
+
+-- a refusal of a read: one of a record, on side 0
 pub record OfRecord (r : Refusal) : Type 0 where
-  pub low : 1 ≤ r .number
-  pub high : r .number ≤ 15
+  pub own : OfOne r
   pub side : r .side ≡ 0
 
 -- the record's bytes up to the kind byte of node m, at the place: length, version, name and count are in order, and the m nodes before it are read
@@ -56,14 +69,15 @@ pub record UpToKind (s : List ℕ) (m place : ℕ) : Type 0 where
   pub nodesBefore : nodesFrom listedKind m [] s (countAt + 2) ≡ got before place
   pub within : place < length s
 
--- a refusal of a check: 1 to 24, or 36 with side and place 0
+-- a refusal of a check: one of a record, 16 to 24, or 36 with side and place 0
 pub data OfCheck (r : Refusal) : Type 0 where
-  of-list : Within 1 24 r → OfCheck r
+  of-either : OfOne r → OfCheck r
+  of-list : Within 16 24 r → OfCheck r
   of-limit : r ≡ record { number = 36; side = 0; place = 0 } → OfCheck r
 
--- a refusal of a replay: 1 to 15, 18 to 22, or 25
+-- a refusal of a replay: one of a record, 18 to 22, or 25
 pub data OfReplay (r : Refusal) : Type 0 where
-  of-record : Within 1 15 r → OfReplay r
+  of-record : OfOne r → OfReplay r
   of-pair : Within 18 22 r → OfReplay r
   of-claim : r .number ≡ 25 → OfReplay r
 
@@ -239,6 +253,58 @@ pub record JoinedDesigns (a b : Begun) : Type 0 where
   pub comparable : Comparable (a .design) (b .design)
   pub same : SameOutputs a b
   pub never : (o : Options) (d : ℕ) → checkedDesigns o (a .design) (b .design) (a .start) (b .start) ≢ answered Answers.NotEquivalent d
+
+-- ---- the clock
+
+-- node k is read: by a node, or as the data, enable or reset of a register
+pub data ReadAt (d : Design) (k : ℕ) : Type 0 where
+  by-node : (n : Node) → List·Memᴰ n (d .nodes) → List·Memᴰ k (inputNumbers n) → ReadAt d k
+  by-register : (r : Register) → List·Memᴰ r (d .registers) → List·Memᴰ k (dataNumbers r) → ReadAt d k
+
+-- node k is an Input that clocks one of the design's registers, and is read
+pub record ClockReadAt (d : Design) (k : ℕ) : Type 0 where
+  pub input : isInputAt (getElem? (d .nodes) k) ≡ true
+  pub register : Register
+  pub held : List·Memᴰ register (d .registers)
+  pub clocked : register .clock ≡ k
+  pub reading : ReadAt d k
+
+-- and no node before it is one
+pub record LowestClockRead (d : Design) (k : ℕ) : Type 0 where
+  pub here : ClockReadAt d k
+  pub lowest : (j : ℕ) → j < k → ClockReadAt d j → ⊥
+
+-- two input sequences that give every Input that clocks none of the design's registers the same bits, in each cycle through the last
+pub record AlikeButClocks (d : Design) (last : ℕ) (ins others : InputSequence) : Type 0 where
+  pub same : (c k : ℕ) (n : Name) → c ≤ last → getElem? (d .nodes) k ≡ some (Input n) → clocks k (d .registers) ≡ false → ins c n ≡ others c n
+
+-- the name of a clock domain's clock
+unfoldable pub nameOfClock : Option Domain → Option Name
+nameOfClock none = none
+nameOfClock (some a) = some (a .clock)
+
+-- the name of the clock of a design with one clock domain; none without registers
+unfoldable pub clockName : Design → Option Name
+clockName d = nameOfClock (domain (d .nodes) (d .registers))
+
+-- two input sequences that give every input but the clock the same bits, in each cycle through the last
+pub record SameButClock (gold : Design) (last : ℕ) (ins others : InputSequence) : Type 0 where
+  pub same : (c : ℕ) (n : Name) → c ≤ last → memberName n (namesOf (inputs gold)) ≡ true → clockName gold ≢ some n → ins c n ≡ others c n
+
+-- both designs show the same outputs in each cycle through the last, and hold the same stored bits up to the cycle after it
+pub record SameRuns (gold gate : Design) (s t : StoredBits) (last : ℕ) (ins others : InputSequence) : Type 0 where
+  pub gold-outputs : (c : ℕ) → c ≤ last → outputsAt gold s ins c ≡ outputsAt gold s others c
+  pub gate-outputs : (c : ℕ) → c ≤ last → outputsAt gate t ins c ≡ outputsAt gate t others c
+  pub gold-stored : (c : ℕ) → c ≤ suc last → storedAt gold s ins c ≡ storedAt gold s others c
+  pub gate-stored : (c : ℕ) → c ≤ suc last → storedAt gate t ins c ≡ storedAt gate t others c
+
+-- two claims that differ in the clock's bits alone: as long, of bytes 0 and 1, with the same bit of every other input in each cycle through the claimed one, and the same marks
+pub record SameClaim (gold : Design) (cycle : ℕ) (claim other : List ℕ) : Type 0 where
+  pub as-long : length claim ≡ length other
+  pub bits : allBits claim ≡ true
+  pub other-bits : allBits other ≡ true
+  pub inputs-same : SameButClock gold cycle (claimInputs gold claim) (claimInputs gold other)
+  pub marks : drop (suc cycle * inputCount gold) claim ≡ drop (suc cycle * inputCount gold) other
 
 -- ---- replay
 

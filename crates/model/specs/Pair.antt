@@ -159,7 +159,7 @@ replayFault gold gate cycle claim =
 
 -- ---- from the bytes of both records
 
--- both records accepted, or the first refusal of 1 to 15: gold wholly, then gate
+-- both records accepted, or the first refusal of 1 to 15 and 30: gold wholly, then gate
 pub data ReadPair : Type 0 where
   both : Design → Design → ReadPair
   refusedPair : Refusal → ReadPair

@@ -1,4 +1,4 @@
--- Closed theorems on pairs beside the cases of `Cases`: refusals of gate's record, 18 to 25 with side and place, replays, each by computation.
+-- Closed theorems on pairs beside the cases of `Cases`: refusals of each side's record, 18 to 25 with side and place, replays, each by computation.
 use Prim.Native.Nat.{ℕ}
 use mathlib.Core.Path.{_≡_, refl}
 use mathlib.Core.Bool.{Bool, true, false}
@@ -43,6 +43,10 @@ all = tt
 
 -- ---- one record refused
 
+-- a register that holds its bit, on this clock node and edge, with this reset
+unfoldable pub holds : Name → ℕ → ℕ → Edge → Option Reset → Register
+holds n output clock edge reset = record { name = n; output = output; «data» = output; clock = clock; edge = edge; enable = none; reset = reset }
+
 -- gate's record: its number and place, on side 1
 gate-refused : checkRefusal wire (recordOf (wireReading 1)) (toDepth 1) lent ≡ some (refusalOfGate 7 1)
 unfolding all
@@ -60,6 +64,23 @@ gold-first = refl
 gate-before-depth : checkRefusal wire [] (toDepth 0) lent ≡ some (refusalOfGate 1 0)
 unfolding all
 gate-before-depth = refl
+
+-- a register whose design shows its clock at y
+unfoldable pub clockShown : Design
+clockShown = design (Input clk ∷ Input rst ∷ RegisterOutput ∷ Output y 0 ∷ []) (holds q 2 0 Rising (sync 1 false) ∷ [])
+
+-- 30 of gold comes before 1 of gate, and 30 of gate before 16
+clock-read-gold : checkRefusal (recordOf clockShown) [] (toDepth 0) lent ≡ some (refusal 30 0)
+unfolding all clockShown holds
+clock-read-gold = refl
+
+clock-read-gate : checkRefusal (recordOf (toggle q)) (recordOf clockShown) (toDepth 0) lent ≡ some (refusalOfGate 30 0)
+unfolding all clockShown holds
+clock-read-gate = refl
+
+clock-read-replay : replay (recordOf (toggle q)) (recordOf clockShown) 65 [] ≡ refuses (refusalOfGate 30 0)
+unfolding all clockShown holds
+clock-read-replay = refl
 
 gold-refused-replay : replay (recordOf (wireReading 1)) [] 0 (0 ∷ 0 ∷ []) ≡ refuses (refusal 7 1)
 unfolding all
@@ -103,15 +124,15 @@ output-more = refl
 
 -- ---- 20 and 21
 
--- a register that holds its bit, on this clock node and edge, with this reset
-unfoldable pub holds : Name → ℕ → ℕ → Edge → Option Reset → Register
-holds n output clock edge reset = record { name = n; output = output; «data» = output; clock = clock; edge = edge; enable = none; reset = reset }
-
--- two holding registers, q and then p, on these clock nodes and edges; y reads q
+-- two holding registers, q and then p, on these clock nodes, 0 or 5, and edges; y reads q
 unfoldable pub clocked : ℕ → Edge → ℕ → Edge → Design
 clocked c e d f =
-    design (Input clk ∷ Input rst ∷ RegisterOutput ∷ RegisterOutput ∷ Output y 2 ∷ [])
+    design (Input clk ∷ Input rst ∷ RegisterOutput ∷ RegisterOutput ∷ Output y 2 ∷ Input a ∷ [])
     (holds q 2 c e (sync 1 false) ∷ holds p 3 d f (sync 1 false) ∷ [])
+
+-- a holding register without reset, on this clock node; y reads that node
+unfoldable pub clockedReading : ℕ → ℕ → Design
+clockedReading c k = design (Input clk ∷ Input rst ∷ RegisterOutput ∷ Output y k ∷ []) (holds q 2 c Rising none ∷ [])
 
 one-falling-domain : refusalOf (clocked 0 Falling 0 Falling) (clocked 0 Falling 0 Falling) ≡ none
 unfolding all clocked holds
@@ -121,12 +142,12 @@ two-edges : refusalOf (clocked 0 Rising 0 Falling) (clocked 0 Rising 0 Rising) �
 unfolding all clocked holds
 two-edges = refl
 
-two-clocks : refusalOf (clocked 0 Falling 1 Falling) (clocked 0 Rising 1 Rising) ≡ some (refusal 20 0)
+two-clocks : refusalOf (clocked 0 Falling 5 Falling) (clocked 0 Rising 5 Rising) ≡ some (refusal 20 0)
 unfolding all clocked holds
 two-clocks = refl
 
 -- the third register alone is on another edge
-third-edge : refusalOf (design (Input clk ∷ Input rst ∷ RegisterOutput ∷ RegisterOutput ∷ RegisterOutput ∷ Output y 2 ∷ [])
+third-edge : refusalOf (design (Input clk ∷ Input rst ∷ RegisterOutput ∷ RegisterOutput ∷ RegisterOutput ∷ Output y 2 ∷ Input a ∷ [])
     (holds q 2 0 Rising (sync 1 false) ∷ holds p 3 0 Rising (sync 1 false) ∷ holds h 4 0 Falling (sync 1 false) ∷ []))
     (clocked 0 Rising 0 Rising)
     ≡ some (refusal 20 0)
@@ -137,11 +158,11 @@ two-edges-gate : refusalOf (clocked 0 Rising 0 Rising) (clocked 0 Falling 0 Risi
 unfolding all clocked holds
 two-edges-gate = refl
 
-two-clocks-gate : refusalOf (clocked 0 Falling 0 Falling) (clocked 0 Falling 1 Falling) ≡ some (refusalOfGate 20 0)
+two-clocks-gate : refusalOf (clocked 0 Falling 0 Falling) (clocked 0 Falling 5 Falling) ≡ some (refusalOfGate 20 0)
 unfolding all clocked holds
 two-clocks-gate = refl
 
-two-edges-gate-replay : replay (recordOf (clocked 0 Rising 0 Rising)) (recordOf (clocked 0 Falling 0 Rising)) 0 (0 ∷ 0 ∷ 0 ∷ []) ≡ refuses (refusalOfGate 20 0)
+two-edges-gate-replay : replay (recordOf (clocked 0 Rising 0 Rising)) (recordOf (clocked 0 Falling 0 Rising)) 0 (0 ∷ 0 ∷ 0 ∷ 0 ∷ []) ≡ refuses (refusalOfGate 20 0)
 unfolding all clocked holds
 two-edges-gate-replay = refl
 
@@ -149,11 +170,16 @@ edges-differ : refusalOf (clocked 0 Rising 0 Rising) (clocked 0 Falling 0 Fallin
 unfolding all clocked holds
 edges-differ = refl
 
-clocks-differ : refusalOf (clocked 0 Falling 0 Falling) (clocked 1 Falling 1 Falling) ≡ some (refusal 21 0)
+clocks-differ : refusalOf (clocked 0 Falling 0 Falling) (clocked 5 Falling 5 Falling) ≡ some (refusal 21 0)
 unfolding all clocked holds
 clocks-differ = refl
 
-edges-differ-replay : replay (recordOf (clocked 0 Falling 0 Falling)) (recordOf (clocked 0 Rising 0 Rising)) 0 (0 ∷ 0 ∷ 0 ∷ []) ≡ refuses (refusal 21 0)
+-- each side reads the other side's clock, which is none of its own
+other-side-clock : refusalOf (clockedReading 0 1) (clockedReading 1 0) ≡ some (refusal 21 0)
+unfolding all clockedReading holds
+other-side-clock = refl
+
+edges-differ-replay : replay (recordOf (clocked 0 Falling 0 Falling)) (recordOf (clocked 0 Rising 0 Rising)) 0 (0 ∷ 0 ∷ 0 ∷ 0 ∷ []) ≡ refuses (refusal 21 0)
 unfolding all clocked holds
 edges-differ-replay = refl
 

@@ -1,11 +1,13 @@
--- Closed theorems on records beside the cases of `Cases`: refusals 1 to 15, each by computation.
+-- Closed theorems on records beside the cases of `Cases`: refusals 1 to 15 and 30, each by computation.
 use Prim.Native.Nat.{ℕ, zero, suc, _*_, _/_}
 use mathlib.Core.Path.{_≡_, refl}
 use mathlib.Core.Bool.{Bool, true, false}
 use mathlib.Core.List.{List, [], _∷_, _++_, map}
 use mathlib.Core.Option.{Option, none, some}
 use lib.ListN.{length, replicate}
-use Rattle.model.specs.Netlist.{Node, Input, Constant, RegisterOutput, Not, Output, And, Or, Xor, Mux, Rising, Falling, High, Low, Reset, Design, inputNumbers}
+use Rattle.model.specs.Netlist.{Node, Input, Constant, RegisterOutput, Not, Output, And, Or, Xor, Mux, Rising, Falling, High, Low, Enable, Reset, Register, Design, inputNumbers}
+use Rattle.model.specs.Answers.{Refusal}
+use Rattle.model.specs.Names.{Name}
 use Rattle.model.specs.Encode.{sized, recordOf}
 use Rattle.model.specs.Record.{got, bigEndian, number, nameByte, name, kinds, inputsPerKind, nodeOf, parsed, lengthFits}
 use Rattle.model.specs.Validate.{read, readRecord}
@@ -31,7 +33,7 @@ wire-accepted = refl
 unfoldable pub full : Design
 full =
     design
-    (Input clk ∷ Input rst ∷ Input e ∷ RegisterOutput ∷ RegisterOutput ∷ Constant true ∷ Constant false ∷ Not 3 ∷ And 2 3 ∷ Or 4 5 ∷ Xor 6 7 ∷ Mux 8 9 10 ∷ Output y 11 ∷ [])
+    (Input clk ∷ Input rst ∷ Input e ∷ RegisterOutput ∷ RegisterOutput ∷ Constant true ∷ Constant false ∷ Not 3 ∷ And 2 3 ∷ Or 4 5 ∷ Xor 6 7 ∷ Mux 8 9 10 ∷ Output y 11 ∷ Input a ∷ [])
     (record {
       name = q;
       output = 4;
@@ -44,7 +46,7 @@ full =
       name = p;
       output = 3;
       «data» = 10;
-      clock = 2;
+      clock = 13;
       edge = Rising;
       enable = some (record { signal = 8; active = High });
       reset = some (record { signal = 7; active = Low; asynchronous = false; value = true });
@@ -54,11 +56,11 @@ full =
 unfoldable pub fullBytes : List ℕ
 fullBytes =
     sized
-    ((1 ∷ 103 ∷ 0 ∷ 13 ∷ [])
+    ((1 ∷ 103 ∷ 0 ∷ 14 ∷ [])
     ++ (0x00 ∷ 3 ∷ 99 ∷ 108 ∷ 107 ∷ 0x00 ∷ 3 ∷ 114 ∷ 115 ∷ 116 ∷ 0x00 ∷ 1 ∷ 101 ∷ 0x02 ∷ 0x02 ∷ 0x01 ∷ 1 ∷ 0x01 ∷ 0 ∷ [])
-    ++ (0x10 ∷ 0 ∷ 3 ∷ 0x20 ∷ 0 ∷ 2 ∷ 0 ∷ 3 ∷ 0x21 ∷ 0 ∷ 4 ∷ 0 ∷ 5 ∷ 0x22 ∷ 0 ∷ 6 ∷ 0 ∷ 7 ∷ 0x30 ∷ 0 ∷ 8 ∷ 0 ∷ 9 ∷ 0 ∷ 10 ∷ 0x11 ∷ 1 ∷ 121 ∷ 0 ∷ 11 ∷ [])
+    ++ (0x10 ∷ 0 ∷ 3 ∷ 0x20 ∷ 0 ∷ 2 ∷ 0 ∷ 3 ∷ 0x21 ∷ 0 ∷ 4 ∷ 0 ∷ 5 ∷ 0x22 ∷ 0 ∷ 6 ∷ 0 ∷ 7 ∷ 0x30 ∷ 0 ∷ 8 ∷ 0 ∷ 9 ∷ 0 ∷ 10 ∷ 0x11 ∷ 1 ∷ 121 ∷ 0 ∷ 11 ∷ 0x00 ∷ 1 ∷ 97 ∷ [])
     ++ (0 ∷ 2 ∷ 1 ∷ 113 ∷ 0 ∷ 4 ∷ 0 ∷ 11 ∷ 0 ∷ 0 ∷ 1 ∷ 2 ∷ 0 ∷ 2 ∷ 1 ∷ 0 ∷ 1 ∷ 1 ∷ 0 ∷ [])
-    ++ (1 ∷ 112 ∷ 0 ∷ 3 ∷ 0 ∷ 10 ∷ 0 ∷ 2 ∷ 0 ∷ 1 ∷ 0 ∷ 8 ∷ 2 ∷ 0 ∷ 7 ∷ 0 ∷ 1 ∷ []))
+    ++ (1 ∷ 112 ∷ 0 ∷ 3 ∷ 0 ∷ 10 ∷ 0 ∷ 13 ∷ 0 ∷ 1 ∷ 0 ∷ 8 ∷ 2 ∷ 0 ∷ 7 ∷ 0 ∷ 1 ∷ []))
 
 full-bytes : recordOf full ≡ fullBytes
 unfolding all full fullBytes
@@ -308,3 +310,53 @@ reset-before-clock = refl
 clock-net : read (recordOf (design (Constant false ∷ Input rst ∷ RegisterOutput ∷ []) (reg q 2 2 none ∷ []))) ≡ refusal 15 0
 unfolding all
 clock-net = refl
+
+-- ---- 30
+
+-- what read answers where node 3 stands behind the clock, another Input and a register's output
+unfoldable pub readsAt3 : Node → Refusal
+readsAt3 n = read (recordOf (design (Input clk ∷ Input e ∷ RegisterOutput ∷ n ∷ []) (reg q 2 2 none ∷ [])))
+
+-- each input number of each kind is a reading, an Output's too
+clock-read-by-node : map readsAt3 (Not 0 ∷ Output y 0 ∷ And 0 1 ∷ And 1 0 ∷ Or 0 1 ∷ Or 1 0 ∷ Xor 0 1 ∷ Xor 1 0 ∷ Mux 0 1 2 ∷ Mux 1 0 2 ∷ Mux 1 2 0 ∷ []) ≡ replicate 11 (refusal 30 0)
+unfolding all readsAt3
+clock-read-by-node = refl
+
+-- another Input may be read
+other-input-read : map readsAt3 (Not 1 ∷ Output y 1 ∷ And 1 2 ∷ Or 1 2 ∷ Xor 1 2 ∷ Mux 1 2 1 ∷ Input a ∷ []) ≡ replicate 7 (refusal 0 0)
+unfolding all readsAt3
+other-input-read = refl
+
+-- what read answers of register q, which drives node 2, beside p on node 3, which holds its bit
+unfoldable pub readsBy : ℕ → Option Enable → Option Reset → Refusal
+readsBy input enable reset =
+    read (recordOf (design base (record { name = q; output = 2; «data» = input; clock = 0; edge = Rising; enable = enable; reset = reset } ∷ reg p 3 3 none ∷ [])))
+
+-- a register's data, enable and reset of either kind are readings; its clock is none
+clock-read-by-register : readsBy 0 none none ∷ readsBy 2 (some (record { signal = 0; active = High })) none ∷ readsBy 2 (some (record { signal = 0; active = Low })) none ∷ readsBy 2 none (sync 0 false) ∷ readsBy 2 none (async 0 false) ∷ readsBy 2 (some (record { signal = 1; active = High })) (async 1 false) ∷ []
+    ≡ replicate 5 (refusal 30 0) ++ (refusal 0 0 ∷ [])
+unfolding all base readsBy
+clock-read-by-register = refl
+
+-- a register on a clock of this number, which holds its bit
+unfoldable pub on : Name → ℕ → ℕ → Register
+on n output clock = record { name = n; output = output; «data» = output; clock = clock; edge = Rising; enable = none; reset = none }
+
+-- what read answers where the first register is clocked by node 1 and the second by node 0, and then this node
+unfoldable pub readsClocks : Node → Refusal
+readsClocks n = read (recordOf (design (Input e ∷ Input clk ∷ RegisterOutput ∷ RegisterOutput ∷ n ∷ []) (on p 2 1 ∷ on q 3 0 ∷ [])))
+
+-- the lowest clock that is read, whichever register it clocks and whatever reads it first
+lowest-clock : map readsClocks (And 1 0 ∷ Not 0 ∷ Not 1 ∷ Not 2 ∷ []) ≡ refusal 30 0 ∷ refusal 30 0 ∷ refusal 30 1 ∷ refusal 0 0 ∷ []
+unfolding all readsClocks on
+lowest-clock = refl
+
+-- an Input that clocks no register may be read, whatever its name; without registers every Input
+no-clock-read : read (recordOf (design (Input a ∷ Input clk ∷ RegisterOutput ∷ Output y 1 ∷ []) (on q 2 0 ∷ []))) ∷ read (recordOf (design (Input clk ∷ Output y 0 ∷ []) [])) ∷ [] ≡ replicate 2 (refusal 0 0)
+unfolding all on
+no-clock-read = refl
+
+-- 15 comes before 30, of a later register too
+clock-net-first : read (recordOf (design (Input clk ∷ Constant false ∷ RegisterOutput ∷ RegisterOutput ∷ Output y 0 ∷ []) (on p 2 0 ∷ on q 3 1 ∷ []))) ≡ refusal 15 1
+unfolding all on
+clock-net-first = refl

@@ -1,6 +1,6 @@
--- The checks of one design, refusals 7 to 15, in order. Definitions only.
+-- The checks of one design, refusals 7 to 15 and 30, in order. Definitions only.
 use Prim.Native.Nat.{ℕ, suc}
-use mathlib.Core.Bool.{Bool, true, false, not, cond, _&&_}
+use mathlib.Core.Bool.{Bool, true, false, not, cond, _&&_, _||_}
 use mathlib.Core.List.{List, [], _∷_, _++_}
 use mathlib.Core.Option.{Option, none, some}
 use lib.ListN.{length, getElem?}
@@ -161,7 +161,35 @@ clockFault nodes i (r ∷ rs) =
     let rest = clockFault nodes (suc i) rs in
     refuseIf 15 0 i (not (isInputAt (getElem? nodes (r .clock)))) otherwise rest
 
--- the first refusal of 7 to 15
+-- node k clocks one of the registers
+unfoldable pub clocks : ℕ → List Register → Bool
+clocks k [] = false
+clocks k (r ∷ rs) = let rest = clocks k rs in eqb (r .clock) k || rest
+
+-- one of the nodes reads node k
+unfoldable pub nodesRead : ℕ → List Node → Bool
+nodesRead k [] = false
+nodesRead k (n ∷ ns) = let rest = nodesRead k ns in member k (inputNumbers n) || rest
+
+-- the numbers that a register reads as data: data, enable, reset; its clock is none of them
+unfoldable pub dataNumbers : Register → List ℕ
+dataNumbers r = r .«data» ∷ (enableNumbers (r .enable) ++ resetNumbers (r .reset))
+
+-- the data, enable or reset of one of the registers reads node k
+unfoldable pub registersRead : ℕ → List Register → Bool
+registersRead k [] = false
+registersRead k (r ∷ rs) = let rest = registersRead k rs in member k (dataNumbers r) || rest
+
+-- node k clocks a register and is read
+unfoldable pub clockRead : Design → ℕ → Bool
+clockRead d k = clocks k (d .registers) && (nodesRead k (d .nodes) || registersRead k (d .registers))
+
+-- 30: the lowest node from number i on that clocks a register and is read; after 15 it is an Input
+unfoldable pub clockReadFault : Design → ℕ → List Node → Option Refusal
+clockReadFault d i [] = none
+clockReadFault d i (n ∷ ns) = let rest = clockReadFault d (suc i) ns in refuseIf 30 0 i (clockRead d i) otherwise rest
+
+-- the first refusal of 7 to 15 and 30
 unfoldable pub validate : Design → Option Refusal
 validate d =
     nodesFault 0 [] (d .nodes)
@@ -169,6 +197,7 @@ validate d =
     otherwise connectionFault (d .registers) 0 (d .nodes)
     otherwise resetFault (d .registers) 0 (d .nodes)
     otherwise clockFault (d .nodes) 0 (d .registers)
+    otherwise clockReadFault d 0 (d .nodes)
 
 -- a design, or the refusal of its checks
 unfoldable pub judged : Design → Option Refusal → Read
@@ -180,7 +209,7 @@ unfoldable pub validated : Read → Read
 validated (parsed d) = judged d (validate d)
 validated (refusedRecord r) = refusedRecord r
 
--- the design of a record that is accepted, or the first refusal of 1 to 15
+-- the design of a record that is accepted, or the first refusal of 1 to 15 and 30
 unfoldable pub readRecord : List ℕ → Read
 readRecord s = validated (parse s)
 
@@ -195,5 +224,5 @@ read s = answerOf (readRecord s)
 
 -- naming this opens them all
 unfoldable pub all : Unit {0}
-unfolding _otherwise_ refuseIf allBelow addName portName repeats nodeFault nodesFault isRegisterOutputAt isInput isInputAt enableNumbers resetNumbers registerNumbers registerFault registersFault driverFrom driver undriven connectionFault lateReset lateDriver resetFault clockFault validate judged validated readRecord answerOf read Names.all Netlist.all Record.all Answers.all
+unfolding _otherwise_ refuseIf allBelow addName portName repeats nodeFault nodesFault isRegisterOutputAt isInput isInputAt enableNumbers resetNumbers registerNumbers registerFault registersFault driverFrom driver undriven connectionFault lateReset lateDriver resetFault clockFault clocks nodesRead dataNumbers registersRead clockRead clockReadFault validate judged validated readRecord answerOf read Names.all Netlist.all Record.all Answers.all
 all = tt

@@ -16,8 +16,8 @@ use Rattle.struo_ir.specs.Decoded.{decodedRegister, decoded}
 use Rattle.struo_ir.specs.Designs.{Padded}
 use Rattle.struo_ir.specs.Nodes.{noNode}
 use Rattle.struo_ir.specs.Registers.{noRegister}
-use Rattle.netlist_checks.specs.FaultLaws.{refused-by, passed-by}
-use Rattle.netlist_checks.specs.KindLaws.{input-is}
+use Rattle.calls.specs.FaultLaws.{refused-by, passed-by}
+use Rattle.struo_ir.specs.KindLaws.{input-is}
 use Rattle.struo_ir.specs.WalkLaws.{no-registers, no-node, register-here, node-at}
 
 module _ (s : List ℕ) (netlist : Netlist) (pad : Padded netlist) (i : ℕ) (l : i < netlist .«register_count») where

@@ -19,8 +19,8 @@ use Rattle.struo_ir.specs.Decoded.{decodedNode, decoded}
 use Rattle.struo_ir.specs.Designs.{Padded}
 use Rattle.struo_ir.specs.Nodes.{noNode}
 use Rattle.drivers.specs.Drivers.{driverBy, Drivers}
-use Rattle.netlist_checks.specs.FaultLaws.{refused-by, passed-by}
-use Rattle.netlist_checks.specs.KindLaws.{register-output-is}
+use Rattle.calls.specs.FaultLaws.{refused-by, passed-by}
+use Rattle.struo_ir.specs.KindLaws.{register-output-is}
 use Rattle.struo_ir.specs.WalkLaws.{no-nodes, node-here}
 
 undriven-by : (s : List ℕ) (registers : List RegisterCell) (d : ℕ) → undriven (driverBy s registers d) ≡ eqb d 0

@@ -4,8 +4,6 @@ pub mod NodeChecks
 pub mod RegisterChecks
 pub mod ResetChecks
 pub mod SeenLaws
-pub mod KindLaws
-pub mod FaultLaws
 pub mod NodeCheckLaws
 pub mod RegisterCheckLaws
 pub mod ConnectionLaws

@@ -22,7 +22,7 @@ use Rattle.struo_ir.specs.Designs.{Padded}
 use Rattle.struo_ir.specs.Nodes.{noNode}
 use Rattle.netlist_checks.specs.Seen.{namesBefore}
 use Rattle.netlist_checks.specs.NodeChecks.{NodesChecked}
-use Rattle.netlist_checks.specs.KindLaws.{numbers-are, port-is}
+use Rattle.struo_ir.specs.KindLaws.{numbers-are, port-is}
 use Rattle.netlist_checks.specs.SeenLaws.{names-kept, names-more}
 use Rattle.struo_ir.specs.WalkLaws.{no-nodes, node-here}
 

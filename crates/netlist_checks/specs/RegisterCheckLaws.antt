@@ -24,7 +24,7 @@ use Rattle.struo_ir.specs.Nodes.{noNode}
 use Rattle.struo_ir.specs.Registers.{noRegister}
 use Rattle.netlist_checks.specs.Seen.{namesBefore, numbersBefore}
 use Rattle.netlist_checks.specs.RegisterChecks.{signalBelow, RegistersChecked}
-use Rattle.netlist_checks.specs.KindLaws.{register-output-is}
+use Rattle.struo_ir.specs.KindLaws.{register-output-is}
 use Rattle.netlist_checks.specs.SeenLaws.{names-more, numbers-more}
 use Rattle.struo_ir.specs.WalkLaws.{no-node, node-at, node-total, register-here, no-registers}
 

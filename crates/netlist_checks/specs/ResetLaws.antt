@@ -22,8 +22,8 @@ use Rattle.struo_ir.specs.Nodes.{noNode}
 use Rattle.struo_ir.specs.Registers.{noRegister}
 use Rattle.drivers.specs.Drivers.{driverBy, Drivers}
 use Rattle.netlist_checks.specs.ResetChecks.{lateCell}
-use Rattle.netlist_checks.specs.FaultLaws.{refused-by, passed-by}
-use Rattle.netlist_checks.specs.KindLaws.{register-output-is}
+use Rattle.calls.specs.FaultLaws.{refused-by, passed-by}
+use Rattle.struo_ir.specs.KindLaws.{register-output-is}
 use Rattle.struo_ir.specs.WalkLaws.{no-nodes, node-here}
 
 -- ---- a late reset by a register's fields

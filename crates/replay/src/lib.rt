@@ -1,5 +1,3 @@
-// The replay of a claimed trace on two decoded designs, and its refusals; the same by steps from a lent position.
-pub mod bits;
+// The replay of a claimed trace on two decoded designs, and its refusals.
 pub mod claim;
 pub mod replay;
-pub mod stepping;

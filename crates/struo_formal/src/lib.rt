@@ -14,7 +14,7 @@ ghost use Rattle.model.specs.Check as Check;
 ghost use Rattle.calls.specs.Answers.{refusalOf, replayOf, checkedOf};
 ghost use Rattle.calls.specs.Positions.{positionOf, begunOf, steppedOf};
 
-// Read a record of any content and length: accepted, or the first refusal of 1 to 15 with its place.
+// Read a record of any content and length: accepted, or the first refusal of 1 to 15 and 30 with its place.
 pub fn read(record: &[u8]) -> ReadAnswer
     ensures { λ r. ⌜ refusalOf r ≡ Validate.read (now («record» .entry)) ⌝ }
 {
@@ -42,7 +42,7 @@ pub extern "C" fn struo_read(record: &[u8]) -> ReadAnswer
     read(record)
 }
 
-// Replay a claimed trace of any content and length on two records of any content and length: a refusal of 1 to 15, 18 to 22 or 25, or
+// Replay a claimed trace of any content and length on two records of any content and length: a refusal of 1 to 15, 30, 18 to 22 or 25, or
 // yes exactly when the outputs agree in every cycle before the claimed one and in that cycle differ in exactly the marked ones, at least one.
 pub fn replay(gold: &[u8], gate: &[u8], cycle: u64, claim: &[u8]) -> ReplayAnswer
     ensures { λ r. ⌜ replayOf r ≡ Replay.replay (now (gold .entry)) (now (gate .entry)) cycle (now (claim .entry)) ⌝ }
@@ -58,13 +58,13 @@ pub extern "C" fn struo_replay(gold: &[u8], gate: &[u8], cycle: u64, claim: &[u8
     replay(gold, gate, cycle, claim)
 }
 
-// Begin a replay by steps on two records of any content and length: a refusal of 1 to 15, 18 to 22 or 24, which changes nothing lent, or the position
+// Begin a replay by steps on two records of any content and length: a refusal of 1 to 15, 30, 18 to 22 or 24, which changes nothing lent, or the position
 // before cycle 0, with gold's initial bits from byte 0 on and gate's from byte 128 on, by register number. Every other byte stays.
 pub fn begin(gold: &[u8], gate: &[u8], position: &mut ReplayPosition, bits: &mut [u8]) -> ReadAnswer
     ensures { λ r. ⌜ begunOf r (now (position .exit)) (now (bits .exit)) ≡ Stepping.begin (now (gold .entry)) (now (gate .entry)) (positionOf (now (position .entry))) (now (bits .entry)) ⌝ }
 {
     let before = *position;
-    let begun = replay::stepping::begin(gold, gate, before, bits);
+    let begun = stepping::stepping::begin(gold, gate, before, bits);
     *position = begun.position;
     begun.answer
 }
@@ -82,7 +82,7 @@ pub extern "C" fn struo_begin(
     begin(gold, gate, position, bits)
 }
 
-// Move a lent replay position on by one cycle of a claimed trace of any content and length: a refusal of 1 to 15, 18 to 22, 24 or 25, which changes
+// Move a lent replay position on by one cycle of a claimed trace of any content and length: a refusal of 1 to 15, 30, 18 to 22, 24 or 25, which changes
 // nothing lent, or yes or no. Past the claimed cycle nothing changes and the answer is no; before it the answer is no; at it yes exactly when the
 // position says that the outputs agreed so far and in this cycle they differ in exactly the marked ones, at least one.
 pub fn step(
@@ -96,7 +96,7 @@ pub fn step(
     ensures { λ r. ⌜ steppedOf r (now (position .exit)) (now (bits .exit)) ≡ Stepping.step (now (gold .entry)) (now (gate .entry)) cycle (now (claim .entry)) (positionOf (now (position .entry))) (now (bits .entry)) ⌝ }
 {
     let before = *position;
-    let moved = replay::stepping::step(gold, gate, cycle, claim, before, bits);
+    let moved = stepping::stepping::step(gold, gate, cycle, claim, before, bits);
     *position = moved.position;
     moved.answer
 }
@@ -117,7 +117,7 @@ pub extern "C" fn struo_step(
 }
 
 // Check two records of any content and length to a maximum depth, under a limit of learned literals in each query, with cycle 0 alone put first where
-// the earliest mismatch is asked for, in lent memory of any content and length: a refusal of 1 to 24 or 36, which leaves everything lent as it was, or a
+// the earliest mismatch is asked for, in lent memory of any content and length: a refusal of 1 to 24, 30 or 36, which leaves everything lent as it was, or a
 // verdict. The trace is written for NotEquivalent only; words and scores are all zero after an accepted check.
 pub fn check(
     gold: &[u8],

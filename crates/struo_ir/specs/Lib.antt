@@ -13,3 +13,4 @@ pub mod RegisterDecoding
 pub mod RegistersLaws
 pub mod StepLaws
 pub mod WalkLaws
+pub mod KindLaws

@@ -1,6 +1,5 @@
 -- The call read, and a pair of which one record is refused: read accepts exactly where a design is parsed and valid, and the pair's calls answer what read answers, with the side. Assumes nothing.
 use Prim.Native.Nat.{ℕ}
-use native.Mathlib.Omega.{arith}
 use mathlib.Core.Path.{_≡_, refl, sym, ap, _∙_}
 use mathlib.Core.Logic.{_≢_, _⊎_, inl, inr, _↔_}
 use mathlib.Core.List.{List}
@@ -14,7 +13,7 @@ use Rattle.model.specs.Replay.{refusedReplay, replayRead, replay}
 use Rattle.laws.specs.Terms.{OfRecord, RefusedWith}
 use Rattle.laws.specs.Record.Accepted.{accepted-parsed}
 use Rattle.laws.specs.Check.Call.{check-refused}
-use Rattle.laws.specs.Check.Refusals.{record-within}
+use Rattle.laws.specs.Check.Refusals.{record-within, own-not-zero}
 
 -- ---- one record
 
@@ -33,7 +32,7 @@ module _ (s : List ℕ) where
       go (parsed d) e = (d, e)
       go (refusedRecord r) e =
           let q : read s .number ≡ r .number = ap (λ x. x .number) (read-of (refusedRecord r) e) in
-          absurd (omega (arith, q, h, record-within s r e .low))
+          absurd (own-not-zero r (record-within s r e .own) (sym q ∙ h))
 
   -- where it is not, the record is refused with what read answers
   pub read-refused : read s .number ≢ 0 → readRecord s ≡ refusedRecord (read s)
@@ -52,7 +51,7 @@ module _ (s : List ℕ) where
     λ x. rw (x .1, x .2),
   )
 
-  -- it answers the three zeros, or a refusal from 1 to 15 on side 0
+  -- it answers the three zeros, or a refusal from 1 to 15, or 30, on side 0
   pub read-answers : (read s ≡ accepted) ⊎ OfRecord (read s)
   unfolding answerOf
   read-answers = go (readRecord s) refl

@@ -1,4 +1,4 @@
--- The numbers of the refusals: of a record 1 to 15, of a check 1 to 24 and 36, of a replay 1 to 15, 18 to 22 and 25, of a begin 1 to 15, 18 to 22 and 24, of a step those of a replay and 24. Assumes nothing.
+-- The numbers of the refusals: of a record 1 to 15 and 30; with these of a check 16 to 24 and 36, of a replay 18 to 22 and 25, of a begin 18 to 22 and 24, of a step those of a replay and 24. Assumes nothing.
 use Prim.Native.Nat.{ℕ, zero, suc, _+_, _≤_}
 use native.Mathlib.Omega.{arith}
 use mathlib.Core.Path.{_≡_, refl, ap, subst}
@@ -13,25 +13,31 @@ use Rattle.model.specs.Options.{Options}
 use Rattle.model.specs.Names.{Name, Place}
 use Rattle.model.specs.Netlist.{Node, Register, Design}
 use Rattle.model.specs.Record.{Step, got, refused, Reader, refuse, pure, goOn, _>>=_, tested, guard, bytes, byte, number, code, codeBelow, nameBytes, name, nameIf, valueIf, numbers, node, nodesFrom, nodes, enableFor, resetFor, register, registersFrom, registers, end, version1, versionOf, Read, parsed, refusedRecord, lengthFits, finished, parseFields, parseSized, parse}
-use Rattle.model.specs.Validate.{_otherwise_, refuseIf, nodeFault, nodesFault, registerFault, registersFault, connectionFault, resetFault, clockFault, validate, judged, validated, readRecord}
+use Rattle.model.specs.Validate.{_otherwise_, refuseIf, nodeFault, nodesFault, registerFault, registersFault, connectionFault, resetFault, clockFault, clockReadFault, validate, judged, validated, readRecord}
 use Rattle.model.specs.Pair.{Lent, interfaceFault, resetsFault, initialFault, checkFault, replayFault, ReadPair, both, refusedPair, onGate, withGate, withGold, readPair, checkRefusalOf, checkRefusal}
 use Rattle.model.specs.Stepping.{bitsFault, beginFault, stepFault}
-use Rattle.laws.specs.Terms.{Within, OfRecord, OfCheck, of-list, of-limit, OfReplay, of-record, of-pair, of-claim, replayRefusalOf, replayRefusal}
+use Rattle.laws.specs.Terms.{Within, faultTo15, OfOne, of-fields, of-clock, OfRecord, OfCheck, of-either, of-list, of-limit, OfReplay, of-record, of-pair, of-claim, replayRefusalOf, replayRefusal}
 use Rattle.laws.specs.StepTerms.{beginRefusalOf, beginRefusal, stepRefusalOf, stepRefusal, OfBegin, of-reading, of-comparing, of-length, OfStep, as-replay, of-bits}
+
+-- 1 to 15, on side 0
+pub record To15 (r : Refusal) : Type 0 where
+  pub low : 1 ≤ r .number
+  pub high : r .number ≤ 15
+  pub side : r .side ≡ 0
 
 -- a step of a reader that refuses with 1 to 15, if it refuses
 abbrev RealStep : {A : Type 0} → Step A → Type 0
 RealStep (got a i) = Unit {0}
-RealStep (refused r) = OfRecord r
+RealStep (refused r) = To15 r
 
 -- the same of a reader, wherever it begins
-abbrev RealReader : {A : Type 0} → Reader A → Type 0
+abbrev pub RealReader : {A : Type 0} → Reader A → Type 0
 RealReader p = (s : List ℕ) (i : ℕ) → RealStep (p s i)
 
 -- the same of a record that is read
-abbrev RealRead : Read → Type 0
+abbrev pub RealRead : Read → Type 0
 RealRead (parsed d) = Unit {0}
-RealRead (refusedRecord r) = OfRecord r
+RealRead (refusedRecord r) = To15 r
 
 -- ---- readers
 
@@ -169,14 +175,15 @@ unfolding parseSized versionOf
 sized-real s false = finished-real (refuse 1 0) (refuse-real Design 1 0 (omega arith) (omega arith))
 sized-real s true = fields-real s (getD s 0 0) (eqb (getD s 0 0) 1)
 
-parse-real : (s : List ℕ) → RealRead (parse s)
+-- a record that is not parsed is refused with 1 to 15
+pub parse-real : (s : List ℕ) → RealRead (parse s)
 unfolding parse
 parse-real s = sized-real s (lengthFits s)
 
 -- ---- the checks of a design
 
 -- a refusal, where there is one, has this property
-abbrev Every : (Refusal → Type 0) → Option Refusal → Type 0
+abbrev pub Every : (Refusal → Type 0) → Option Refusal → Type 0
 Every P none = Unit {0}
 Every P (some r) = P r
 
@@ -195,11 +202,11 @@ every-so P Q f none h = tt
 every-so P Q f (some r) h = f r h
 
 -- one test, of a number in a range
-if-real : (n place : ℕ) (b : Bool) → 1 ≤ n → n ≤ 15 → Every OfRecord (refuseIf n 0 place b)
-if-real n place b l h = if-every OfRecord n 0 place b (record { low = l; high = h; side = refl })
+if-real : (n place : ℕ) (b : Bool) → 1 ≤ n → n ≤ 15 → Every To15 (refuseIf n 0 place b)
+if-real n place b l h = if-every To15 n 0 place b (record { low = l; high = h; side = refl })
 
-or-real : (x y : Option Refusal) → Every OfRecord x → Every OfRecord y → Every OfRecord (x otherwise y)
-or-real x y h k = or-every OfRecord x y h k
+or-real : (x y : Option Refusal) → Every To15 x → Every To15 y → Every To15 (x otherwise y)
+or-real x y h k = or-every To15 x y h k
 
 if-within : (first last n side place : ℕ) (b : Bool) → first ≤ n → n ≤ last → Every (Within first last) (refuseIf n side place b)
 if-within first last n side place b l h = if-every (Within first last) n side place b (record { low = l; high = h })
@@ -207,12 +214,12 @@ if-within first last n side place b l h = if-every (Within first last) n side pl
 or-within : (first last : ℕ) (x y : Option Refusal) → Every (Within first last) x → Every (Within first last) y → Every (Within first last) (x otherwise y)
 or-within first last x y h k = or-every (Within first last) x y h k
 
-real-nodes : (i : ℕ) (names : List Name) (ns : List Node) → Every OfRecord (nodesFault i names ns)
+real-nodes : (i : ℕ) (names : List Name) (ns : List Node) → Every To15 (nodesFault i names ns)
 unfolding nodesFault nodeFault
 real-nodes i names [] = tt
 real-nodes i names (n ∷ ns) = or-real _ _ (or-real _ _ (if-real 7 i _ (omega arith) (omega arith)) (if-real 8 i _ (omega arith) (omega arith))) (real-nodes _ _ ns)
 
-real-registers : (nodes : List Node) (i : ℕ) (names : List Name) (taken : List ℕ) (rs : List Register) → Every OfRecord (registersFault nodes i names taken rs)
+real-registers : (nodes : List Node) (i : ℕ) (names : List Name) (taken : List ℕ) (rs : List Register) → Every To15 (registersFault nodes i names taken rs)
 unfolding registersFault registerFault
 real-registers nodes i names taken [] = tt
 real-registers nodes i names taken (r ∷ rs) =
@@ -221,42 +228,71 @@ real-registers nodes i names taken (r ∷ rs) =
     (or-real _ _ (if-real 11 i _ (omega arith) (omega arith)) (if-real 12 i _ (omega arith) (omega arith)))))
     (real-registers nodes _ _ _ rs)
 
-real-connection : (rs : List Register) (i : ℕ) (ns : List Node) → Every OfRecord (connectionFault rs i ns)
+real-connection : (rs : List Register) (i : ℕ) (ns : List Node) → Every To15 (connectionFault rs i ns)
 unfolding connectionFault
 real-connection rs i [] = tt
 real-connection rs i (n ∷ ns) = or-real _ _ (if-real 13 i _ (omega arith) (omega arith)) (real-connection rs (suc i) ns)
 
-real-reset : (rs : List Register) (i : ℕ) (ns : List Node) → Every OfRecord (resetFault rs i ns)
+real-reset : (rs : List Register) (i : ℕ) (ns : List Node) → Every To15 (resetFault rs i ns)
 unfolding resetFault
 real-reset rs i [] = tt
 real-reset rs i (n ∷ ns) = or-real _ _ (if-real 14 i _ (omega arith) (omega arith)) (real-reset rs (suc i) ns)
 
-real-clock : (nodes : List Node) (i : ℕ) (rs : List Register) → Every OfRecord (clockFault nodes i rs)
+real-clock : (nodes : List Node) (i : ℕ) (rs : List Register) → Every To15 (clockFault nodes i rs)
 unfolding clockFault
 real-clock nodes i [] = tt
 real-clock nodes i (r ∷ rs) = or-real _ _ (if-real 15 i _ (omega arith) (omega arith)) (real-clock nodes (suc i) rs)
 
-real-validate : (d : Design) → Every OfRecord (validate d)
-unfolding validate
-real-validate d = or-real _ _ (real-nodes 0 [] _) (or-real _ _ (real-registers _ 0 [] [] _) (or-real _ _ (real-connection _ 0 _) (or-real _ _ (real-reset _ 0 _) (real-clock _ 0 _))))
+-- the checks before 30 refuse with 7 to 15
+pub early-real : (d : Design) → Every To15 (faultTo15 d)
+unfolding faultTo15
+early-real d = or-real _ _ (real-nodes 0 [] _) (or-real _ _ (real-registers _ 0 [] [] _) (or-real _ _ (real-connection _ 0 _) (or-real _ _ (real-reset _ 0 _) (real-clock _ 0 _))))
 
-judged-real : (d : Design) (o : Option Refusal) → Every OfRecord o → RealRead (judged d o)
+of-early : (r : Refusal) → To15 r → OfRecord r
+of-early r h = record { own = of-fields (record { low = h .low; high = h .high }); side = h .side }
+
+real-clock-read : (d : Design) (i : ℕ) (ns : List Node) → Every OfRecord (clockReadFault d i ns)
+unfolding clockReadFault
+real-clock-read d i [] = tt
+real-clock-read d i (n ∷ ns) = or-every OfRecord _ _ (if-every OfRecord 30 0 _ _ (record { own = of-clock refl; side = refl })) (real-clock-read d (suc i) ns)
+
+-- the checks of a design are those before 30, and then 30
+pub validate-splits : (d : Design) → validate d ≡ faultTo15 d otherwise clockReadFault d 0 (d .nodes)
+unfolding validate faultTo15 _otherwise_
+validate-splits d = go (nodesFault 0 [] (d .nodes)) (registersFault (d .nodes) 0 [] [] (d .registers)) (connectionFault (d .registers) 0 (d .nodes)) (resetFault (d .registers) 0 (d .nodes)) (clockFault (d .nodes) 0 (d .registers))
+  where
+    go : (a b c e f : Option Refusal) → a otherwise b otherwise c otherwise e otherwise f otherwise clockReadFault d 0 (d .nodes) ≡ (a otherwise b otherwise c otherwise e otherwise f) otherwise clockReadFault d 0 (d .nodes)
+    go (some r) b c e f = refl
+    go none (some r) c e f = refl
+    go none none (some r) e f = refl
+    go none none none (some r) f = refl
+    go none none none none f = refl
+
+real-validate : (d : Design) → Every OfRecord (validate d)
+real-validate d = rw (validate-splits d) (or-every OfRecord _ _ (every-so To15 OfRecord of-early (faultTo15 d) (early-real d)) (real-clock-read d 0 (d .nodes)))
+
+-- a record that is read and checked, refused with a number of a record, if it is
+abbrev RealChecked : Read → Type 0
+RealChecked (parsed d) = Unit {0}
+RealChecked (refusedRecord r) = OfRecord r
+
+judged-real : (d : Design) (o : Option Refusal) → Every OfRecord o → RealChecked (judged d o)
 unfolding judged
 judged-real d none h = tt
 judged-real d (some r) h = h
 
-validated-real : (r : Read) → RealRead r → RealRead (validated r)
+validated-real : (r : Read) → RealRead r → RealChecked (validated r)
 unfolding validated
 validated-real (parsed d) h = judged-real d (validate d) (real-validate d)
-validated-real (refusedRecord r) h = h
+validated-real (refusedRecord r) h = of-early r h
 
-read-real : (s : List ℕ) → RealRead (readRecord s)
+read-real : (s : List ℕ) → RealChecked (readRecord s)
 unfolding readRecord
 read-real s = validated-real (parse s) (parse-real s)
 
--- every refusal of a record has a number from 1 to 15, on side 0
+-- every refusal of a record has a number from 1 to 15, or 30, on side 0
 pub record-within : (s : List ℕ) (r : Refusal) → readRecord s ≡ refusedRecord r → OfRecord r
-record-within s r e = subst RealRead e (read-real s)
+record-within s r e = subst RealChecked e (read-real s)
 
 -- ---- the checks of a pair
 
@@ -276,10 +312,10 @@ real-interface gold gate =
     (or-within 18 22 _ _ (if-within 18 22 20 0 0 _ (omega arith) (omega arith)) (or-within 18 22 _ _ (if-within 18 22 20 1 0 _ (omega arith) (omega arith))
     (if-within 18 22 21 0 0 _ (omega arith) (omega arith)))))
 
-wider : (r : Refusal) → Within 18 22 r → Within 1 24 r
+wider : (r : Refusal) → Within 18 22 r → Within 16 24 r
 wider r h = record { low = omega (arith, h .low); high = omega (arith, h .high) }
 
-if-listed : (n : ℕ) (b : Bool) → 1 ≤ n → n ≤ 24 → Every OfCheck (refuseIf n 0 0 b)
+if-listed : (n : ℕ) (b : Bool) → 16 ≤ n → n ≤ 24 → Every OfCheck (refuseIf n 0 0 b)
 if-listed n b low high = if-every OfCheck n 0 0 b (of-list (record { low = low; high = high }))
 
 real-fault : (gold gate : Design) (o : Options) (lent : Lent) → Every OfCheck (checkFault gold gate o lent)
@@ -297,20 +333,24 @@ real-replay gold gate cycle claim =
     or-every OfReplay _ _ (every-so (Within 18 22) OfReplay (λ r h. of-pair h) (interfaceFault gold gate) (real-interface gold gate))
     (or-every OfReplay _ _ (every-so (Within 18 22) OfReplay (λ r h. of-pair h) (initialFault gold gate) (real-initial gold gate)) (if-every OfReplay 25 0 0 _ (of-claim refl)))
 
--- two records that are refused with 1 to 15, if they are
+-- two records that are refused with a number of a record, if they are
 abbrev RealPair : ReadPair → Type 0
 RealPair (both gold gate) = Unit {0}
-RealPair (refusedPair r) = Within 1 15 r
+RealPair (refusedPair r) = OfOne r
 
-gate-real : (gold : Design) (r : Read) → RealRead r → RealPair (withGate gold r)
+gate-real : (gold : Design) (r : Read) → RealChecked r → RealPair (withGate gold r)
 unfolding withGate onGate
 gate-real gold (parsed gate) h = tt
-gate-real gold (refusedRecord r) h = record { low = h .low; high = h .high }
+gate-real gold (refusedRecord r) h = on-gate r (h .own)
+  where
+    on-gate : (r : Refusal) → OfOne r → OfOne (onGate r)
+    on-gate r (of-fields w) = of-fields (record { low = w .low; high = w .high })
+    on-gate r (of-clock e) = of-clock e
 
-gold-real : (r : Read) (b : List ℕ) → RealRead r → RealPair (withGold r b)
+gold-real : (r : Read) (b : List ℕ) → RealChecked r → RealPair (withGold r b)
 unfolding withGold
 gold-real (parsed gold) b h = gate-real gold (readRecord b) (read-real b)
-gold-real (refusedRecord r) b h = record { low = h .low; high = h .high }
+gold-real (refusedRecord r) b h = h .own
 
 pair-real : (a b : List ℕ) → RealPair (readPair a b)
 unfolding readPair
@@ -318,10 +358,10 @@ pair-real a b = gold-real (readRecord a) b (read-real a)
 
 of-real : (p : ReadPair) (o : Options) (lent : Lent) → RealPair p → Every OfCheck (checkRefusalOf p o lent)
 unfolding checkRefusalOf
-of-real (refusedPair r) o lent h = of-list (record { low = h .low; high = omega (arith, h .high) })
+of-real (refusedPair r) o lent h = of-either h
 of-real (both gold gate) o lent h = real-fault gold gate o lent
 
--- every refusal of a check has a number from 1 to 24, or is 36 with side and place 0
+-- every refusal of a check has a number from 1 to 24, or 30, or is 36 with side and place 0
 pub check-within : (a b : List ℕ) (o : Options) (lent : Lent) (r : Refusal) → checkRefusal a b o lent ≡ some r → OfCheck r
 unfolding checkRefusal
 check-within a b o lent r e = subst (Every OfCheck) e (of-real (readPair a b) o lent (pair-real a b))
@@ -372,20 +412,26 @@ step-within a b cycle claim bits r e = subst (Every OfStep) e (of-step (readPair
 
 -- ---- no refusal has number 0
 
+-- of a record
+pub own-not-zero : (r : Refusal) → OfOne r → r .number ≢ 0
+own-not-zero r (of-fields h) e = omega (arith, h .low, e)
+own-not-zero r (of-clock h) e = omega (arith, h, e)
+
 -- of a check
 pub check-not-zero : (r : Refusal) → OfCheck r → r .number ≢ 0
+check-not-zero r (of-either h) e = own-not-zero r h e
 check-not-zero r (of-list h) e = omega (arith, h .low, e)
 check-not-zero r (of-limit h) e = omega (arith, ap (λ (x : Refusal). x .number) h, e)
 
 -- of a replay
 pub replay-not-zero : (r : Refusal) → OfReplay r → r .number ≢ 0
-replay-not-zero r (of-record h) e = omega (arith, h .low, e)
+replay-not-zero r (of-record h) e = own-not-zero r h e
 replay-not-zero r (of-pair h) e = omega (arith, h .low, e)
 replay-not-zero r (of-claim h) e = omega (arith, h, e)
 
 -- of a begin
 pub begin-not-zero : (r : Refusal) → OfBegin r → r .number ≢ 0
-begin-not-zero r (of-reading h) e = omega (arith, h .low, e)
+begin-not-zero r (of-reading h) e = own-not-zero r h e
 begin-not-zero r (of-comparing h) e = omega (arith, h .low, e)
 begin-not-zero r (of-length h) e = omega (arith, h, e)
 

@@ -109,7 +109,8 @@ module _ (P : Place → Type 0) where
       place true k = (h .0, k)
       place false k = (p, h)
 
-  all-sorted : (xs : List Place) → All P xs → All P (sort xs)
+  -- what holds of every place holds of the places in order
+  pub all-sorted : (xs : List Place) → All P xs → All P (sort xs)
   unfolding sortByName
   all-sorted [] h = tt
   all-sorted (x ∷ xs) h = all-insert x (sort xs) (h .0) (all-sorted xs (h .1))

@@ -37,7 +37,8 @@ registers-connected nodes i names taken (q ∷ rs) h r m =
     go c f (inl e) = subst (Connected nodes) (sym e) c
     go c f (inr e) = f e
 
-clocks-inputs : (nodes : List Node) (i : ℕ) (rs : List Register) → clockFault nodes i rs ≡ none → (r : Register) → List·Memᴰ r rs → isInputAt (getElem? nodes (r .clock)) ≡ true
+-- every register's clock is an Input
+pub clocks-inputs : (nodes : List Node) (i : ℕ) (rs : List Register) → clockFault nodes i rs ≡ none → (r : Register) → List·Memᴰ r rs → isInputAt (getElem? nodes (r .clock)) ≡ true
 unfolding clockFault
 clocks-inputs nodes i [] h r m = absurd (List·Memᴰ·not-nil m)
 clocks-inputs nodes i (q ∷ rs) h r m =
@@ -76,10 +77,11 @@ valid-of d h =
     let b = otherwise-none (registersFault (d .nodes) 0 [] [] (d .registers)) _ (a .1) in
     let c = otherwise-none (connectionFault (d .registers) 0 (d .nodes)) _ (b .1) in
     let e = otherwise-none (resetFault (d .registers) 0 (d .nodes)) _ (c .1) in
+    let f = otherwise-none (clockFault (d .nodes) 0 (d .registers)) _ (e .1) in
     record {
       below = λ k l. rw (zero-add k) at (nodesFault-below 0 [] (d .nodes) (a .0) k l);
       connected = registers-connected (d .nodes) 0 [] [] (d .registers) (b .0);
       driven = λ k l. rw (zero-add k) at (connected-nodes (d .registers) 0 (d .nodes) (c .0) k l);
       early = λ k l. rw (zero-add k) at (early-resets (d .registers) 0 (d .nodes) (e .0) k l);
-      clocks = clocks-inputs (d .nodes) 0 (d .registers) (e .1);
+      clocks = clocks-inputs (d .nodes) 0 (d .registers) (f .0);
     }

@@ -1,4 +1,4 @@
--- `begin` meets its contract: a walk of its code by hand, since the position is lent. The position's borrow is opened, its value is read and passed by value to `replay::stepping::begin`
+-- `begin` meets its contract: a walk of its code by hand, since the position is lent. The position's borrow is opened, its value is read and passed by value to `stepping::stepping::begin`
 -- with the slices, and the borrow is closed at the position that the call gives; of that call only its contract is known. The bits' borrow is given to the call for good. Assumes nothing.
 use mathlib.Core.Path.{_≡_, refl, ap}
 use Prim.Native.Nat.{ℕ}
@@ -42,17 +42,17 @@ use denote.Exit.{yes}
 use Rattle.model.specs.Stepping as Stepping
 use Rattle.calls.specs.Positions.{positionOf, begunOf}
 use Rattle.calls.specs.declared.position.ReplayPosition.{ReplayPosition}
-use Rattle.replay.specs.declared.stepping.Begun.{Begun}
+use Rattle.stepping.specs.declared.stepping.Begun.{Begun}
 use Rattle.calls.proofs.position.ReplayPosition as T
 use Rattle.calls.proofs.position.ReplayPosition.Laws as T′
 use Rattle.calls.proofs.answers.ReadAnswer as N
 use Rattle.calls.proofs.answers.ReadAnswer.Laws as N′
-use Rattle.replay.proofs.stepping.Begun as O
-use Rattle.replay.proofs.stepping.Begun.Laws as O′
-use Rattle.replay.proofs.stepping.begin as callee
-use Rattle.replay.proofs.stepping.begin.Symbol as callee-def
-use Rattle.replay.proofs.stepping.begin.Symbol.{name as #callee}
-use Rattle.replay.proofs.stepping.begin.Met as callee-thm
+use Rattle.stepping.proofs.stepping.Begun as O
+use Rattle.stepping.proofs.stepping.Begun.Laws as O′
+use Rattle.stepping.proofs.stepping.begin as callee
+use Rattle.stepping.proofs.stepping.begin.Symbol as callee-def
+use Rattle.stepping.proofs.stepping.begin.Symbol.{name as #callee}
+use Rattle.stepping.proofs.stepping.begin.Met as callee-thm
 use Rattle.struo_formal.proofs.begin.Key.{name as #begin}
 use Rattle.struo_formal.proofs.begin as f
 use Rattle.struo_formal.proofs.begin.Statement as stated
@@ -224,4 +224,4 @@ begin-spec 𝓤 H 𝓜 𝓖 𝓡 =
     entered 𝓤 H (tripleOf 𝓤 H (𝓖 .A) f.signature (f.spec 𝓤 H (𝓖 .A) (𝓜 .mem) (𝓡 .run)))
     (tables 𝓤 H 𝓜 𝓡 code.env .C) (tables 𝓤 H 𝓜 𝓡 code.env .Λ) #begin code.function (code.unfolded 𝓤 H 𝓜 𝓡)
     (begin-meets 𝓤 H (𝓖 .A) (givenOf 𝓤 H 𝓜 𝓖) (𝓜 .mem) (𝓡 .run) (tablesOf 𝓤 H 𝓜 (tables 𝓤 H 𝓜 𝓡 code.env))
-    (cited 𝓤 H (Begin 𝓤 H (𝓖 .A) (𝓜 .mem) (𝓡 .run)) 𝓜 𝓡 code.env #callee callee-def.routine code.calls-replay·stepping·begin (callee-thm.met 𝓤 H 𝓜 𝓖 𝓡)))
+    (cited 𝓤 H (Begin 𝓤 H (𝓖 .A) (𝓜 .mem) (𝓡 .run)) 𝓜 𝓡 code.env #callee callee-def.routine code.calls-stepping·stepping·begin (callee-thm.met 𝓤 H 𝓜 𝓖 𝓡)))

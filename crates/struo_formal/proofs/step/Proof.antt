@@ -1,4 +1,4 @@
--- `step` meets its contract: a walk of its code by hand, since the position is lent. The position's borrow is opened, its value is read and passed by value to `replay::stepping::step`
+-- `step` meets its contract: a walk of its code by hand, since the position is lent. The position's borrow is opened, its value is read and passed by value to `stepping::stepping::step`
 -- with the slices, and the borrow is closed at the position that the call gives; of that call only its contract is known. The bits' borrow is given to the call for good. Assumes nothing.
 use mathlib.Core.Path.{_≡_, refl, ap}
 use Prim.Native.Nat.{ℕ, _<_, _^_}
@@ -43,17 +43,17 @@ use denote.Exit.{yes}
 use Rattle.model.specs.Stepping as Stepping
 use Rattle.calls.specs.Positions.{positionOf, steppedOf}
 use Rattle.calls.specs.declared.position.ReplayPosition.{ReplayPosition}
-use Rattle.replay.specs.declared.stepping.Moved.{Moved}
+use Rattle.stepping.specs.declared.stepping.Moved.{Moved}
 use Rattle.calls.proofs.position.ReplayPosition as T
 use Rattle.calls.proofs.position.ReplayPosition.Laws as T′
 use Rattle.calls.proofs.answers.ReplayAnswer as N
 use Rattle.calls.proofs.answers.ReplayAnswer.Laws as N′
-use Rattle.replay.proofs.stepping.Moved as O
-use Rattle.replay.proofs.stepping.Moved.Laws as O′
-use Rattle.replay.proofs.stepping.step as callee
-use Rattle.replay.proofs.stepping.step.Symbol as callee-def
-use Rattle.replay.proofs.stepping.step.Symbol.{name as #callee}
-use Rattle.replay.proofs.stepping.step.Met as callee-thm
+use Rattle.stepping.proofs.stepping.Moved as O
+use Rattle.stepping.proofs.stepping.Moved.Laws as O′
+use Rattle.stepping.proofs.stepping.step as callee
+use Rattle.stepping.proofs.stepping.step.Symbol as callee-def
+use Rattle.stepping.proofs.stepping.step.Symbol.{name as #callee}
+use Rattle.stepping.proofs.stepping.step.Met as callee-thm
 use Rattle.struo_formal.proofs.step.Key.{name as #step}
 use Rattle.struo_formal.proofs.step as f
 use Rattle.struo_formal.proofs.step.Statement as stated
@@ -228,4 +228,4 @@ step-spec 𝓤 H 𝓜 𝓖 𝓡 =
     entered 𝓤 H (tripleOf 𝓤 H (𝓖 .A) f.signature (f.spec 𝓤 H (𝓖 .A) (𝓜 .mem) (𝓡 .run)))
     (tables 𝓤 H 𝓜 𝓡 code.env .C) (tables 𝓤 H 𝓜 𝓡 code.env .Λ) #step code.function (code.unfolded 𝓤 H 𝓜 𝓡)
     (step-meets 𝓤 H (𝓖 .A) (givenOf 𝓤 H 𝓜 𝓖) (𝓜 .mem) (𝓡 .run) (tablesOf 𝓤 H 𝓜 (tables 𝓤 H 𝓜 𝓡 code.env))
-    (cited 𝓤 H (Step 𝓤 H (𝓖 .A) (𝓜 .mem) (𝓡 .run)) 𝓜 𝓡 code.env #callee callee-def.routine code.calls-replay·stepping·step (callee-thm.met 𝓤 H 𝓜 𝓖 𝓡)))
+    (cited 𝓤 H (Step 𝓤 H (𝓖 .A) (𝓜 .mem) (𝓡 .run)) 𝓜 𝓡 code.env #callee callee-def.routine code.calls-stepping·stepping·step (callee-thm.met 𝓤 H 𝓜 𝓖 𝓡)))

@@ -1,5 +1,5 @@
 -- `netlist_checks::nodes::is_port` meets its contract. Assumes nothing.
-use Rattle.netlist_checks.specs.KindLaws.{port-input, port-output}
+use Rattle.struo_ir.specs.KindLaws.{port-input, port-output}
 use Rattle.netlist_checks.proofs.nodes.is_port.Statement.{statement}
 use Rattle.netlist_checks.proofs.nodes.is_port.Tie as tie
 

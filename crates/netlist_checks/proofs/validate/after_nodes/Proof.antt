@@ -1,6 +1,6 @@
 -- `netlist_checks::validate::after_nodes` meets its contract: the first check that refuses decides. Assumes nothing.
 use Rattle.netlist_checks.specs.Chain.{afterNodes}
-use Rattle.netlist_checks.specs.FaultLaws.{stops, goes-on}
+use Rattle.calls.specs.FaultLaws.{stops, goes-on}
 use borrow.Author.Needs.{needs}
 use Rattle.netlist_checks.proofs.validate.after_nodes.Statement.{statement}
 use Rattle.netlist_checks.proofs.validate.after_nodes.Tie as tie

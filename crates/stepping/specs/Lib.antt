@@ -1,0 +1,3 @@
+pub mod LentBits
+pub mod LentBitsLaws
+pub mod SteppingRight
