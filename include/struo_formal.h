@@ -48,9 +48,6 @@ enum struo_refusal {
     STRUO_REFUSAL_TOO_LARGE = 23,
     STRUO_REFUSAL_MEMORY = 24,
     STRUO_REFUSAL_CLAIM = 25,
-    STRUO_REFUSAL_DUPLICATE_CELL_NAME = 26,
-    STRUO_REFUSAL_CELL_OUTPUT = 27,
-    STRUO_REFUSAL_CELL_OPERAND = 28,
     STRUO_REFUSAL_CLOCK_READ = 30,
     STRUO_REFUSAL_LEARNED_LIMIT = 36
 };
@@ -80,30 +77,27 @@ enum struo_refusal {
 #define STRUO_TRACE_LENGTH_MAX 4224
 
 /* How much of the stack each call takes at most, in bytes. No memory is allocated. */
-#define STRUO_READ_STACK 182000
-#define STRUO_CHECK_STACK 266000
-#define STRUO_REPLAY_STACK 259000
-#define STRUO_BEGIN_STACK 285000
-#define STRUO_STEP_STACK 300000
+#define STRUO_READ_STACK 70000
+#define STRUO_CHECK_STACK 145000
+#define STRUO_REPLAY_STACK 170000
+#define STRUO_BEGIN_STACK 145000
+#define STRUO_STEP_STACK 198000
 
-/* number: STRUO_ACCEPTED for an accepted record, else the refusal's number, 1 to 15, 26 to 28 or 30 (of a begin also 18 to 22 and 24).
+/* number: STRUO_ACCEPTED for an accepted record, else the refusal's number, 1 to 15 or 30 (of a begin also 18 to 22 and 24).
    side: 0 (of a begin as for a replay). place: a byte offset for 3 to 6, a node number for 7, 8, 13, 14 and 30, a register number for 9 to 12 and 15
-   (of a begin also for 22), a cell number for 26 and 28; for 27 a cell number where one of the cells is at fault, else the number of a node without a cell;
-   else 0. */
+   (of a begin also for 22), else 0. */
 struct struo_read_answer {
     uint32_t number;
     uint32_t side;
     uint32_t place;
 };
 
-/* Reads one design record, of version 1 or of version 2, which has arithmetic cells: accepted, or the first refusal in checking order. That is 1 to 13; then,
-   in one walk by cell, 26 the cell has an earlier cell's name, 27 one of its outputs is no ArithmeticOutput node or was listed before, 28 one of its left, right
-   or carry numbers is not below the lowest of its outputs; then 27 for the lowest ArithmeticOutput node that no cell lists (place: that node); then 14, 15 and
-   30: an Input that is the clock of one of the design's registers is read by a node, an Output too, by a cell, or by a register's data, enable or reset (place:
-   the lowest such Input). So no verdict and no replay depends on the clock's bits. Nothing is written. */
+/* Reads one design record: accepted, or the first refusal in checking order, 1 to 15 and then 30: an Input that is the clock of one of the design's registers
+   is read by a node, an Output too, or by a register's data, enable or reset (place: the lowest such Input). So no verdict and no replay depends on the
+   clock's bits. Nothing is written. */
 struct struo_read_answer struo_read(const uint8_t *record, size_t record_length);
 
-/* number, side and place: 0, or a refusal of 1 to 15, 18 to 22, 25 to 28 or 30 (of a step also 24); side: 0 gold, 1 gate, and 0 where neither record alone is at
+/* number, side and place: 0, or a refusal of 1 to 15, 18 to 22, 25 or 30 (of a step also 24); side: 0 gold, 1 gate, and 0 where neither record alone is at
    fault; place as above, and for 22 a register number. yes: false where the replay is refused. */
 struct struo_replay_answer {
     uint32_t number;
@@ -143,7 +137,7 @@ struct struo_replay_answer struo_step(const uint8_t *gold, size_t gold_length, c
                                       uint64_t cycle, const uint8_t *claim, size_t claim_length,
                                       struct struo_position *position, uint8_t *bits, size_t bits_length);
 
-/* What a check answers. number, side and place: 0, or a refusal of 1 to 24, 26 to 28, 30 or 36; side: 0 gold, 1 gate, and 0 where neither record alone is at
+/* What a check answers. number, side and place: 0, or a refusal of 1 to 24, 30 or 36; side: 0 gold, 1 gate, and 0 where neither record alone is at
    fault; place as above. The other numbers are 0 where the check is refused.
    status: an enum struo_status. depth: the depth at which the verdict fell; for STRUO_INCONCLUSIVE the depth asked for; for STRUO_GAVE_UP the depth of the
    query that gave up. mismatch: for STRUO_NOT_EQUIVALENT the first cycle in which outputs differ, else 0. query: for STRUO_GAVE_UP the number of the query
@@ -185,13 +179,13 @@ struct struo_check_answer {
    without the mode; and where query 0 gives up, the check does, with depth 1 and query 0. Where the check gives up neither in the mode nor without it, status
    and depth are the same in both, and mismatch and trace too unless outputs can differ in cycle 0. The mode changes no refusal.
 
-   Refusals in checking order. Gold's record is read wholly (1 to 15, 26 to 28 and 30, as struo_read), then gate's, with side 1; then:
+   Refusals in checking order. Gold's record is read wholly (1 to 15, then 30, as struo_read), then gate's, with side 1; then:
      16 depth is 0; 17 depth is over 64; 36 limit is over STRUO_LEARNED_LIMIT; 18 the sets of input names differ; 19 the sets of output names differ;
      20 the registers of one side, gold first, have two clock names or edges (side: that side); 21 clock name or edge differ between the sides, or
      only one side has registers; 22 a register has no reset, gold by name, then gate (side: that side; place: the register's number);
-     23 (depth + 1) * (F + S) + R is over 65,535, where F = I + 3 * N + 10 * R + 4 * O + 1, I and O count one side's inputs and outputs, N and R the nodes
-     and registers of both sides, and S is the sum over the cells of both sides of 11 * w for an Add or Subtract of width w and 12 * w * w for a Multiply;
-     24 trace_length is under STRUO_TRACE_LENGTH(depth, I, O), words_length under STRUO_WORDS_LENGTH, or scores_length under STRUO_SCORES_LENGTH.
+     23 (depth + 1) * F + R is over 65,535, where F = I + 3 * N + 10 * R + 4 * O + 1, I and O count one side's inputs and outputs, N and R the nodes
+     and registers of both sides; 24 trace_length is under STRUO_TRACE_LENGTH(depth, I, O), words_length under STRUO_WORDS_LENGTH, or scores_length under
+     STRUO_SCORES_LENGTH.
    A refused check changes nothing that is lent. The proof has one NaN: of a lent score that is a NaN it says that it stays one, and not with which bits; the
    code writes nothing, and that the bits stay is tested.
 

@@ -96,7 +96,7 @@ const EQUIVALENCE: &[Patch] = &[
     },
 ];
 
-/// A netlist of given nodes, registers and cells, one for one; the builder would merge nodes and fold cells of constants.
+/// A netlist of given nodes and registers, one for one; the builder would merge some.
 const RAW_NETLIST: &str = "
 impl NetId {
     /// The net with this number.
@@ -105,16 +105,9 @@ impl NetId {
     }
 }
 
-impl ArithmeticCell {
-    /// The cell with these nets.
-    pub fn raw(name: String, operation: ArithmeticOp, lhs: Vec<NetId>, rhs: Vec<NetId>, carry_in: Option<NetId>, outputs: Vec<NetId>) -> Self {
-        Self { name, operation, lhs, rhs, carry_in, outputs }
-    }
-}
-
 impl Netlist {
-    /// The netlist with these nodes, registers and cells; ports are as add_input and add_output make them.
-    pub fn from_raw(name: String, nodes: Vec<(NodeKind, Vec<NetId>)>, registers: Vec<RegisterCell>, cells: Vec<ArithmeticCell>) -> Self {
+    /// The netlist with these nodes and registers; ports are as add_input and add_output make them.
+    pub fn from_raw(name: String, nodes: Vec<(NodeKind, Vec<NetId>)>, registers: Vec<RegisterCell>) -> Self {
         let mut netlist = Self::new(name);
         for (kind, inputs) in nodes {
             let port = match &kind {
@@ -128,7 +121,6 @@ impl Netlist {
             }
         }
         netlist.registers = registers;
-        netlist.arithmetic = cells;
         netlist
     }
 }

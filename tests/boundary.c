@@ -367,74 +367,6 @@ static void clock_column(void) {
     }
 }
 
-/* Inputs a and b, and an output y that shows an Add of width 1, the cell s: its kind is byte 27, its carry byte 33, its output number ends at byte 35. */
-static const uint8_t adder[36] = {0x02, 0x00, 0x00, 0x00, 0x24, 0x01, 0x67, 0x00, 0x04, 0x00, 0x01, 0x61, 0x00, 0x01, 0x62, 0x03, 0x11, 0x01,
-                                  0x79, 0x00, 0x02, 0x00, 0x00, 0x00, 0x01, 0x01, 0x73, 0x00, 0x01, 0x00, 0x00, 0x00, 0x01, 0x00, 0x00, 0x02};
-
-/* The adder with one byte changed, refused in every call. */
-static void cell_bytes(void) {
-    static const struct { const char *what; size_t offset; uint8_t byte; uint32_t number, place; } cases[] = {
-        {"version 3", 0, 3, STRUO_REFUSAL_VERSION, 0},
-        {"an ArithmeticOutput in version 1", 0, 1, STRUO_REFUSAL_CODE, 15},
-        {"65 cells", 24, 65, STRUO_REFUSAL_COUNT, 23},
-        {"a second cell that is not there", 24, 2, STRUO_REFUSAL_CUT, 36},
-        {"a cell's empty name", 25, 0, STRUO_REFUSAL_NAME, 25},
-        {"cell kind 3", 27, 3, STRUO_REFUSAL_CODE, 27},
-        {"width 0", 28, 0, STRUO_REFUSAL_CODE, 28},
-        {"width 17", 28, 17, STRUO_REFUSAL_CODE, 28},
-        {"carry byte 2", 33, 2, STRUO_REFUSAL_CODE, 33},
-        {"a carry number that is not there", 33, 1, STRUO_REFUSAL_CUT, 36},
-        {"an Output as a cell's output", 35, 3, STRUO_REFUSAL_CELL_OUTPUT, 0},
-        {"an output past the nodes", 34, 1, STRUO_REFUSAL_CELL_OUTPUT, 0},
-        {"its own output on the left", 30, 2, STRUO_REFUSAL_CELL_OPERAND, 0},
-        {"a node above its output on the right", 32, 3, STRUO_REFUSAL_CELL_OPERAND, 0},
-    };
-    for (size_t i = 0; i < sizeof cases / sizeof cases[0]; i++) {
-        uint8_t record[sizeof adder];
-        memcpy(record, adder, sizeof adder);
-        record[cases[i].offset] = cases[i].byte;
-        refuses_record(cases[i].what, record, sizeof record, cases[i].number, cases[i].place);
-    }
-}
-
-/* The adder without its cell, with its cell twice under one name and then under two, and as a subtractor with a carry. */
-static void cell_lists(void) {
-    uint8_t bare[25], twice[47], carried[sizeof adder];
-    memcpy(bare, adder, sizeof bare);
-    bare[4] = sizeof bare;
-    bare[24] = 0;
-    refuses_record("a node without a cell", bare, sizeof bare, STRUO_REFUSAL_CELL_OUTPUT, 2);
-    memcpy(twice, adder, sizeof adder);
-    memcpy(twice + sizeof adder, adder + 25, sizeof adder - 25);
-    twice[4] = sizeof twice;
-    twice[24] = 2;
-    refuses_record("two cells of one name", twice, sizeof twice, STRUO_REFUSAL_DUPLICATE_CELL_NAME, 1);
-    twice[37] = 't';
-    refuses_record("two cells of one output", twice, sizeof twice, STRUO_REFUSAL_CELL_OUTPUT, 1);
-    memcpy(carried, adder, sizeof adder);
-    carried[27] = carried[33] = 1;
-    refuses_record("a subtractor with a carry", carried, sizeof carried, STRUO_REFUSAL_CODE, 33);
-}
-
-/* The adder against a subtractor, which is the same at width 1, and against a multiplier, from which it differs where one of a and b is 1. */
-static void cells(void) {
-    static const uint8_t differs[STRUO_TRACE_LENGTH(0, 2, 1)] = {0, 1, 1};
-    uint8_t other[sizeof adder];
-    reads("an adder", adder, sizeof adder, STRUO_ACCEPTED, 0);
-    memcpy(other, adder, sizeof adder);
-    other[27] = 1;
-    checks_pair("an adder against a subtractor", adder, sizeof adder, other, sizeof other, 1, STRUO_WORDS_LENGTH, accepted(STRUO_EQUIVALENT, 1, 16, 1, 1), 0);
-    other[27] = 2;
-    checks_in("an adder against a multiplier", adder, sizeof adder, other, sizeof other, 1, STRUO_LEARNED_LIMIT, false, STRUO_WORDS_LENGTH,
-              accepted(STRUO_NOT_EQUIVALENT, 1, 0, 1, 1), differs, sizeof differs);
-    if (!struo_replay(adder, sizeof adder, other, sizeof other, 0, differs, sizeof differs).yes) {
-        printf("boundary: the trace of an adder against a multiplier is not replayed with yes\n");
-        failed = 1;
-    }
-    cell_bytes();
-    cell_lists();
-}
-
 /* A claim as long as one of cycle 1, of another cycle: taken for cycle 1 it would be answered with no. */
 static void refuses_claim(const char *what, uint64_t cycle) {
     static const uint8_t claim[STRUO_TRACE_LENGTH(1, 1, 1)] = {0, 0, 1};
@@ -552,7 +484,6 @@ int main(void) {
     clock_reads();
     clock_enables();
     clock_column();
-    cells();
     on_stack("a read", reading, STRUO_READ_STACK);
     on_stack("a replay", replaying, STRUO_REPLAY_STACK);
     on_stack("a begin", beginning, STRUO_BEGIN_STACK);

@@ -188,7 +188,7 @@ static void check_line(void) {
 
 /* Whether a call can answer a refusal on a side. */
 static bool can(int call, unsigned refusal, unsigned side) {
-    if (refusal <= 15 || (refusal >= 26 && refusal <= 28) || refusal == 30) return side == 0 || (call != READ && refusal > 0);
+    if (refusal <= 15 || refusal == 30) return side == 0 || (call != READ && refusal > 0);
     if (call == READ || (refusal > 25 && refusal != 36) || (call == CHECK && refusal == 25)) return false;
     if (call == REPLAY && (refusal <= 17 || refusal == 23 || refusal == 24 || refusal == 36)) return false;
     return side == 0 || refusal == 20 || refusal == 22;

@@ -3,7 +3,6 @@ use std::hint::black_box;
 use std::process::ExitCode;
 
 use oracle::bridge::{lower, lowered, netlist};
-use oracle::cell_pairs::cell_design;
 use oracle::random::{ClockRead, Size};
 use oracle::reads::random_design;
 use oracle::record::{self, encode};
@@ -54,23 +53,21 @@ fn same(lent: &mut Lent, bytes: &[u8]) -> bool {
     count == rust.len() && (0..count).all(|place| node(place) == rust[place])
 }
 
-/// So many random designs of all sizes, every other one with cells of all widths, and as many cut ones, which are refused.
+/// So many random designs of all sizes, and as many damaged ones, which are refused.
 pub fn compare(count: u64, seed: u64) -> ExitCode {
     let mut rng = Rng::new(seed);
     let mut lent = Lent::new(&mut rng);
-    let (mut calls, mut with_cells, mut differ) = (0, 0, 0);
+    let (mut calls, mut differ) = (0, 0);
     while calls < count {
         let size = if rng.one_in(4) { *rng.pick(&sizes()) } else { Size { inputs: 6, outputs: 6, registers: 6, gates: 30 } };
-        let design = cell_design(&mut rng, size, ClockRead::Never);
-        with_cells += u64::from(!design.cells.is_empty());
-        for bytes in records(&mut rng, size, 1).into_iter().chain([encode(&design)]) {
+        for bytes in records(&mut rng, size, 1) {
             let refused = build(&mut lent, &bytes[..bytes.len() - 1], 0) == 0;
             differ += u64::from(!same(&mut lent, &bytes)) + u64::from(!refused);
             calls += 2;
         }
     }
-    println!("{calls} builds, {with_cells} of designs with cells, {differ} differ");
-    ExitCode::from(u8::from(differ > 0 || with_cells == 0))
+    println!("{calls} builds, {differ} differ");
+    ExitCode::from(u8::from(differ > 0))
 }
 
 /// The time of building one graph: the library's from the difference of many builds and one; the Rust's with its validate, and without.

@@ -7,7 +7,7 @@ use oracle::families::generate;
 use oracle::limited::{limits_about, REFUSED};
 use oracle::meter::{Query, Wish, LEARNED_LIMIT};
 use oracle::pair::{Lent, SCORES, WORDS};
-use oracle::record::{parse, read};
+use oracle::record::read;
 use oracle::rng::Rng;
 use oracle::run::clock_bytes;
 use oracle::vectors::{check_call, check_words, mode_line, split};
@@ -51,8 +51,6 @@ pub struct Tally {
     pub learned: usize,
     /// Traces of designs with registers.
     pub clocks: u64,
-    /// Pairs of which a side has cells, and of which both have some.
-    pub with_cells: [u64; 2],
     /// The mode of the earliest cycle.
     pub modes: Modes,
 }
@@ -93,7 +91,6 @@ impl Tally {
         self.latest = self.latest.max(other.latest);
         self.learned = self.learned.max(other.learned);
         self.clocks += other.clocks;
-        add(&mut self.with_cells, &other.with_cells);
         self.modes.add(&other.modes);
         self
     }
@@ -111,8 +108,6 @@ impl Tally {
         missing.extend((0..4).filter(|status| self.settled[*status] == 0).map(|status| format!("a give-up under a smaller limit alone, else status {status}")));
         missing.extend((1..5).filter(|query| self.learned_most[*query] == 0).map(|query| format!("a check that learned most in query {query}")));
         missing.extend((self.clocks == 0).then(|| "a trace with a clock".into()));
-        let sides = self.with_cells.iter().zip(["a side", "both sides"]).filter(|(times, _)| **times == 0);
-        missing.extend(sides.map(|(_, sides)| format!("a pair with cells on {sides}")));
         missing.extend(self.modes.missing());
         missing
     }
@@ -270,10 +265,6 @@ impl<C: Call> Worker<'_, C> {
     fn pair(&mut self, asked: Asked, quick: bool) {
         let Asked { gold, gate, depth, limit, lent, .. } = asked;
         self.tally.pairs += 1;
-        let has_cells = |bytes: &[u8]| parse(bytes).is_ok_and(|design| !design.cells.is_empty());
-        let sides = [has_cells(gold), has_cells(gate)];
-        self.tally.with_cells[0] += u64::from(sides.contains(&true));
-        self.tally.with_cells[1] += u64::from(sides == [true, true]);
         let cheap = quick || limit <= EARLY as u64;
         for (gold, gate, swapped) in [(gold, gate, false), (gate, gold, true), (gold, gold, false), (gate, gate, false)] {
             let asked = Asked { gold, gate, earliest: asked.earliest != swapped, ..asked };
@@ -367,30 +358,23 @@ const BLOCK: usize = 16;
 const LIMITS: usize = 6;
 const EARLY: usize = 4_096;
 
-/// The family of a block: of 200 blocks 48 small, 46 pairs, 48 pairs with cells, 16 identities over words, 20 rewritten, 8 refusals, 6 buffers, 6 late, 1 hard, 1 deep.
+/// The family of a block: of 200 blocks 68 small, 68 pairs, 30 rewritten, 13 refusals, 10 buffers, 9 late, 1 hard, 1 deep.
 fn family(number: usize) -> &'static str {
     match number * 73 % 200 {
         0 => "deep",
         1 => "hard",
-        2..=7 => "late",
-        8..=13 => "buffers",
-        14..=21 => "refusals",
-        22..=41 => "rewritten",
-        42..=87 => "pairs",
-        88..=135 => "cell-pairs",
-        136..=151 => "identities",
+        2..=10 => "late",
+        11..=20 => "buffers",
+        21..=33 => "refusals",
+        34..=63 => "rewritten",
+        64..=131 => "pairs",
         _ => "small",
     }
 }
 
-/// The family of a block of a run on cells.
-fn cell_family(number: usize) -> &'static str {
-    if number % 4 == 0 { "identities" } else { "cell-pairs" }
-}
-
-/// The blocks of a run: the fixed families with a give-up in each query, from 10,000 pairs on all that search long too, then `count` random pairs of the families that `family` tells.
-fn blocks(count: usize, seed: u64, family: fn(usize) -> &'static str) -> Vec<Block> {
-    let fixed = |family: &'static str| Block { family, count: if matches!(family, "earliest" | "cells") { 400 } else { 200 }, skip: 0, seed };
+/// The blocks of a run: the fixed families with a give-up in each query, from 10,000 pairs on all that search long too, then `count` random pairs.
+fn blocks(count: usize, seed: u64) -> Vec<Block> {
+    let fixed = |family: &'static str| Block { family, count: if family == "earliest" { 300 } else { 200 }, skip: 0, seed };
     let mut blocks = Vec::new();
     if count >= 10_000 {
         blocks.extend((0..2).map(|skip| Block { family: "giveup", count: 1, skip, seed }));
@@ -399,7 +383,7 @@ fn blocks(count: usize, seed: u64, family: fn(usize) -> &'static str) -> Vec<Blo
         blocks.push(Block { family: "deep", count: 3, skip: 0, seed });
     }
     blocks.extend((2..6).map(|skip| Block { family: "giveup", count: 1, skip, seed }));
-    blocks.extend(["earliest", "sides", "refusals", "limited", "clocks", "cells"].map(fixed));
+    blocks.extend(["earliest", "sides", "refusals", "limited", "clocks"].map(fixed));
     blocks.push(Block { family: "limits", count: 1, skip: 2, seed });
     let mut left = count;
     for number in 0.. {
@@ -417,11 +401,10 @@ fn blocks(count: usize, seed: u64, family: fn(usize) -> &'static str) -> Vec<Blo
 
 /// Checks the fixed families and `count` random pairs through the library, and says what came of it: each status, a give-up in each query at depth 1 and deeper,
 /// with no cycle proved and with one, and under a smaller limit alone, each query as the one that learned most, each refusal on each side that it can have, and what the mode of the earliest
-/// cycle shows have to be met. From 10,000 pairs on with the rescaling, the deepest searches and the pairs that are measured alone. On cells the random pairs are those that have some.
-pub fn compare(count: u64, seed: u64, on_cells: bool) -> ExitCode {
+/// cycle shows have to be met. From 10,000 pairs on with the rescaling, the deepest searches and the pairs that are measured alone.
+pub fn compare(count: u64, seed: u64) -> ExitCode {
     let threads = std::thread::available_parallelism().map_or(1, usize::from);
-    let blocks = blocks(usize::try_from(count).expect("a count fits"), seed, if on_cells { cell_family } else { family });
-    let tally = run_blocks(&blocks, threads, &struo_formal::check);
+    let tally = run(usize::try_from(count).expect("a count fits"), seed, threads, &struo_formal::check);
     println!("checks by refusal, gold+gate: {}", tally.met.told(Kind::Check));
     let [equivalent, different, inconclusive, gave_up] = tally.statuses;
     let [no_cycle, a_cycle] = tally.proved;
@@ -435,9 +418,13 @@ pub fn compare(count: u64, seed: u64, on_cells: bool) -> ExitCode {
     println!("{} traces of designs with registers, the clock's bytes 0 in each that does not differ", tally.clocks);
     println!("{}", tally.modes.told());
     let missing = unmet(&tally.missing());
-    let [a_side, both] = tally.with_cells;
-    println!("{} pairs, {a_side} with cells, {both} of these on both sides; {} checks, {} differ", tally.pairs, tally.checks, tally.differ);
+    println!("{} pairs, {} checks, {} differ", tally.pairs, tally.checks, tally.differ);
     ExitCode::from(u8::from(tally.differ > 0 || missing))
+}
+
+/// Checks the fixed families and `count` random pairs on so many threads.
+fn run(count: usize, seed: u64, threads: usize, call: &impl Call) -> Tally {
+    run_blocks(&blocks(count, seed), threads, call)
 }
 
 /// Checks the pairs of blocks; each thread takes the next block that none has taken.
@@ -568,20 +555,6 @@ mod tests {
         assert!(differing_in(&clocks, |answer, _, _, _| if answer.number == 30 { *answer = Check::default() }) > 0);
         assert!(differing_in(&clocks, |answer, _, _, _| if answer.number == 30 { answer.side = 0 }) > 0);
         assert!(differing_in(&clocks, |answer, _, _, _| if answer.number == 30 { answer.place = 0 }) > 0);
-    }
-
-    #[test]
-    fn a_wrong_refusal_of_a_cell_is_found() {
-        let cells = [Block { family: "cells", count: 400, skip: 285, seed: 1 }];
-        let tally = run_blocks(&cells, 1, &honest);
-        assert!(tally.differ == 0 && tally.with_cells.iter().all(|pairs| *pairs > 0) && [23, 26, 27, 28].iter().all(|number| tally.met.times(*number) > 0));
-        for number in [23, 26, 27, 28] {
-            assert!(differing_in(&cells, |answer, _, _, _| if answer.number == number { *answer = Check::default() }) > 0);
-        }
-        for number in [26, 27, 28] {
-            assert!(differing_in(&cells, |answer, _, _, _| if answer.number == number { answer.side = 0 }) > 0);
-            assert!(differing_in(&cells, |answer, _, _, _| if answer.number == number { answer.place = 0 }) > 0);
-        }
     }
 
     #[test]

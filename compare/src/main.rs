@@ -1,4 +1,4 @@
-//! Compares the library with the oracle: `compare read COUNT SEED`, `replay COUNT SEED`, `step COUNT SEED`, `check COUNT SEED`, `check COUNT SEED cells`, `solve COUNT SEED`, `build COUNT SEED`;
+//! Compares the library with the oracle: `compare read COUNT SEED`, `replay COUNT SEED`, `step COUNT SEED`, `check COUNT SEED`, `solve COUNT SEED`, `build COUNT SEED`;
 //! measures both: `bench SEED`, `bench-check SEED`, `bench-solve SEED`, `bench-build SEED`; writes the records of a pair: `records FAMILY PLACE SEED DIR`.
 use std::path::Path;
 use std::process::ExitCode;
@@ -28,7 +28,7 @@ fn main() -> ExitCode {
         Some("read") => reads::compare(number(words.get(2)), number(words.get(3))),
         Some("replay") => replays::compare(number(words.get(2)), number(words.get(3))),
         Some("step") => steps::compare(number(words.get(2)), number(words.get(3))),
-        Some("check") => checks::compare(number(words.get(2)), number(words.get(3)), words.get(4).is_some_and(|word| word == "cells")),
+        Some("check") => checks::compare(number(words.get(2)), number(words.get(3))),
         Some("solve") => solve::compare(number(words.get(2)), number(words.get(3))),
         Some("build") => bench_build::compare(number(words.get(2)), number(words.get(3))),
         Some("bench-build") => bench_build::graphs(number(words.get(2))),
@@ -40,7 +40,7 @@ fn main() -> ExitCode {
         Some("bench-check") => bench_check::checks(number(words.get(2))),
         Some("records") if words.len() == 6 => records::write(&words[2], number(words.get(3)) as usize, number(words.get(4)), Path::new(&words[5])),
         _ => {
-            println!("compare read COUNT SEED | replay COUNT SEED | step COUNT SEED | check COUNT SEED [cells] | solve COUNT SEED | build COUNT SEED | bench SEED | bench-check SEED | bench-solve SEED | bench-build SEED | records FAMILY PLACE SEED DIR");
+            println!("compare read COUNT SEED | replay COUNT SEED | step COUNT SEED | check COUNT SEED | solve COUNT SEED | build COUNT SEED | bench SEED | bench-check SEED | bench-solve SEED | bench-build SEED | records FAMILY PLACE SEED DIR");
             ExitCode::from(2)
         }
     }

@@ -1,9 +1,8 @@
 //! Replays: true, false and damaged claims on random pairs and replays of every refusal, each answered by the library and by the oracle.
 use std::process::ExitCode;
 
-use oracle::cell_pairs::cell_pair;
 use oracle::check::check;
-use oracle::families::{generate, random_pair, Pair};
+use oracle::families::{generate, random_pair};
 use oracle::meter::LEARNED_LIMIT;
 use oracle::pair::{trace_need, Lent};
 use oracle::random::{ClockRead, Size};
@@ -15,14 +14,13 @@ use oracle::vectors::{split, unhex};
 use crate::met::{unmet, Kind, Met};
 use struo_formal::ReplayAnswer as Replay;
 
-/// How many calls were made, what they met, how many said no or yes, how many were made again with the clock's bits turned, how many pairs with cells there were, and how many answers differ.
+/// How many calls were made, what they met, how many said no or yes, how many were made again with the clock's bits turned, and how many answers differ.
 #[derive(Default)]
 struct Tally {
     calls: u64,
     met: Met,
     answers: [u64; 2],
     turned: u64,
-    with_cells: u64,
     differ: u64,
 }
 
@@ -75,16 +73,10 @@ fn bits(rng: &mut Rng, length: u64) -> Vec<u8> {
     (0..length).map(|_| if rng.one_in(300) { 2 } else { rng.below(2) as u8 }).collect()
 }
 
-/// A random pair, every other time with cells.
-pub fn any_pair(rng: &mut Rng) -> Pair {
-    let size = Size { inputs: 4, outputs: 3, registers: 4, gates: 9 };
-    if rng.one_in(2) { cell_pair(rng, size, 3, ClockRead::Seldom) } else { random_pair(rng, size, 3, ClockRead::Seldom) }
-}
-
 /// The claims on one pair: the check's own trace where it differs, its damage, and random ones.
 fn pair(rng: &mut Rng, tally: &mut Tally) {
-    let pair = any_pair(rng);
-    tally.with_cells += u64::from(!pair.gold.cells.is_empty() || !pair.gate.cells.is_empty());
+    let size = Size { inputs: 4, outputs: 3, registers: 4, gates: 9 };
+    let pair = random_pair(rng, size, 3, ClockRead::Seldom);
     let (gold, gate) = (encode(&pair.gold), encode(&pair.gate));
     let answer = check(&gold, &gate, 3, LEARNED_LIMIT as u64, false, Lent { trace: 8192, words: 8_388_608, scores: 65_536 });
     if answer.status == 1 {
@@ -134,9 +126,8 @@ pub fn compare(count: u64, seed: u64) -> ExitCode {
     let mut missing = tally.met.missing(Kind::Replay);
     missing.extend(["no", "yes"].iter().zip(tally.answers).filter(|(_, times)| *times == 0).map(|(answer, _)| (*answer).into()));
     missing.extend((tally.turned == 0).then(|| "a claim with the clock's bits turned".into()));
-    missing.extend((tally.with_cells == 0).then(|| "a pair with cells".into()));
     let missing = unmet(&missing);
-    println!("{} replays, {no} no, {yes} yes, {} refused, {} with the clock's bits turned, {} pairs with cells, {} differ", tally.calls, tally.met.refused(), tally.turned, tally.with_cells, tally.differ);
+    println!("{} replays, {no} no, {yes} yes, {} refused, {} with the clock's bits turned, {} differ", tally.calls, tally.met.refused(), tally.turned, tally.differ);
     ExitCode::from(u8::from(tally.differ > 0 || missing))
 }
 
@@ -147,7 +138,6 @@ fn run(count: u64, seed: u64) -> Tally {
     family(&mut tally, "sides", 200, seed);
     family(&mut tally, "refused-replays", 90, seed);
     family(&mut tally, "clocks", 300, seed);
-    family(&mut tally, "cells", 400, seed);
     while tally.calls < count {
         pair(&mut rng, &mut tally);
     }

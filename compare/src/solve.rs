@@ -218,15 +218,13 @@ pub fn queries(family: &str, count: usize, seed: u64) -> Vec<Problem> {
     generate_reading(family, count, seed, ClockRead::Never).iter().filter_map(|line| vectors::report(line, wish)).flat_map(|report| report.problems).collect()
 }
 
-/// At least `count` searches: all of the hard families, queries of random and rewritten pairs and of pairs with cells, the largest graph, and random problems with their damage.
+/// At least `count` searches: all of the hard families, queries of random and rewritten pairs, the largest graph, and random problems with their damage.
 pub fn compare(count: u64, seed: u64) -> ExitCode {
     let mut rng = Rng::new(seed);
     let mut lent = Lent::new(&mut rng);
     let mut tally = Tally::default();
     let share = |part: u64| (count / part) as usize;
-    let families = [
-        ("rescale", 1), ("giveup", 6), ("hard", share(500)), ("deep", share(2000)), ("late", share(500)), ("rewritten", share(40)), ("pairs", share(20)), ("cell-pairs", share(40)), ("identities", share(60)),
-    ];
+    let families = [("rescale", 1), ("giveup", 6), ("hard", share(500)), ("deep", share(2000)), ("late", share(500)), ("rewritten", share(40)), ("pairs", share(20))];
     for (family, pairs) in families {
         for problem in queries(family, pairs, seed) {
             tally.problem(&mut lent, &problem, LEARNED_LIMIT);

@@ -4,9 +4,8 @@ use std::cmp::Ordering;
 use std::collections::BTreeMap;
 use std::process::ExitCode;
 
-use oracle::cell_pairs::cell_reads;
 use oracle::check::check;
-use oracle::families::generate;
+use oracle::families::{generate, random_pair};
 use oracle::meter::LEARNED_LIMIT;
 use oracle::pair::{trace_need, Lent};
 use oracle::random::{ClockRead, Size};
@@ -19,8 +18,7 @@ use oracle::steps::{self, Moved, Position as Plain};
 use oracle::vectors::{hex, unhex};
 
 use crate::met::{unmet, Kind, Met};
-use crate::reads::any_design;
-use crate::replays::{any_pair, clock_turned};
+use crate::replays::clock_turned;
 use struo_formal::{Position, ReadAnswer, ReplayAnswer, BITS, GATE_BITS};
 
 /// A claim on a pair of records.
@@ -31,7 +29,7 @@ struct Claim<'a> {
     bytes: &'a [u8],
 }
 
-/// How many calls were made, how many differ, what begins and steps met, how many steps there were of each kind of answer, how many were made again with the clock's bits turned, and how many pairs with cells there were.
+/// How many calls were made, how many differ, what begins and steps met, how many steps there were of each kind of answer, and how many were made again with the clock's bits turned.
 #[derive(Default)]
 struct Tally {
     calls: u64,
@@ -40,7 +38,6 @@ struct Tally {
     steps: Met,
     kinds: BTreeMap<&'static str, u64>,
     turned: u64,
-    with_cells: u64,
 }
 
 /// A refusal's three numbers, as the boundary has them.
@@ -162,8 +159,7 @@ fn lent_position(rng: &mut Rng, cycle: u64) -> Plain {
 
 /// Walks and single steps on one pair.
 fn pair(rng: &mut Rng, tally: &mut Tally) {
-    let pair = any_pair(rng);
-    tally.with_cells += u64::from(!pair.gold.cells.is_empty() || !pair.gate.cells.is_empty());
+    let pair = random_pair(rng, Size { inputs: 4, outputs: 3, registers: 4, gates: 9 }, 3, ClockRead::Seldom);
     let (gold, gate) = (encode(&pair.gold), encode(&pair.gate));
     let answer = check(&gold, &gate, 3, LEARNED_LIMIT as u64, false, Lent { trace: 8192, words: 8_388_608, scores: 65_536 });
     let mut claims: Vec<(u64, Vec<u8>)> = (0..3)
@@ -194,9 +190,8 @@ fn refusals(rng: &mut Rng, tally: &mut Tally) {
     let position = Plain { cycle: rng.below(3) as u64, agreed: rng.one_in(2) };
     let length = *rng.pick(&[0, 255, 256, 300]);
     let bits: Vec<u8> = (0..length).map(|_| rng.below(256) as u8).collect();
-    let whole = encode(&any_design(rng, Size { inputs: 3, outputs: 3, registers: 3, gates: 6 }));
-    let listed = [random_reads(rng, 3, ClockRead::Seldom), cell_reads(rng, 2, ClockRead::Seldom)].concat();
-    let mut records: Vec<Vec<u8>> = listed.iter().map(|line| unhex(line.split_whitespace().nth(1).expect("a record"))).collect();
+    let whole = encode(&oracle::reads::random_design(rng, Size { inputs: 3, outputs: 3, registers: 3, gates: 6 }, ClockRead::Seldom));
+    let mut records: Vec<Vec<u8>> = random_reads(rng, 4, ClockRead::Seldom).iter().map(|line| unhex(line.split_whitespace().nth(1).expect("a record"))).collect();
     records.push(crate::reads::damaged(rng, &whole));
     let claim = bytes(rng, 5, 50);
     for other in &records {
@@ -207,9 +202,9 @@ fn refusals(rng: &mut Rng, tally: &mut Tally) {
     }
 }
 
-/// Calls on the pairs of the oracle's refused replays: 18 to 22, 25 to 28, 30, and damaged records.
+/// Calls on the pairs of the oracle's refused replays: 18 to 22, 25, 30, and damaged records.
 fn refused_pairs(rng: &mut Rng, tally: &mut Tally) {
-    let listed = ["clocks", "cells"].iter().flat_map(|family| generate(family, 400, 1)).filter(|line| line.starts_with("replay "));
+    let listed = generate("clocks", 300, 1).into_iter().filter(|line| line.starts_with("replay "));
     for line in listed.chain(refused_replays(rng, 400, ClockRead::Seldom)) {
         let words: Vec<&str> = line.split_whitespace().collect();
         let ["replay", gold, gate, cycle, claim] = words[..] else { panic!("no replay: {line}") };
@@ -233,12 +228,11 @@ pub fn compare(count: u64, seed: u64) -> ExitCode {
     }
     println!("begins by refusal, gold+gate: {}", tally.begins.told(Kind::Begin));
     println!("steps by refusal, gold+gate: {}", tally.steps.told(Kind::Step));
-    println!("accepted steps: {:?}, {} with the clock's bits turned; {} pairs with cells", tally.kinds, tally.turned, tally.with_cells);
+    println!("accepted steps: {:?}, {} with the clock's bits turned", tally.kinds, tally.turned);
     let mut missing: Vec<String> = tally.begins.missing(Kind::Begin).iter().map(|what| format!("begin: {what}")).collect();
     missing.extend(tally.steps.missing(Kind::Step).iter().map(|what| format!("step: {what}")));
     missing.extend(KINDS.iter().filter(|kind| !tally.kinds.contains_key(*kind)).map(|kind| format!("step: {kind}")));
     missing.extend((tally.turned == 0).then(|| "step: the clock's bits turned".into()));
-    missing.extend((tally.with_cells == 0).then(|| "step: a pair with cells".into()));
     let missing = unmet(&missing);
     println!("{} begins and steps, {} differ", tally.calls, tally.differ);
     ExitCode::from(u8::from(tally.differ > 0 || missing))

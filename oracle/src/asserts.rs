@@ -1,6 +1,4 @@
 //! Laws asserted over random pairs.
-use crate::bridge::{graph_runs, system};
-use crate::cell_pairs::{cell_design, cell_pair};
 use crate::check::{prove, CheckAnswer, EQUIVALENT, GAVE_UP, NOT_EQUIVALENT};
 use crate::exhaustive::{first_difference, induction, least_over_sequences};
 use crate::families::{random_pair, Pair};
@@ -37,9 +35,6 @@ pub struct Summary {
     /// Designs with registers that were run on two input sequences which differ in the clock's bits alone, and traces of such designs.
     pub two_clocks: usize,
     pub clock_columns: usize,
-    /// Pairs of which a side has cells, and cycles of designs with cells in which the graph was held against the plain run.
-    pub with_cells: usize,
-    pub graphs: usize,
     pub failures: Vec<String>,
 }
 
@@ -262,65 +257,37 @@ fn is_tiny(pair: &Pair) -> bool {
     pair.gold.registers.len() + pair.gate.registers.len() + pair.gold.input_names().len() <= 9 && pair.depth <= 6
 }
 
-/// All laws of one pair; limits and inputs are drawn apart.
-fn laws(summary: &mut Summary, limits: &mut Rng, inputs: &mut Rng, pair: &Pair) {
-    let (answer, report) = prove(&pair.gold, &pair.gate, pair.depth, false, Wish::default());
-    summary.pairs += 1;
-    summary.with_cells += usize::from(!pair.gold.cells.is_empty() || !pair.gate.cells.is_empty());
-    summary.statuses[usize::from(answer.status)] += 1;
-    summary.deepest = summary.deepest.max(answer.depth);
-    summary.most_learned = summary.most_learned.max(answer.learned);
-    if answer.status == NOT_EQUIVALENT {
-        trace_replays(summary, pair, &answer);
-    }
-    clocks(summary, inputs, pair);
-    self_check(summary, pair, &pair.gold, false);
-    self_check(summary, pair, &pair.gate, false);
-    swapped(summary, pair, &answer, false);
-    limited(summary, limits, pair, &report.queries, false);
-    if is_tiny(pair) {
-        exhaustive(summary, pair, &answer, &report, false);
-    }
-    in_the_mode(summary, limits, pair, &answer, &report.queries);
-}
-
-/// In random cycles from random stored bits a design's graph shows what the plain run does.
-fn graphs(summary: &mut Summary, rng: &mut Rng, design: &Design) {
-    let system = system(design);
-    for _ in 0..4 {
-        let inputs: Inputs = design.input_names().into_iter().map(|name| (name, rng.one_in(2))).collect();
-        let stored: Vec<bool> = design.registers.iter().map(|_| rng.one_in(2)).collect();
-        summary.graphs += usize::from(!design.cells.is_empty());
-        if !graph_runs(&system, design, &inputs, &stored) && summary.failures.len() < 20 {
-            summary.failures.push(format!("the graph and the plain run: {design:?} {inputs:?} {stored:?}"));
-        }
-    }
-}
-
-/// Small designs, two times out of three, or larger ones.
-fn size(rng: &mut Rng, tiny: Size, larger: Size) -> Size {
-    if rng.one_in(3) { larger } else { tiny }
-}
-
-/// The laws over so many random pairs of a seed, over half as many pairs with cells, and over the graphs of as many designs with cells.
+/// The laws over so many random pairs of a seed.
 pub fn run(count: usize, seed: u64) -> Summary {
     let mut rng = Rng::new(seed);
-    let (mut limits, mut inputs) = (Rng::new(!seed), Rng::new(seed.rotate_left(32)));
+    let mut limits = Rng::new(!seed);
+    let mut inputs = Rng::new(seed.rotate_left(32));
     let mut summary = Summary::default();
     for _ in 0..count {
-        let size = size(&mut rng, Size { inputs: 3, outputs: 2, registers: 3, gates: 8 }, Size { inputs: 6, outputs: 5, registers: 6, gates: 24 });
+        let tiny = !rng.one_in(3);
+        let size = if tiny {
+            Size { inputs: 3, outputs: 2, registers: 3, gates: 8 }
+        } else {
+            Size { inputs: 6, outputs: 5, registers: 6, gates: 24 }
+        };
         let pair = random_pair(&mut rng, size, 5, ClockRead::Never);
-        laws(&mut summary, &mut limits, &mut inputs, &pair);
-    }
-    for _ in 0..count / 2 {
-        let size = size(&mut rng, Size { inputs: 3, outputs: 3, registers: 3, gates: 4 }, Size { inputs: 6, outputs: 5, registers: 4, gates: 14 });
-        let pair = cell_pair(&mut rng, size, 5, ClockRead::Never);
-        laws(&mut summary, &mut limits, &mut inputs, &pair);
-        for design in [&pair.gold, &pair.gate] {
-            graphs(&mut summary, &mut inputs, design);
+        let (answer, report) = prove(&pair.gold, &pair.gate, pair.depth, false, Wish::default());
+        summary.pairs += 1;
+        summary.statuses[usize::from(answer.status)] += 1;
+        summary.deepest = summary.deepest.max(answer.depth);
+        summary.most_learned = summary.most_learned.max(answer.learned);
+        if answer.status == NOT_EQUIVALENT {
+            trace_replays(&mut summary, &pair, &answer);
         }
-        let design = cell_design(&mut rng, Size { inputs: 20, outputs: 8, registers: 6, gates: 20 }, ClockRead::Never);
-        graphs(&mut summary, &mut inputs, &design);
+        clocks(&mut summary, &mut inputs, &pair);
+        self_check(&mut summary, &pair, &pair.gold, false);
+        self_check(&mut summary, &pair, &pair.gate, false);
+        swapped(&mut summary, &pair, &answer, false);
+        limited(&mut summary, &mut limits, &pair, &report.queries, false);
+        if is_tiny(&pair) {
+            exhaustive(&mut summary, &pair, &answer, &report, false);
+        }
+        in_the_mode(&mut summary, &mut limits, &pair, &answer, &report.queries);
     }
     summary
 }

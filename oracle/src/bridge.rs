@@ -1,12 +1,8 @@
 //! A design as the Rust has it, and the agreement of the Rust's own checks with the specification's refusals.
-use crate::aig::{self, Aig, Variable};
 use crate::equivalence::{validate_problem, EquivalenceError};
 use crate::meter::plain_node;
-use crate::record::{cell_refusal, register_nets, Cell, CellKind, Design, Node, Refusal, Register};
-use crate::run::{next, outputs, values, Inputs};
-use crate::struo_ir::{
-    ActiveLevel, ArithmeticCell, ArithmeticOp, ClockEdge, EnableControl, NetId, Netlist, NodeKind, RegisterCell, ResetControl, ValidationError,
-};
+use crate::record::{register_nets, Design, Node, Refusal, Register};
+use crate::struo_ir::{ActiveLevel, ClockEdge, EnableControl, NetId, Netlist, NodeKind, RegisterCell, ResetControl, ValidationError};
 use crate::transition::{TransitionError, TransitionSystem};
 
 /// A name as the Rust's string.
@@ -34,7 +30,6 @@ fn node(node: &Node) -> (NodeKind, Vec<NetId>) {
         Node::Input(name) => NodeKind::Input(text(name)),
         Node::Constant(value) => NodeKind::Constant(*value),
         Node::RegisterOutput => NodeKind::RegisterOutput("state".into()),
-        Node::ArithmeticOutput => NodeKind::ArithmeticOutput("bit".into()),
         Node::Not(_) => NodeKind::Not,
         Node::Output(name, _) => NodeKind::Output(text(name)),
         Node::And(_, _) => NodeKind::And,
@@ -45,7 +40,7 @@ fn node(node: &Node) -> (NodeKind, Vec<NetId>) {
     (kind, node.inputs().into_iter().map(net).collect())
 }
 
-/// A register as the Rust's register cell.
+/// A register as the Rust's cell.
 fn register(register: &Register) -> RegisterCell {
     let edge = if register.falling { ClockEdge::Falling } else { ClockEdge::Rising };
     let enable = register.enable.map(|enable| EnableControl { signal: net(enable.signal), active: level(enable.low) });
@@ -58,30 +53,14 @@ fn register(register: &Register) -> RegisterCell {
     RegisterCell::new(text(&register.name), net(register.output), net(register.data), net(register.clock), edge, enable, reset)
 }
 
-/// A cell as the Rust's arithmetic cell.
-fn cell(cell: &Cell) -> ArithmeticCell {
-    let operation = match cell.kind {
-        CellKind::Add => ArithmeticOp::Add,
-        CellKind::Subtract => ArithmeticOp::Subtract,
-        CellKind::Multiply => ArithmeticOp::Multiply,
-    };
-    let nets = |numbers: &[u16]| numbers.iter().copied().map(net).collect();
-    ArithmeticCell::raw(text(&cell.name), operation, nets(&cell.left), nets(&cell.right), cell.carry.map(net), nets(&cell.outputs))
-}
-
-/// The design's netlist, node for node and cell for cell.
+/// The design's netlist, node for node.
 pub fn netlist(design: &Design) -> Netlist {
-    netlist_to(design, design.cells.len())
-}
-
-/// The same with the first cells alone.
-fn netlist_to(design: &Design, cells: usize) -> Netlist {
     let nodes = design.nodes.iter().map(node).collect();
     let registers = design.registers.iter().map(register).collect();
-    Netlist::from_raw(text(&design.name), nodes, registers, design.cells[..cells].iter().map(cell).collect())
+    Netlist::from_raw(text(&design.name), nodes, registers)
 }
 
-/// The transition system of a design that passed 1 to 15 and 26 to 28.
+/// The transition system of a design that passed 1 to 15.
 pub fn system(design: &Design) -> TransitionSystem {
     lower(&netlist(design))
 }
@@ -94,25 +73,6 @@ pub fn lower(netlist: &Netlist) -> TransitionSystem {
 /// The nodes of a netlist's transition graph, node 0 first: none for it and for a variable.
 pub fn lowered(netlist: &Netlist) -> Vec<Option<(usize, usize)>> {
     lower(netlist).aig.nodes().iter().map(plain_node).collect()
-}
-
-/// Whether a design's transition graph shows the outputs and the next stored bits of the plain run.
-pub fn graph_runs(system: &TransitionSystem, design: &Design, inputs: &Inputs, stored: &[bool]) -> bool {
-    let state = |name: &str| design.registers.iter().position(|register| register.name == name.as_bytes()).expect("a register has the name");
-    let mut bits: Vec<bool> = Vec::new();
-    for node in system.aig.nodes() {
-        bits.push(match node {
-            aig::Node::Constant => false,
-            aig::Node::Variable(Variable::Input(name)) => inputs[name.as_bytes()],
-            aig::Node::Variable(Variable::State(name)) => stored[state(name)],
-            aig::Node::Variable(Variable::Proof(name)) => panic!("a transition graph has no variable {name}"),
-            aig::Node::And(lhs, rhs) => Aig::evaluate(*lhs, &bits) && Aig::evaluate(*rhs, &bits),
-        });
-    }
-    let plain = values(design, inputs, stored);
-    let next_of = |register: &Register| Aig::evaluate(system.states[&text(&register.name)].next, &bits);
-    let shown = system.outputs.values().map(|literal| Aig::evaluate(*literal, &bits));
-    shown.eq(outputs(design, &plain)) && design.registers.iter().map(next_of).eq(next(design, &plain, stored))
 }
 
 /// The first of these numbers that is not below a limit.
@@ -134,7 +94,7 @@ fn expected(design: &Design, refusal: Refusal) -> ValidationError {
     }
 }
 
-/// The Rust's validate and from_netlist refuse exactly as refusals 7 to 15, 26 and 27 do, and where 28 does as `agree_operands` says.
+/// The Rust's validate and from_netlist refuse exactly as refusals 7 to 15 do.
 pub fn agree(design: &Design, refusal: Option<Refusal>) {
     let netlist = netlist(design);
     let rust = netlist.validate();
@@ -147,11 +107,6 @@ pub fn agree(design: &Design, refusal: Option<Refusal>) {
             }
             other => panic!("{refusal:?} but the Rust says {other:?}: {design:?}"),
         },
-        Some(refusal) if refusal.number == 26 => {
-            assert_eq!(rust, Err(ValidationError::DuplicateArithmeticName(text(&design.cells[refusal.place].name))), "{design:?}");
-        }
-        Some(refusal) if refusal.number == 27 => agree_outputs(design, refusal.place, rust),
-        Some(refusal) if refusal.number == 28 => agree_operands(design, refusal.place, rust, &netlist),
         _ => {
             assert_eq!(rust, Ok(()), "{design:?}");
             agree_lowered(design, &netlist, refusal);
@@ -159,86 +114,16 @@ pub fn agree(design: &Design, refusal: Option<Refusal>) {
     }
 }
 
-/// The first operand of a cell that is no node's number: the Rust looks for it before the cell's outputs.
-fn undefined_operand(design: &Design, place: usize) -> Option<ValidationError> {
-    let operands = design.cells[place].operands();
-    operands.into_iter().find(|operand| usize::from(*operand) >= design.nodes.len()).map(|operand| ValidationError::UndefinedNet(net(operand)))
-}
-
-/// Where 27 is of a cell, the Rust names an undefined operand, or else the first bad output; where it is of a node, some node from there on that no cell lists.
-fn agree_outputs(design: &Design, place: usize, rust: Result<(), ValidationError>) {
-    if cell_refusal(design).is_err() {
-        let bad_output = || {
-            let earlier = |at: usize| design.cells[..place].iter().flat_map(|cell| &cell.outputs).chain(&design.cells[place].outputs[..at]);
-            let fault = |(at, output): (usize, &u16)| match design.nodes.get(usize::from(*output)) {
-                Some(Node::ArithmeticOutput) => earlier(at).any(|other| other == output).then(|| ValidationError::MultipleDrivers(net(*output))),
-                _ => Some(ValidationError::InvalidArithmeticOutput(net(*output))),
-            };
-            design.cells[place].outputs.iter().enumerate().find_map(fault).expect("an output is at fault")
-        };
-        assert_eq!(rust, Err(undefined_operand(design, place).unwrap_or_else(bad_output)), "{design:?}");
-        return;
-    }
-    match rust {
-        Err(ValidationError::UnconnectedArithmetic(net)) => {
-            let node = net.index() as usize;
-            assert!(node >= place && design.nodes[node] == Node::ArithmeticOutput && design.cell_of(node).is_none(), "{design:?}");
-        }
-        other => panic!("27 of node {place} but the Rust says {other:?}: {design:?}"),
-    }
-}
-
-/// Where 28 is of a cell, the Rust names an undefined operand, or finds no fault up to this cell. Then its lowering fails too, unless every operand that is not below the lowest output
-/// is an output of a cell whose own lowest output stands below that, and so is lowered before.
-fn agree_operands(design: &Design, place: usize, rust: Result<(), ValidationError>, netlist: &Netlist) {
-    if let Some(error) = undefined_operand(design, place) {
-        assert_eq!(rust, Err(error), "{design:?}");
-        return;
-    }
-    let up_to_here = netlist_to(design, place + 1).validate();
-    assert!(matches!(up_to_here, Ok(()) | Err(ValidationError::UnconnectedArithmetic(_))), "{up_to_here:?} {design:?}");
-    if rust.is_ok() {
-        let cell = &design.cells[place];
-        let late = cell.operands().into_iter().any(|operand| !is_lowered(design, operand, cell.lowest()));
-        let lowered = TransitionSystem::from_netlist(netlist).map(|_| ());
-        assert!(!late || matches!(lowered, Err(TransitionError::UnloweredNet(_) | TransitionError::UnsupportedAsyncReset(_))), "{lowered:?} {design:?}");
-    }
-}
-
-/// Whether the Rust has a node's literal when it comes to another node: the node is below, or is an output of a cell whose lowest output is.
-fn is_lowered(design: &Design, node: u16, other: u16) -> bool {
-    let with_lowest = || design.cell_of(usize::from(node)).is_some_and(|(cell, _)| design.cells[cell].lowest() < other);
-    node < other || with_lowest()
-}
-
-/// The first node, in order, whose asynchronous reset the Rust cannot lower; some that 14 refuses it can.
-fn late_reset(design: &Design) -> Option<usize> {
-    let late = |node: &usize| {
-        let reset = design.register_of(*node).and_then(|register| design.registers[register].reset).filter(|reset| reset.asynchronous);
-        let node = u16::try_from(*node).expect("a design is small");
-        reset.is_some_and(|reset| !is_lowered(design, reset.signal, node))
-    };
-    (0..design.nodes.len()).find(late)
-}
-
-/// The Rust's from_netlist refuses as 14 and 15 do; a reset that stands above its node but is lowered with a cell before it, it takes.
+/// The Rust's from_netlist refuses exactly as 14 and 15 do.
 fn agree_lowered(design: &Design, netlist: &Netlist, refusal: Option<Refusal>) {
     let rust = TransitionSystem::from_netlist(netlist).map(|_| ());
-    let of_register = |register: usize| text(&design.registers[register].name);
     let own = match refusal {
         None => Ok(()),
-        Some(Refusal { number: 14, place, .. }) => match late_reset(design) {
-            Some(node) => {
-                assert!(node >= place, "{design:?}");
-                Err(TransitionError::UnsupportedAsyncReset(of_register(design.register_of(node).expect("the node has a register"))))
-            }
-            None => {
-                assert!(!design.cells.is_empty(), "{design:?}");
-                let no_input = |register: &Register| !matches!(design.nodes[usize::from(register.clock)], Node::Input(_));
-                design.registers.iter().position(no_input).map_or(Ok(()), |register| Err(TransitionError::UnsupportedClock(of_register(register))))
-            }
-        },
-        Some(refusal) => Err(TransitionError::UnsupportedClock(of_register(refusal.place))),
+        Some(Refusal { number: 14, place, .. }) => {
+            let register = design.register_of(place).expect("the node has a register");
+            Err(TransitionError::UnsupportedAsyncReset(text(&design.registers[register].name)))
+        }
+        Some(refusal) => Err(TransitionError::UnsupportedClock(text(&design.registers[refusal.place].name))),
     };
     assert_eq!(rust, own, "{design:?}");
 }

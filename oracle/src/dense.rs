@@ -114,7 +114,7 @@ fn other_form(b: &mut Builder, node: &Node, at: impl Fn(u16) -> u16) -> u16 {
 }
 
 /// A node as it is, over the new numbers.
-pub fn same_form(b: &mut Builder, node: &Node, at: impl Fn(u16) -> u16) -> u16 {
+fn same_form(b: &mut Builder, node: &Node, at: impl Fn(u16) -> u16) -> u16 {
     b.node(match node.clone() {
         Node::Not(x) => Node::Not(at(x)),
         Node::Output(name, x) => Node::Output(name, at(x)),

@@ -1,7 +1,4 @@
 //! The families of vector lines: pairs, reads, replays; each deterministic by its seed.
-use crate::cell_checks;
-use crate::cell_pairs::{cell_pairs, cell_reads, cell_replays, cell_searches, identities};
-use crate::cells;
 use crate::check::{prove, NOT_EQUIVALENT};
 use crate::clocks;
 use crate::dense::{dense, Dense};
@@ -9,7 +6,7 @@ use crate::earliest;
 use crate::limited;
 use crate::meter::Wish;
 use crate::pair::{cost, trace_need, Lent, SCORES, WORDS};
-use crate::random::{changed, design, design_with, interface, register_names, Cells, ClockRead, Size};
+use crate::random::{changed, design, interface, register_names, ClockRead, Size};
 use crate::record::{encode, Design, Name};
 use crate::reads;
 use crate::refusals;
@@ -41,7 +38,7 @@ impl Pair {
     }
 
     /// The depth lowered until refusal 23 does not apply.
-    pub fn fitted(mut self) -> Self {
+    fn fitted(mut self) -> Self {
         while self.depth > 1 && cost(&self.gold, &self.gate, self.depth as u64) > 65_535 {
             self.depth -= 1;
         }
@@ -63,24 +60,19 @@ fn renaming(rng: &mut Rng) -> impl Fn(&Name) -> Name {
     }
 }
 
-/// A random pair of version 1 with one interface: changed, rewritten, or another design altogether.
+/// A random pair with one interface: changed, rewritten, or another design altogether.
 pub fn random_pair(rng: &mut Rng, size: Size, depth: usize, clock: ClockRead) -> Pair {
-    random_pair_with(rng, size, Cells::NONE, depth, clock)
-}
-
-/// The same with cells.
-pub fn random_pair_with(rng: &mut Rng, size: Size, cells: Cells, depth: usize, clock: ClockRead) -> Pair {
     let registers = rng.below(size.registers + 1);
     let interface = interface(rng, size, registers > 0, clock);
     let names = register_names(rng, registers);
     let gates = rng.below(size.gates + 1);
-    let gold = design_with(rng, &interface, &names, gates, cells);
+    let gold = design(rng, &interface, &names, gates);
     let gate = match rng.below(5) {
         0 => {
             let other = register_names(rng, registers);
             let gates = rng.below(size.gates + 1);
             let chosen = if rng.one_in(2) { &names } else { &other };
-            design_with(rng, &interface, chosen, gates, cells)
+            design(rng, &interface, chosen, gates)
         }
         1 | 2 => changed(rng, &gold, interface.clock_read),
         3 => {
@@ -348,13 +340,13 @@ fn buffers(rng: &mut Rng, count: usize, clock: ClockRead) -> Vec<String> {
 }
 
 /// The bytes of a claim at random, of the right length.
-pub fn random_claim(rng: &mut Rng, pair: &Pair, cycle: usize) -> Vec<u8> {
+fn random_claim(rng: &mut Rng, pair: &Pair, cycle: usize) -> Vec<u8> {
     let length = usize::try_from(trace_need(&pair.gold, cycle as u64)).expect("a claim is short");
     (0..length).map(|_| u8::from(rng.one_in(2))).collect()
 }
 
 /// A claim changed: a bit turned, a byte that is no bit, a byte more or fewer.
-pub fn damaged_claim(rng: &mut Rng, claim: &[u8]) -> Vec<u8> {
+fn damaged_claim(rng: &mut Rng, claim: &[u8]) -> Vec<u8> {
     let mut claim = claim.to_vec();
     let place = rng.below(claim.len().max(1));
     match rng.below(6) {
@@ -415,10 +407,9 @@ fn under(rng: &mut Rng, count: usize, clock: ClockRead) -> Vec<String> {
 }
 
 /// The names of the families.
-pub const FAMILIES: [&str; 37] = [
+pub const FAMILIES: [&str; 31] = [
     "cases", "pairs", "small", "rewritten", "deep", "late", "hard", "rescale", "giveup", "limits", "buffers", "refusals", "sides", "replays", "refused-replays", "reads",
-    "listed", "cuts", "changes", "long", "names", "wire-bytes", "under", "limited", "earliest", "solve", "dense", "rows", "feedback", "sums", "clocks", "cells", "cell-pairs",
-    "cell-reads", "cell-replays", "cell-searches", "identities",
+    "listed", "cuts", "changes", "long", "names", "wire-bytes", "under", "limited", "earliest", "solve", "dense", "rows", "feedback", "sums", "clocks",
 ];
 
 /// The lines of a family, without answers; random designs seldom read their clock.
@@ -445,9 +436,6 @@ pub fn generate_reading(family: &str, count: usize, seed: u64, clock: ClockRead)
         "long" => reads::long(clock),
         "limited" => limited::limited(rng, count, clock),
         "earliest" => earliest::earliest(rng, count, clock),
-        "cell-pairs" => cell_pairs(rng, count, clock),
-        "cell-reads" => cell_reads(rng, count, clock),
-        "cell-replays" => cell_replays(rng, count, clock.chosen()),
         _ => without_random_clocks(family, rng, count),
     };
     lines.truncate(count);
@@ -472,9 +460,6 @@ fn without_random_clocks(family: &str, rng: &mut Rng, count: usize) -> Vec<Strin
         "feedback" => feedback(),
         "sums" => sums(),
         "clocks" => clocks::clocks(),
-        "identities" => identities(rng, count),
-        "cell-searches" => cell_searches(rng, count),
-        "cells" => [cells::reads(), cell_checks::checks(), cell_checks::replays()].concat(),
         "solve" => (0..count).map(|_| solving::random_problem(rng)).collect(),
         _ => panic!("no family {family}; there are {}", FAMILIES.join(", ")),
     }

@@ -4,9 +4,6 @@ include!(concat!(env!("OUT_DIR"), "/struo.rs"));
 
 pub mod asserts;
 pub mod bridge;
-pub mod cell_checks;
-pub mod cell_pairs;
-pub mod cells;
 pub mod check;
 pub mod clocks;
 pub mod dense;
@@ -21,7 +18,6 @@ pub mod reads;
 pub mod record;
 pub mod refusals;
 pub mod rewrite;
-pub mod rewrite_cells;
 pub mod rng;
 pub mod run;
 pub mod shapes;

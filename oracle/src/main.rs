@@ -69,7 +69,6 @@ fn assert(count: usize, seed: u64) -> ExitCode {
     println!("{} checks under limits; give-ups in queries 0 to 4, at depth 1 and deeper: {:?}; {} proved cycles searched exhaustively", summary.limited, summary.given_up, summary.searched);
     println!("earliest cycle: {} pairs differ in cycle 0, {} of them in cycle 1 without the mode; query 0 learned most in {} others", summary.at_once, summary.earlier, summary.first_most);
     println!("least cycles searched exhaustively: {} by states, {} by input sequences", summary.least, summary.sequences);
-    println!("cells: {} pairs of which a side has some, {} cycles in which the graph shows what the plain run does", summary.with_cells, summary.graphs);
     println!("clock: {} designs run on two sequences that differ in its bits alone, {} traces with its bytes 0", summary.two_clocks, summary.clock_columns);
     println!("deepest {}, most learned {}, {} failures", summary.deepest, summary.most_learned, summary.failures.len());
     ExitCode::from(u8::from(!summary.failures.is_empty()))

@@ -1,7 +1,7 @@
 //! The refusals of a pair: 16 to 25, and 36.
 use crate::bridge;
 use crate::meter::LEARNED_LIMIT;
-use crate::record::{read, Cell, CellKind, Design, Name, Node, Refusal};
+use crate::record::{read, Design, Name, Node, Refusal};
 use crate::steps::{BITS, GATE_BITS};
 
 /// The lengths of a check's lent buffers.
@@ -21,7 +21,7 @@ fn refused(number: u8, side: u8, place: usize) -> Result<(), Refusal> {
     Err(Refusal { number, side, place })
 }
 
-/// Both records through 15, 26 to 28 and 30, gold wholly first.
+/// Both records through 15 and 30, gold wholly first.
 pub fn read_pair(gold: &[u8], gate: &[u8]) -> Result<(Design, Design), Refusal> {
     let gold = read(gold)?;
     let gate = read(gate).map_err(|refusal| Refusal { side: 1, ..refusal })?;
@@ -70,15 +70,6 @@ fn interfaces(gold: &Design, gate: &Design) -> Result<(), Refusal> {
     unreset(gate, 1)
 }
 
-/// What a cell adds to each cycle of the sum of refusal 23.
-fn cell_nodes(cell: &Cell) -> u64 {
-    let width = cell.width() as u64;
-    match cell.kind {
-        CellKind::Add | CellKind::Subtract => 11 * width,
-        CellKind::Multiply => 12 * width * width,
-    }
-}
-
 /// The sum of refusal 23.
 pub fn cost(gold: &Design, gate: &Design, depth: u64) -> u64 {
     let count = |number: usize| number as u64;
@@ -86,9 +77,8 @@ pub fn cost(gold: &Design, gate: &Design, depth: u64) -> u64 {
     let outputs = count(gold.output_names().len());
     let nodes = count(gold.nodes.len() + gate.nodes.len());
     let registers = count(gold.registers.len() + gate.registers.len());
-    let cells: u64 = gold.cells.iter().chain(&gate.cells).map(cell_nodes).sum();
     let frame = inputs + 3 * nodes + 10 * registers + 4 * outputs + 1;
-    (depth + 1) * (frame + cells) + registers
+    (depth + 1) * frame + registers
 }
 
 /// The trace bytes that refusal 24 asks for.

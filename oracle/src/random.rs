@@ -1,7 +1,6 @@
 //! Random designs of all shapes, and designs changed in one place.
-use crate::record::{Cell, CellKind, Design, Enable, Name, Node, Register, Reset, Version};
+use crate::record::{Design, Enable, Name, Node, Register, Reset};
 use crate::rng::Rng;
-use crate::shapes::numbered;
 
 /// How often generated designs read an Input that clocks their registers: like any other Input, so in one pair of twelve and else not, or not at all.
 #[derive(Clone, Copy, Debug, Eq, PartialEq)]
@@ -88,46 +87,6 @@ pub struct Size {
     pub gates: usize,
 }
 
-/// How many cells a random design has at most, how wide they are at most, and how wide a Multiply is.
-#[derive(Clone, Copy, Debug)]
-pub struct Cells {
-    pub count: usize,
-    pub width: usize,
-    pub product: usize,
-}
-
-impl Cells {
-    /// No cells: designs of version 1.
-    pub const NONE: Self = Self { count: 0, width: 0, product: 0 };
-
-    /// A kind and a width, small ones often.
-    fn shape(self, rng: &mut Rng) -> (CellKind, usize) {
-        let kind = *rng.pick(&CellKind::ALL);
-        let widest = if kind == CellKind::Multiply { self.product } else { self.width };
-        let most = if rng.one_in(3) { widest } else { widest.min(3) };
-        (kind, rng.range(1, most))
-    }
-
-    /// Cells whose numbers are still to be drawn; their outputs together are a part of what a design can hold.
-    fn drawn(self, rng: &mut Rng) -> Vec<Cell> {
-        const OUTPUTS: usize = 400;
-        if self.count == 0 {
-            return Vec::new();
-        }
-        let mut shapes: Vec<(CellKind, usize)> = Vec::new();
-        for _ in 0..rng.below(self.count + 1) {
-            let shape = self.shape(rng);
-            if shapes.iter().map(|(_, width)| width).sum::<usize>() + shape.1 <= OUTPUTS {
-                shapes.push(shape);
-            }
-        }
-        let few = names(rng, shapes.len().min(POOL.len()));
-        let named = |place: usize| few.get(place).cloned().unwrap_or_else(|| numbered("cell", place));
-        let empty = |(place, (kind, width)): (usize, (CellKind, usize))| Cell { name: named(place), kind, left: vec![], right: vec![], carry: None, outputs: vec![0; width] };
-        shapes.into_iter().enumerate().map(empty).collect()
-    }
-}
-
 /// Names whose byte order differs from their numbers' order, short and of 32 bytes.
 const POOL: [&str; 20] = [
     "a", "b", "c", "e", "a1", "a10", "a2", "A", "Z", "~", "!", "_x", "clk", "rst", "y", "q", "in[3]", "0", "ab",
@@ -165,25 +124,15 @@ enum Item {
     State,
     Constant,
     Gate,
-    /// A cell's output, by the cell's number and the place in its list.
-    CellOutput(usize, usize),
-}
-
-impl Item {
-    /// Whether it needs an earlier node.
-    fn reads(&self) -> bool {
-        matches!(self, Self::Gate | Self::Output(_) | Self::CellOutput(..))
-    }
 }
 
 /// The items of a design in random order, sources mostly first.
-fn items(rng: &mut Rng, interface: &Interface, registers: usize, gates: usize, cells: &[Cell]) -> Vec<Item> {
+fn items(rng: &mut Rng, interface: &Interface, registers: usize, gates: usize) -> Vec<Item> {
     let mut sources: Vec<Item> = interface.inputs.iter().cloned().map(Item::Input).collect();
     sources.extend(std::iter::repeat(Item::State).take(registers));
     sources.extend(std::iter::repeat(Item::Constant).take(rng.below(2)));
     let mut sinks: Vec<Item> = interface.outputs.iter().cloned().map(Item::Output).collect();
     sinks.extend(std::iter::repeat(Item::Gate).take(gates));
-    sinks.extend(cells.iter().enumerate().flat_map(|(cell, own)| (0..own.width()).map(move |place| Item::CellOutput(cell, place))));
     rng.shuffle(&mut sources);
     rng.shuffle(&mut sinks);
     if rng.one_in(2) {
@@ -209,26 +158,17 @@ fn gate(rng: &mut Rng, readable: Readable) -> Node {
     }
 }
 
-/// The numbers that a cell reads, over the nodes made before its first output.
-fn draw_operands(rng: &mut Rng, cell: &mut Cell, readable: Readable) {
-    let mut numbers = || (0..cell.width()).map(|_| readable.recent(rng)).collect::<Vec<u16>>();
-    (cell.left, cell.right) = (numbers(), numbers());
-    if cell.kind == CellKind::Add && rng.one_in(2) {
-        cell.carry = Some(readable.recent(rng));
-    }
-}
-
-/// The items as nodes; what needs an earlier node waits for one, and has a Constant to read where that is the clock alone, which it must not read. A cell reads what stands before the
-/// first of its outputs that is placed.
-fn place(rng: &mut Rng, items: Vec<Item>, clock: Option<&Name>, cells: &mut [Cell]) -> Vec<Node> {
+/// The items as nodes; what needs an earlier node waits for one, and has a Constant to read where that is the clock alone, which it must not read.
+fn place(rng: &mut Rng, items: Vec<Item>, clock: Option<&Name>) -> Vec<Node> {
     let mut nodes: Vec<Node> = Vec::new();
     let (ready, waiting): (Vec<Item>, Vec<Item>) = {
-        let first = items.iter().position(|item| !item.reads()).unwrap_or(items.len());
+        let first = items.iter().position(|item| !matches!(item, Item::Gate | Item::Output(_))).unwrap_or(items.len());
         (items[first..].to_vec(), items[..first].to_vec())
     };
     for item in ready.into_iter().chain(waiting) {
         let kept = clock.and_then(|name| input_place(&nodes, name));
-        if item.reads() && Readable::below(nodes.len(), kept).count() == 0 {
+        let reads = matches!(item, Item::Gate | Item::Output(_));
+        if reads && Readable::below(nodes.len(), kept).count() == 0 {
             nodes.push(Node::Constant(rng.one_in(2)));
         }
         let readable = Readable::below(nodes.len(), kept);
@@ -238,13 +178,6 @@ fn place(rng: &mut Rng, items: Vec<Item>, clock: Option<&Name>, cells: &mut [Cel
             Item::Constant => Node::Constant(rng.one_in(2)),
             Item::Gate => gate(rng, readable),
             Item::Output(name) => Node::Output(name, readable.recent(rng)),
-            Item::CellOutput(cell, place) => {
-                if cells[cell].left.is_empty() {
-                    draw_operands(rng, &mut cells[cell], readable);
-                }
-                cells[cell].outputs[place] = u16::try_from(nodes.len()).expect("a design is small");
-                Node::ArithmeticOutput
-            }
         });
     }
     nodes
@@ -265,21 +198,14 @@ fn register(rng: &mut Rng, name: Name, readable: Readable, output: u16, clock: u
     Register { name, output, data, clock, falling, enable, reset: Some(reset(rng, readable, output)) }
 }
 
-/// A random design with these ports and registers, of version 1.
+/// A random design with these ports and registers.
 pub fn design(rng: &mut Rng, interface: &Interface, registers: &[Name], gates: usize) -> Design {
-    design_with(rng, interface, registers, gates, Cells::NONE)
-}
-
-/// A random design with these ports and registers, and cells; a design that has none of them may be of either version.
-pub fn design_with(rng: &mut Rng, interface: &Interface, registers: &[Name], gates: usize, cells: Cells) -> Design {
-    let version = if cells.count > 0 && rng.one_in(2) { Version::Two } else { Version::One };
-    let mut cells = cells.drawn(rng);
-    let mut items = items(rng, interface, registers.len(), gates, &cells);
+    let mut items = items(rng, interface, registers.len(), gates);
     if interface.inputs.is_empty() && registers.is_empty() && !items.is_empty() {
         items.insert(0, Item::Constant);
     }
     let kept = interface.clock.as_ref().filter(|_| !interface.clock_read);
-    let nodes = place(rng, items, kept, &mut cells);
+    let nodes = place(rng, items, kept);
     let readable = Readable::below(nodes.len(), kept.and_then(|name| input_place(&nodes, name)));
     let number = |place: usize| u16::try_from(place).expect("a design is small");
     let mut states: Vec<u16> = (0..nodes.len()).filter(|place| nodes[*place] == Node::RegisterOutput).map(number).collect();
@@ -291,8 +217,7 @@ pub fn design_with(rng: &mut Rng, interface: &Interface, registers: &[Name], gat
         .map(|(name, output)| register(rng, name.clone(), readable, output, number(clock.expect("a clock")), interface.falling))
         .collect();
     let name = if rng.one_in(4) { b"design_with_a_name_of_32_bytes_x".to_vec() } else { b"g".to_vec() };
-    rng.shuffle(&mut cells);
-    Design { version: if cells.is_empty() { version } else { Version::Two }, name, nodes, registers, cells }
+    Design { name, nodes, registers }
 }
 
 /// A gate of another kind or with another operand.
@@ -331,34 +256,11 @@ fn changed_register(rng: &mut Rng, design: &mut Design, place: usize, kept: Opti
     register.name.truncate(32);
 }
 
-/// A cell changed in one place: another kind, the operands exchanged, another number read, a carry more or none, two outputs exchanged.
-fn changed_cell(rng: &mut Rng, cell: &mut Cell, kept: Option<usize>) {
-    let readable = Readable::below(usize::from(cell.lowest()), kept);
-    if readable.count() == 0 {
-        return;
-    }
-    let (place, other) = (rng.below(cell.width()), rng.below(cell.width()));
-    match rng.below(6) {
-        0 => cell.kind = *rng.pick(&CellKind::ALL),
-        1 => std::mem::swap(&mut cell.left, &mut cell.right),
-        2 => cell.left[place] = readable.recent(rng),
-        3 => cell.right[place] = readable.recent(rng),
-        4 => cell.carry = if cell.carry.is_some() { None } else { Some(readable.recent(rng)) },
-        _ => cell.outputs.swap(place, other),
-    }
-    if cell.kind != CellKind::Add {
-        cell.carry = None;
-    }
-}
-
 /// A design of one clock changed in one place, and its registers' order perhaps; no reading of the clock is added unless it may be read.
 pub fn changed(rng: &mut Rng, design: &Design, clock_read: bool) -> Design {
     let mut other = design.clone();
     let kept = design.registers.first().filter(|_| !clock_read).map(|register| usize::from(register.clock));
-    if !other.cells.is_empty() && rng.one_in(2) {
-        let place = rng.below(other.cells.len());
-        changed_cell(rng, &mut other.cells[place], kept);
-    } else if !other.registers.is_empty() && rng.one_in(2) {
+    if !other.registers.is_empty() && rng.one_in(2) {
         let place = rng.below(other.registers.len());
         changed_register(rng, &mut other, place, kept);
     } else if !other.nodes.is_empty() {

@@ -21,7 +21,7 @@ pub fn random_design(rng: &mut Rng, size: Size, clock: ClockRead) -> Design {
 }
 
 /// One field of a design changed to some number, so that one of 7 to 15 may apply.
-pub fn damaged(rng: &mut Rng, mut design: Design) -> Design {
+fn damaged(rng: &mut Rng, mut design: Design) -> Design {
     let count = design.nodes.len();
     let number = |rng: &mut Rng| u16::try_from(if rng.one_in(6) { rng.below(65_536) } else { rng.below(count + 2) }).expect("two bytes");
     let any = number(rng);
@@ -46,7 +46,7 @@ pub fn damaged(rng: &mut Rng, mut design: Design) -> Design {
             Node::Input(own) => Node::Input(name.unwrap_or(own)),
             Node::Output(own, from) => if rng.one_in(2) { Node::Output(name.unwrap_or(own), from) } else { Node::Output(own, any) },
             Node::Constant(_) => Node::RegisterOutput,
-            Node::RegisterOutput | Node::ArithmeticOutput => Node::Constant(true),
+            Node::RegisterOutput => Node::Constant(true),
             Node::Not(_) => Node::Not(any),
             Node::And(a, _) => Node::And(a, any),
             Node::Or(_, b) => Node::Or(any, b),

@@ -1,4 +1,4 @@
-//! The record of the specification: its design, its reader with refusals 1 to 15, 26 to 28 and 30, and its writer.
+//! The record of the specification: its design, its reader with refusals 1 to 15 and 30, and its writer.
 use std::collections::HashSet;
 
 /// A name's bytes.
@@ -18,7 +18,6 @@ pub enum Node {
     Input(Name),
     Constant(bool),
     RegisterOutput,
-    ArithmeticOutput,
     Not(u16),
     Output(Name, u16),
     And(u16, u16),
@@ -31,7 +30,7 @@ impl Node {
     /// The numbers of its input nodes, in order.
     pub fn inputs(&self) -> Vec<u16> {
         match self {
-            Node::Input(_) | Node::Constant(_) | Node::RegisterOutput | Node::ArithmeticOutput => vec![],
+            Node::Input(_) | Node::Constant(_) | Node::RegisterOutput => vec![],
             Node::Not(a) | Node::Output(_, a) => vec![*a],
             Node::And(a, b) | Node::Or(a, b) | Node::Xor(a, b) => vec![*a, *b],
             Node::Mux(a, b, c) => vec![*a, *b, *c],
@@ -75,78 +74,12 @@ pub struct Register {
     pub reset: Option<Reset>,
 }
 
-/// What a cell computes.
-#[derive(Clone, Copy, Debug, Eq, PartialEq)]
-pub enum CellKind {
-    Add,
-    Subtract,
-    Multiply,
-}
-
-impl CellKind {
-    /// The kinds in the order of their bytes, 0 to 2.
-    pub const ALL: [Self; 3] = [Self::Add, Self::Subtract, Self::Multiply];
-
-    /// Its byte.
-    fn byte(self) -> u8 {
-        self as u8
-    }
-}
-
-/// An arithmetic cell; left, right and output numbers are as many as its width, lowest bit first.
-#[derive(Clone, Debug, Eq, PartialEq)]
-pub struct Cell {
-    pub name: Name,
-    pub kind: CellKind,
-    pub left: Vec<u16>,
-    pub right: Vec<u16>,
-    pub carry: Option<u16>,
-    pub outputs: Vec<u16>,
-}
-
-impl Cell {
-    /// Its width.
-    pub fn width(&self) -> usize {
-        self.outputs.len()
-    }
-
-    /// The numbers that it reads: left, right, carry.
-    pub fn operands(&self) -> Vec<u16> {
-        self.left.iter().chain(&self.right).chain(&self.carry).copied().collect()
-    }
-
-    /// Its lowest output number.
-    pub fn lowest(&self) -> u16 {
-        *self.outputs.iter().min().expect("a cell has an output")
-    }
-}
-
-/// The version of a record: 2 has cells behind the registers, and ArithmeticOutput nodes.
-#[derive(Clone, Copy, Debug, Default, Eq, PartialEq)]
-pub enum Version {
-    #[default]
-    One,
-    Two,
-}
-
-impl Version {
-    /// Its byte.
-    pub fn byte(self) -> u8 {
-        match self {
-            Self::One => 1,
-            Self::Two => 2,
-        }
-    }
-}
-
-/// A design, and the version of its record.
+/// A design.
 #[derive(Clone, Debug, Default, Eq, PartialEq)]
 pub struct Design {
-    pub version: Version,
     pub name: Name,
     pub nodes: Vec<Node>,
     pub registers: Vec<Register>,
-    pub cells: Vec<Cell>,
 }
 
 impl Design {
@@ -167,12 +100,6 @@ impl Design {
     /// The register with this output node.
     pub fn register_of(&self, node: usize) -> Option<usize> {
         self.registers.iter().position(|register| usize::from(register.output) == node)
-    }
-
-    /// The cell that lists this node among its outputs, and the node's place in that list.
-    pub fn cell_of(&self, node: usize) -> Option<(usize, usize)> {
-        let place = |cell: &Cell| cell.outputs.iter().position(|output| usize::from(*output) == node);
-        self.cells.iter().enumerate().find_map(|(number, cell)| place(cell).map(|bit| (number, bit)))
     }
 }
 
@@ -242,10 +169,10 @@ impl Cursor<'_> {
         Ok(count)
     }
 
-    /// A node of a version, after this many Inputs and Outputs.
-    fn node(&mut self, version: Version, inputs: usize, outputs: usize) -> Result<Node, Refusal> {
+    /// A node, after this many Inputs and Outputs.
+    fn node(&mut self, inputs: usize, outputs: usize) -> Result<Node, Refusal> {
         let place = self.at;
-        let kind = self.code(kinds(version))?;
+        let kind = self.code(&[0x00, 0x01, 0x02, 0x10, 0x11, 0x20, 0x21, 0x22, 0x30])?;
         if kind == 0x00 && inputs == 64 || kind == 0x11 && outputs == 64 {
             return refused(6, place);
         }
@@ -253,7 +180,6 @@ impl Cursor<'_> {
             0x00 => Node::Input(self.name()?),
             0x01 => Node::Constant(self.code(&[0, 1])? == 1),
             0x02 => Node::RegisterOutput,
-            0x03 => Node::ArithmeticOutput,
             0x10 => Node::Not(self.number()?),
             0x11 => Node::Output(self.name()?, self.number()?),
             0x20 => Node::And(self.number()?, self.number()?),
@@ -283,34 +209,7 @@ impl Cursor<'_> {
         };
         Ok(Register { name, output, data, clock, falling, enable, reset })
     }
-
-    /// So many numbers.
-    fn numbers(&mut self, count: u8) -> Result<Vec<u16>, Refusal> {
-        (0..count).map(|_| self.number()).collect()
-    }
-
-    /// A cell.
-    fn cell(&mut self) -> Result<Cell, Refusal> {
-        let name = self.name()?;
-        let kind = CellKind::ALL[usize::from(self.code(&[0, 1, 2])?)];
-        let width = self.code(&WIDTHS)?;
-        let (left, right) = (self.numbers(width)?, self.numbers(width)?);
-        let carries: &[u8] = if kind == CellKind::Add { &[0, 1] } else { &[0] };
-        let carry = if self.code(carries)? == 1 { Some(self.number()?) } else { None };
-        Ok(Cell { name, kind, left, right, carry, outputs: self.numbers(width)? })
-    }
 }
-
-/// The listed kinds of nodes.
-fn kinds(version: Version) -> &'static [u8] {
-    match version {
-        Version::One => &[0x00, 0x01, 0x02, 0x10, 0x11, 0x20, 0x21, 0x22, 0x30],
-        Version::Two => &[0x00, 0x01, 0x02, 0x03, 0x10, 0x11, 0x20, 0x21, 0x22, 0x30],
-    }
-}
-
-/// The listed widths of cells.
-const WIDTHS: [u8; 16] = [1, 2, 3, 4, 5, 6, 7, 8, 9, 10, 11, 12, 13, 14, 15, 16];
 
 /// Refusals 1 to 6: the design that the bytes hold.
 pub fn parse(bytes: &[u8]) -> Result<Design, Refusal> {
@@ -321,27 +220,20 @@ pub fn parse(bytes: &[u8]) -> Result<Design, Refusal> {
     if length as usize != bytes.len() {
         return refused(1, 0);
     }
-    let version = match bytes[0] {
-        1 => Version::One,
-        2 => Version::Two,
-        _ => return refused(2, 0),
-    };
+    if bytes[0] != 1 {
+        return refused(2, 0);
+    }
     let mut cursor = Cursor { bytes, at: 5 };
-    let mut design = Design { version, name: cursor.name()?, ..Design::default() };
+    let mut design = Design { name: cursor.name()?, ..Design::default() };
     let (mut inputs, mut outputs) = (0, 0);
     for _ in 0..cursor.count(1_024)? {
-        let node = cursor.node(version, inputs, outputs)?;
+        let node = cursor.node(inputs, outputs)?;
         inputs += usize::from(matches!(node, Node::Input(_)));
         outputs += usize::from(matches!(node, Node::Output(_, _)));
         design.nodes.push(node);
     }
     for _ in 0..cursor.count(128)? {
         design.registers.push(cursor.register()?);
-    }
-    if version == Version::Two {
-        for _ in 0..cursor.count(64)? {
-            design.cells.push(cursor.cell()?);
-        }
     }
     if cursor.at < bytes.len() {
         return refused(3, cursor.at);
@@ -399,49 +291,13 @@ fn register_reads(register: &Register, number: u16) -> bool {
     register.data == number || register.enable.is_some_and(|enable| enable.signal == number) || register.reset.is_some_and(|reset| reset.signal == number)
 }
 
-/// The nodes of a kind without inputs and names.
-fn nodes_of(design: &Design, kind: Node) -> Vec<usize> {
-    (0..design.nodes.len()).filter(|number| design.nodes[*number] == kind).collect()
-}
-
-/// Refusal 13: the lowest RegisterOutput node without a register.
-fn connection_refusal(design: &Design) -> Result<(), Refusal> {
-    match nodes_of(design, Node::RegisterOutput).into_iter().find(|number| design.register_of(*number).is_none()) {
-        Some(number) => refused(13, number),
-        None => Ok(()),
-    }
-}
-
-/// Refusals 26 to 28, by cell.
-pub fn cell_refusal(design: &Design) -> Result<(), Refusal> {
-    let (mut names, mut taken) = (HashSet::new(), HashSet::new());
-    for (number, cell) in design.cells.iter().enumerate() {
-        if !names.insert(&cell.name) {
-            return refused(26, number);
-        }
-        for output in &cell.outputs {
-            if design.nodes.get(usize::from(*output)) != Some(&Node::ArithmeticOutput) || !taken.insert(*output) {
-                return refused(27, number);
-            }
-        }
-        if cell.operands().iter().any(|operand| *operand >= cell.lowest()) {
-            return refused(28, number);
-        }
-    }
-    Ok(())
-}
-
-/// Refusal 27 of a node: the lowest ArithmeticOutput node that no cell lists.
-fn unlisted_refusal(design: &Design) -> Result<(), Refusal> {
-    match nodes_of(design, Node::ArithmeticOutput).into_iter().find(|number| design.cell_of(*number).is_none()) {
-        Some(number) => refused(27, number),
-        None => Ok(()),
-    }
-}
-
-/// Refusal 14, by node, then 15, by register.
+/// Refusals 13 and 14, by node, then 15, by register.
 fn state_refusal(design: &Design) -> Result<(), Refusal> {
-    for number in nodes_of(design, Node::RegisterOutput) {
+    let states: Vec<usize> = (0..design.nodes.len()).filter(|number| design.nodes[*number] == Node::RegisterOutput).collect();
+    if let Some(number) = states.iter().find(|number| design.register_of(**number).is_none()) {
+        return refused(13, *number);
+    }
+    for number in states {
         let register = &design.registers[design.register_of(number).expect("every state has a register")];
         if register.reset.is_some_and(|reset| reset.asynchronous && usize::from(reset.signal) >= number) {
             return refused(14, number);
@@ -455,31 +311,27 @@ fn state_refusal(design: &Design) -> Result<(), Refusal> {
     Ok(())
 }
 
-/// Refusals 7 to 13, 26 to 28, 14 and 15 of a design.
+/// Refusals 7 to 15 of a design.
 pub fn validate(design: &Design) -> Result<(), Refusal> {
     node_refusal(design)?;
     register_refusal(design)?;
-    connection_refusal(design)?;
-    cell_refusal(design)?;
-    unlisted_refusal(design)?;
     state_refusal(design)
 }
 
-/// Refusal 30: the lowest Input that clocks a register and that a node, a register or a cell reads.
+/// Refusal 30: the lowest Input that clocks a register and that a node or a register reads.
 pub fn clock_refusal(design: &Design) -> Result<(), Refusal> {
     for number in 0..u16::try_from(design.nodes.len()).expect("a design is small") {
         let clocks = design.registers.iter().any(|register| register.clock == number);
         let by_node = design.nodes.iter().any(|node| node.inputs().contains(&number));
         let by_register = design.registers.iter().any(|register| register_reads(register, number));
-        let by_cell = design.cells.iter().any(|cell| cell.operands().contains(&number));
-        if clocks && (by_node || by_register || by_cell) {
+        if clocks && (by_node || by_register) {
             return refused(30, usize::from(number));
         }
     }
     Ok(())
 }
 
-/// The design of a record that passes 1 to 15, 26 to 28 and 30. The Rust's own checks must agree with 7 to 15 and 26 to 28; it has none for 30.
+/// The design of a record that passes 1 to 15 and 30. The Rust's own checks must agree with 7 to 15; it has none for 30.
 pub fn read(bytes: &[u8]) -> Result<Design, Refusal> {
     let design = parse(bytes)?;
     let refusal = validate(&design);
@@ -508,7 +360,6 @@ fn put_node(bytes: &mut Vec<u8>, node: &Node) {
         Node::Input(_) => 0x00,
         Node::Constant(_) => 0x01,
         Node::RegisterOutput => 0x02,
-        Node::ArithmeticOutput => 0x03,
         Node::Not(_) => 0x10,
         Node::Output(_, _) => 0x11,
         Node::And(_, _) => 0x20,
@@ -552,27 +403,12 @@ fn put_register(bytes: &mut Vec<u8>, register: &Register) {
     }
 }
 
-/// A cell, its width being how many outputs it has.
-fn put_cell(bytes: &mut Vec<u8>, cell: &Cell) {
-    put_name(bytes, &cell.name);
-    bytes.push(cell.kind.byte());
-    bytes.push(u8::try_from(cell.width()).expect("a width is a byte"));
-    cell.left.iter().chain(&cell.right).for_each(|number| put_number(bytes, *number));
-    bytes.push(u8::from(cell.carry.is_some()));
-    cell.carry.iter().chain(&cell.outputs).for_each(|number| put_number(bytes, *number));
-}
-
-/// A record with this version byte and these bytes after the length field.
-pub fn versioned(version: u8, rest: &[u8]) -> Vec<u8> {
-    let mut bytes = vec![version];
+/// A record of these bytes after the length field.
+pub fn sized(rest: &[u8]) -> Vec<u8> {
+    let mut bytes = vec![1];
     bytes.extend(u32::try_from(rest.len() + 5).expect("a record is short").to_be_bytes());
     bytes.extend(rest);
     bytes
-}
-
-/// A record of version 1 with these bytes after the length field.
-pub fn sized(rest: &[u8]) -> Vec<u8> {
-    versioned(Version::One.byte(), rest)
 }
 
 /// The record of a design.
@@ -587,11 +423,5 @@ pub fn encode(design: &Design) -> Vec<u8> {
     for register in &design.registers {
         put_register(&mut rest, register);
     }
-    if design.version == Version::Two {
-        put_number(&mut rest, u16::try_from(design.cells.len()).expect("a design is small"));
-        design.cells.iter().for_each(|cell| put_cell(&mut rest, cell));
-    } else {
-        assert!(design.cells.is_empty(), "version 1 has no cells");
-    }
-    versioned(design.version.byte(), &rest)
+    sized(&rest)
 }

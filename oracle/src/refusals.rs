@@ -3,7 +3,7 @@ use crate::families::{random_pair, Pair};
 use crate::pair::{trace_need, Lent, SCORES, WORDS};
 use crate::random::{ClockRead, Size};
 use crate::reads;
-use crate::record::{encode, read, Design, Node, Reset, Version};
+use crate::record::{encode, read, Design, Node, Reset};
 use crate::rng::Rng;
 use crate::shapes::{self, numbered, sync, Builder};
 use crate::vectors::{check_line, read_line, replay_line, unhex};
@@ -231,12 +231,11 @@ pub fn refused_checks(rng: &mut Rng, count: usize, clock: ClockRead) -> Vec<Stri
     lines
 }
 
-/// The first listed record, not of version 2, with a refusal of 1 to 15 or 30.
+/// The first listed record with a refusal of 1 to 15 or 30.
 pub fn record_with(number: u8) -> Vec<u8> {
     let faulty = [reads::listed(), reads::names()].concat().iter().find_map(|line| {
         let bytes = unhex(line.strip_prefix("read ")?);
-        let refused = read(&bytes).is_err_and(|refusal| refusal.number == number);
-        (refused && bytes.first() != Some(&Version::Two.byte())).then_some(bytes)
+        read(&bytes).is_err_and(|refusal| refusal.number == number).then_some(bytes)
     });
     faulty.expect("each refusal is listed")
 }

@@ -1,18 +1,14 @@
-//! A design rewritten into another with the same run: other gates, other cells, other order, other register names, dead logic.
+//! A design rewritten into another with the same run: other gates, other order, other register names, dead logic.
 use crate::random::{input_place, Readable};
 use crate::record::{Design, Enable, Name, Node};
-use crate::rewrite_cells::Rewritten;
 use crate::rng::Rng;
 use crate::shapes::Builder;
 
-/// The nodes that a node needs before it; a register's output needs its asynchronous reset's signal, a cell's output all that the cell reads.
+/// The nodes that a node needs before it; a register's output needs its asynchronous reset's signal.
 fn needs(design: &Design, place: usize) -> Vec<u16> {
     let mut needs = design.nodes[place].inputs();
     if let Some(register) = design.register_of(place) {
         needs.extend(design.registers[register].reset.filter(|reset| reset.asynchronous).map(|reset| reset.signal));
-    }
-    if let Some((cell, _)) = design.cell_of(place) {
-        needs.extend(design.cells[cell].operands());
     }
     needs
 }
@@ -32,7 +28,7 @@ fn order(rng: &mut Rng, design: &Design) -> Vec<usize> {
 }
 
 /// A node's bit by way of two Nots, now and then.
-pub fn twice(rng: &mut Rng, b: &mut Builder, node: u16) -> u16 {
+fn twice(rng: &mut Rng, b: &mut Builder, node: u16) -> u16 {
     if rng.one_in(6) {
         let once = b.not(node);
         b.not(once)
@@ -74,7 +70,7 @@ fn rewritten_node(rng: &mut Rng, b: &mut Builder, node: &Node, new: &[u16]) -> u
     let plain = rng.one_in(2);
     let mut at = |b: &mut Builder, old: &u16| twice(rng, b, new[usize::from(*old)]);
     match node {
-        Node::Input(_) | Node::Constant(_) | Node::RegisterOutput | Node::ArithmeticOutput => b.node(node.clone()),
+        Node::Input(_) | Node::Constant(_) | Node::RegisterOutput => b.node(node.clone()),
         Node::Not(x) => { let x = at(b, x); b.not(x) }
         Node::Output(name, x) => { let x = at(b, x); b.node(Node::Output(name.clone(), x)) }
         Node::And(x, y) => { let (x, y) = (at(b, y), at(b, x)); if plain { b.and(x, y) } else { and_by_or(b, x, y) } }
@@ -128,15 +124,10 @@ pub fn rewritten(rng: &mut Rng, design: &Design, clock_read: bool, rename: impl 
     let mut b = Builder::new("gate");
     let kept = clock_name(design).filter(|_| !clock_read);
     let mut new = vec![0; design.nodes.len()];
-    let mut cells = Rewritten::new(&design.cells);
     for place in order(rng, design) {
-        new[place] = match design.cell_of(place) {
-            Some((cell, bit)) => cells.output(rng, &mut b, cell, bit, &new),
-            None => rewritten_node(rng, &mut b, &design.nodes[place], &new),
-        };
+        new[place] = rewritten_node(rng, &mut b, &design.nodes[place], &new);
         dead(rng, &mut b, kept);
     }
-    cells.list(rng, &mut b, design.version);
     let at = |old: u16| new[usize::from(old)];
     for register in &design.registers {
         let mut other = register.clone();

@@ -2,7 +2,7 @@
 use std::collections::HashMap;
 
 use crate::pair::{read_pair, replay_refusal};
-use crate::record::{Cell, CellKind, Design, Name, Node, Refusal};
+use crate::record::{Design, Name, Node, Refusal};
 
 /// A cycle's bits by input name.
 pub type Inputs = HashMap<Name, bool>;
@@ -21,10 +21,6 @@ pub fn values(design: &Design, inputs: &Inputs, stored: &[bool]) -> Vec<bool> {
             Node::Input(name) => inputs[name],
             Node::Constant(value) => *value,
             Node::RegisterOutput => shown(design, number, &bits, stored),
-            Node::ArithmeticOutput => {
-                let (cell, bit) = design.cell_of(number).expect("every such node has a cell");
-                result(&design.cells[cell], &bits) >> bit & 1 == 1
-            }
             Node::Not(a) => !at(a),
             Node::Output(_, a) => at(a),
             Node::And(a, b) => at(a) && at(b),
@@ -34,19 +30,6 @@ pub fn values(design: &Design, inputs: &Inputs, stored: &[bool]) -> Vec<bool> {
         });
     }
     bits
-}
-
-/// A cell's result, modulo 2 to its width, from the bits of the nodes below its outputs.
-pub fn result(cell: &Cell, bits: &[bool]) -> u64 {
-    let number = |nodes: &[u16]| nodes.iter().rev().fold(0, |high, node| 2 * high + u64::from(bits[usize::from(*node)]));
-    let (left, right) = (number(&cell.left), number(&cell.right));
-    let carry = cell.carry.map_or(0, |node| u64::from(bits[usize::from(node)]));
-    let modulus = 1 << cell.width();
-    match cell.kind {
-        CellKind::Add => (left + right + carry) % modulus,
-        CellKind::Subtract => (modulus + left - right) % modulus,
-        CellKind::Multiply => left * right % modulus,
-    }
 }
 
 /// What a RegisterOutput node shows: the stored bit, or the reset value while an asynchronous reset is asserted.

@@ -1,5 +1,5 @@
 //! Designs with a purpose: the specification's cases, rows, counters, feedback shift registers, adders, multipliers.
-use crate::record::{Cell, CellKind, Design, Enable, Name, Node, Register, Reset, Version};
+use crate::record::{Design, Enable, Name, Node, Register, Reset};
 
 /// A design in the making.
 #[derive(Clone, Debug)]
@@ -73,19 +73,6 @@ impl Builder {
     /// A register clocked by node 0 with a synchronous reset to 0 from node 1.
     pub fn reset0(&mut self, name: &str, output: u16, data: u16) {
         self.register(name, output, data, sync(1, false));
-    }
-
-    /// A cell of these operands, and its ArithmeticOutput nodes, lowest bit first.
-    pub fn cell(&mut self, name: &str, kind: CellKind, left: &[u16], right: &[u16], carry: Option<u16>) -> Vec<u16> {
-        let outputs: Vec<u16> = left.iter().map(|_| self.node(Node::ArithmeticOutput)).collect();
-        self.listed(Cell { name: name.into(), kind, left: left.to_vec(), right: right.to_vec(), carry, outputs: outputs.clone() });
-        outputs
-    }
-
-    /// A cell more, whose nodes stand already; the record is of version 2.
-    pub fn listed(&mut self, cell: Cell) {
-        self.design.version = Version::Two;
-        self.design.cells.push(cell);
     }
 
     /// The bits of a conjunction over these nodes, each inverted where `ones` has no bit.
@@ -170,14 +157,6 @@ pub fn constant_zero() -> Design {
     let mut b = Builder::new("g");
     b.input("clk");
     b.input("rst");
-    let zero = b.constant(false);
-    b.output("y", zero);
-    b.design
-}
-
-/// The same with an Input e more.
-pub fn constant_zero_with_e() -> Design {
-    let (mut b, _) = clocked();
     let zero = b.constant(false);
     b.output("y", zero);
     b.design
@@ -319,14 +298,9 @@ impl Feedback {
     }
 }
 
-/// The sum of two rows of bits, as wide as the first; none is 0.
+/// The sum of two rows of bits, as wide as the first; none is 0. The carry of a full adder is a majority, or by way of the half sum.
 fn added(b: &mut Builder, lhs: &[Option<u16>], rhs: &[Option<u16>], majority: bool) -> Vec<Option<u16>> {
-    summed(b, lhs, rhs, None, majority)
-}
-
-/// The sum of two rows of bits and a carry, as wide as the first; none is 0. The carry of a full adder is a majority, or by way of the half sum.
-pub fn summed(b: &mut Builder, lhs: &[Option<u16>], rhs: &[Option<u16>], carry: Option<u16>, majority: bool) -> Vec<Option<u16>> {
-    let mut carry = carry;
+    let mut carry = None;
     let mut sums = Vec::new();
     for (x, y) in lhs.iter().zip(rhs) {
         let bits: Vec<u16> = [*x, *y, carry].into_iter().flatten().collect();

@@ -16,7 +16,7 @@ __all__ = [
 
 
 def read(record: bytes) -> ReadAnswer:
-    """Reads a design record: accepted, or the first refusal of 1 to 15, 26 to 28 and 30."""
+    """Reads a design record: accepted, or the first refusal of 1 to 15, then 30."""
     return open_library().read(record)
 
 

@@ -1,55 +1,79 @@
-"""The arithmetic cells of a design: what they show, what they take of the sum that refusal 23 limits, and the first one at fault."""
+"""The cells of yosys' internal gate library that a record can hold: gates as nodes, and flip-flops as registers."""
 from __future__ import annotations
 
-from typing import List, Optional, Sequence, Set, Tuple
+import re
+from dataclasses import dataclass
+from typing import Callable, Dict, Optional, Tuple
 
-from .record import Cell, Design, Kind, Operation
+from .record import Kind
 
-
-def _number(bits: Sequence[int]) -> int:
-    """The number of these bits, lowest first."""
-    return sum(bit << place for place, bit in enumerate(bits))
-
-
-def result(cell: Cell, values: Sequence[int]) -> List[int]:
-    """The bits that a cell's outputs show, lowest first, from the values of the nodes below them."""
-    left, right = (_number([values[node] for node in nodes]) for nodes in (cell.left, cell.right))
-    carry = 0 if cell.carry is None else values[cell.carry]
-    total = {Operation.ADD: left + right + carry, Operation.SUBTRACT: left - right, Operation.MULTIPLY: left * right}[cell.operation]
-    return [total >> place & 1 for place in range(cell.width)]
+# Makes a node of a kind from the nodes that it reads, and answers its number.
+Make = Callable[..., int]
+Gate = Tuple[Tuple[str, ...], Callable[..., int]]
 
 
-def cycle_sum(design: Design) -> int:
-    """What the cells take of refusal 23's sum for each cycle: 11w an Add or Subtract of width w, 12w² a Multiply."""
-    return sum(12 * cell.width ** 2 if cell.operation is Operation.MULTIPLY else 11 * cell.width for cell in design.cells)
+def _and_or(outer: Kind, inner: Kind) -> Callable[..., int]:
+    """An inverted gate of a pair and one more pin, or of two pairs."""
+    def made(make: Make, *pins: int) -> int:
+        """The nodes for three or four pins."""
+        rest = pins[2] if len(pins) == 3 else make(inner, pins[2], pins[3])
+        return make(Kind.NOT, make(outer, make(inner, pins[0], pins[1]), rest))
+    return made
 
 
-def reads(cell: Cell) -> List[Tuple[str, int]]:
-    """The nodes that a cell reads, each with its pin."""
-    pins = [(f"left {place}", node) for place, node in enumerate(cell.left)]
-    pins += [(f"right {place}", node) for place, node in enumerate(cell.right)]
-    return pins + ([] if cell.carry is None else [("carry", cell.carry)])
+# The input pins of each gate, and its nodes; every gate's output pin is Y.
+GATES: Dict[str, Gate] = {
+    "$_BUF_": (("A",), lambda make, a: a),
+    "$_NOT_": (("A",), lambda make, a: make(Kind.NOT, a)),
+    "$_AND_": (("A", "B"), lambda make, a, b: make(Kind.AND, a, b)),
+    "$_OR_": (("A", "B"), lambda make, a, b: make(Kind.OR, a, b)),
+    "$_XOR_": (("A", "B"), lambda make, a, b: make(Kind.XOR, a, b)),
+    "$_NAND_": (("A", "B"), lambda make, a, b: make(Kind.NOT, make(Kind.AND, a, b))),
+    "$_NOR_": (("A", "B"), lambda make, a, b: make(Kind.NOT, make(Kind.OR, a, b))),
+    "$_XNOR_": (("A", "B"), lambda make, a, b: make(Kind.NOT, make(Kind.XOR, a, b))),
+    "$_ANDNOT_": (("A", "B"), lambda make, a, b: make(Kind.AND, a, make(Kind.NOT, b))),
+    "$_ORNOT_": (("A", "B"), lambda make, a, b: make(Kind.OR, a, make(Kind.NOT, b))),
+    "$_MUX_": (("S", "B", "A"), lambda make, s, b, a: make(Kind.MUX, s, b, a)),
+    "$_NMUX_": (("S", "B", "A"), lambda make, s, b, a: make(Kind.NOT, make(Kind.MUX, s, b, a))),
+    "$_AOI3_": (("A", "B", "C"), _and_or(Kind.OR, Kind.AND)),
+    "$_OAI3_": (("A", "B", "C"), _and_or(Kind.AND, Kind.OR)),
+    "$_AOI4_": (("A", "B", "C", "D"), _and_or(Kind.OR, Kind.AND)),
+    "$_OAI4_": (("A", "B", "C", "D"), _and_or(Kind.AND, Kind.OR)),
+}
+
+# Cells that say nothing of what a design does.
+IGNORED = ("$scopeinfo",)
 
 
-def wrong_output(design: Design, number: int) -> Optional[int]:
-    """The place of a cell's first output that is no ArithmeticOutput node or was listed before."""
-    listed: Set[int] = {node for cell in design.cells[:number] for node in cell.outputs}
-    for place, node in enumerate(design.cells[number].outputs):
-        if node >= len(design.nodes) or design.nodes[node].kind is not Kind.ARITHMETIC_OUTPUT or node in listed:
-            return place
-        listed.add(node)
-    return None
+@dataclass(frozen=True)
+class FlipFlop:
+    """A kind of flip-flop: its edge, its enable's level, and its reset."""
+
+    falling: bool
+    enable_low: Optional[bool]
+    reset_low: Optional[bool]
+    reset_value: int
+    asynchronous: bool
+    enable_first: bool
+
+    @property
+    def pins(self) -> Tuple[str, ...]:
+        """The input pins."""
+        return ("D", "C") + (("E",) if self.enable_low is not None else ()) + (("R",) if self.reset_low is not None else ())
 
 
-def late_operand(cell: Cell) -> Optional[Tuple[str, int]]:
-    """A cell's first operand that is not below its lowest output, with its pin."""
-    return next(((pin, node) for pin, node in reads(cell) if node >= min(cell.outputs)), None)
+# $_DFF_P_, $_DFFE_PN_, $_DFF_PN0_, $_DFFE_PN0P_, $_SDFF_PP1_, $_SDFFE_PP0P_, $_SDFFCE_PP0P_
+_FLIP_FLOP = re.compile(r"\$_(S?)DFF(C?)(E?)_([NP])(?:([NP])([01]))?([NP])?_")
 
 
-def faulty(design: Design) -> Optional[int]:
-    """The first cell that refusal 26, 27 or 28 is for: one with an earlier cell's name, a wrong output or a late operand."""
-    for number, cell in enumerate(design.cells):
-        repeated = any(other.name == cell.name for other in design.cells[:number])
-        if repeated or wrong_output(design, number) is not None or late_operand(cell):
-            return number
-    return None
+def flip_flop(kind: str) -> Optional[FlipFlop]:
+    """The flip-flop of a cell's type; none where it is no edge-triggered flip-flop with at most one reset and one enable."""
+    found = _FLIP_FLOP.fullmatch(kind)
+    if found is None:
+        return None
+    synchronous, first, enabled, edge, reset, value, enable = found.groups()
+    fits = bool(enabled) == bool(enable) and (not synchronous or bool(reset)) and (not first or bool(synchronous and enabled))
+    if not fits:
+        return None
+    return FlipFlop(edge == "N", enable == "N" if enable else None, reset == "N" if reset else None, int(value or 0),
+                    bool(reset) and not synchronous, bool(first))

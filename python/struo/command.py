@@ -23,7 +23,7 @@ from .report import CheckReport, accepted_words, names, outputs_words, refusal_j
 from .show import show, show_json
 from .text import listed, shown
 from .trace import Difference, Disagreement, claim_text, parse_claim, replayed, trace_lines
-from .version import RECORD_VERSIONS, VERSION
+from .version import VERSION
 from .waveform import vcd
 from .yosys import Unconvertible, convert
 
@@ -183,7 +183,7 @@ def version_command(options: argparse.Namespace) -> Exit:
     if options.json:
         output.answer(json.dumps(made))
     else:
-        output.answer(f"struo {VERSION}, record versions {RECORD_VERSIONS}, library {shown(made['library'])} with SHA-256 {made['library_sha256']}")
+        output.answer(f"struo {VERSION}, record version {made['record']}, library {shown(made['library'])} with SHA-256 {made['library_sha256']}")
     return Exit.YES
 
 

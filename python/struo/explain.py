@@ -6,10 +6,9 @@ from typing import Callable, Dict, List, Optional, Tuple
 
 from . import record as form
 from .answers import LEARNED_LIMIT, Refusal, Side
-from .cells import faulty, late_operand, reads, wrong_output
-from .pair import LARGEST_DEPTH, Clock, clocks, fitting_words, only_clock, proof_sum
+from .pair import LARGEST_DEPTH, Clock, clocks, largest_depth, only_clock, proof_sum
 from .record import Design, Kind, Register, decode, field_at
-from .refusals import BY_NUMBER, CELL, CELL_OR_NODE, NODE, OFFSET, REGISTER
+from .refusals import BY_NUMBER, OFFSET, NODE, NONE
 from .text import counted, listed, shown
 
 WORDS_NEEDED = 8_388_608
@@ -42,47 +41,34 @@ class Question:
 def explain(refusal: Refusal, question: Question) -> str:
     """The refusal in words, without its number: `gate: register s[0] has no reset`."""
     words = _WORDS[refusal.number](refusal, question)
-    its_own = refusal.number <= 15 or refusal.number in (20, 22, 26, 27, 28, 30)
+    its_own = refusal.number <= 15 or refusal.number in (20, 22, 30)
     side = f"{refusal.side.word}: " if its_own and question.gate is not None else ""
     return side + words
 
 
-def place_kind(refusal: Refusal, question: Optional[Question] = None) -> Optional[str]:
-    """What a refusal's place is: of 27 a cell where the walk over the record's cells finds one at fault, else a node, and either without the record."""
-    place = BY_NUMBER[refusal.number].place
-    if place == CELL_OR_NODE:
-        return "cell or node" if question is None else "node" if faulty(question.design(refusal.side)) is None else "cell"
-    return {OFFSET: "byte", NODE: "node", REGISTER: "register", CELL: "cell"}.get(place)
-
-
-def reference(refusal: Refusal, question: Optional[Question] = None) -> str:
+def reference(refusal: Refusal) -> str:
     """The refusal's number and name, and its place: `22 UnknownInitialState, register 0`."""
-    row, kind = BY_NUMBER[refusal.number], place_kind(refusal, question)
-    return f"{row.number} {row.name}" + (f", {kind} {refusal.place}" if kind else "")
+    row = BY_NUMBER[refusal.number]
+    if row.place == NONE:
+        return f"{row.number} {row.name}"
+    kind = {OFFSET: "byte", NODE: "node"}.get(row.place, "register")
+    return f"{row.number} {row.name}, {kind} {refusal.place}"
 
 
 def node_words(design: Design, number: int) -> str:
-    """A node with its kind, and the name of its port, register or cell."""
+    """A node with its kind, and the name of its port or register."""
     if number >= len(design.nodes):
         return f"node {number}, which there is not"
     node = design.nodes[number]
     if node.kind is Kind.REGISTER_OUTPUT:
         register = design.register_of(number)
         return f"node {number} (RegisterOutput{'' if register is None else ' of ' + shown(design.registers[register].name)})"
-    if node.kind is Kind.ARITHMETIC_OUTPUT:
-        found = design.cell_outputs().get(number)
-        return f"node {number} (ArithmeticOutput{'' if found is None else ' of ' + shown(found[0].name)})"
     return f"node {number} ({node.kind.word}{' ' + shown(node.name) if node.name else ''})"
 
 
 def register_words(design: Design, number: int) -> str:
     """A register with its name."""
     return f"register {shown(design.registers[number].name)}"
-
-
-def cell_words(design: Design, number: int) -> str:
-    """A cell with its number and its name."""
-    return f"cell {number} '{shown(design.cells[number].name)}'"
 
 
 def _length(refusal: Refusal, question: Question) -> str:
@@ -98,7 +84,7 @@ def _length(refusal: Refusal, question: Question) -> str:
 
 def _version(refusal: Refusal, question: Question) -> str:
     """2: the version byte."""
-    return f"byte 0, the version, is {question.record(refusal.side)[0]} and neither 1 nor 2"
+    return f"byte 0, the version, is {question.record(refusal.side)[0]} and not 1"
 
 
 def _field(refusal: Refusal, question: Question) -> str:
@@ -113,7 +99,7 @@ def _cut(refusal: Refusal, question: Question) -> str:
     found = field_at(record, refusal.place)
     left = len(record) - refusal.place
     if found and found.what.startswith("what follows"):
-        return f"byte {refusal.place}: {counted(left, 'byte')} {'remains' if left == 1 else 'remain'} after {found.what.replace('what follows ', '')}"
+        return f"byte {refusal.place}: {counted(left, 'byte')} remain after the last register"
     needed = f"{counted(found.length, 'byte')} long" if found else "cut"
     return f"{_field(refusal, question)} runs past the end: it is {needed}, and {left} remain"
 
@@ -122,16 +108,8 @@ def _code(refusal: Refusal, question: Question) -> str:
     """4: the byte, and the values that are listed for its field."""
     record = question.record(refusal.side)
     found = field_at(record, refusal.place)
-    return f"{_field(refusal, question)} is {record[refusal.place]:02x}, and the listed {_values(found.listed if found else ())} (hex)"
-
-
-def _values(listed_values: Tuple[int, ...]) -> str:
-    """Listed values in hex, a long row of neighbours by its ends."""
-    told = [f"{value:02x}" for value in listed_values]
-    if len(told) == 1:
-        return f"value is {told[0]}"
-    row = len(told) > 3 and listed_values[-1] - listed_values[0] == len(told) - 1
-    return f"values are {f'{told[0]} to {told[-1]}' if row else ', '.join(told)}"
+    values = ", ".join(f"{value:02x}" for value in found.listed) if found else "its list"
+    return f"{_field(refusal, question)} is {record[refusal.place]:02x}, and the listed values are {values} (hex)"
 
 
 def _name(refusal: Refusal, question: Question) -> str:
@@ -151,7 +129,7 @@ def _count(refusal: Refusal, question: Question) -> str:
     found = field_at(record, refusal.place)
     if found and found.length == 2:
         number = int.from_bytes(record[refusal.place:refusal.place + 2], "big")
-        most = {"the node count": form.MOST_NODES, "the register count": form.MOST_REGISTERS, "the cell count": form.MOST_CELLS}[found.what]
+        most = form.MOST_NODES if "node" in found.what else form.MOST_REGISTERS
         return f"{_field(refusal, question)} is {number:,}, over {most:,}"
     return f"{_field(refusal, question)} begins a 65th {Kind(record[refusal.place]).word}"
 
@@ -217,36 +195,6 @@ def _unconnected(refusal: Refusal, question: Question) -> str:
     return f"{node_words(question.design(refusal.side), refusal.place)} has no register"
 
 
-def _duplicate_cell(refusal: Refusal, question: Question) -> str:
-    """26: the two cells of one name."""
-    design = question.design(refusal.side)
-    name = design.cells[refusal.place].name
-    first = next(number for number, cell in enumerate(design.cells) if cell.name == name)
-    return f"{cell_words(design, refusal.place)} repeats the name of cell {first}"
-
-
-def _cell_output(refusal: Refusal, question: Question) -> str:
-    """27: the cell, and its output that is no such node or is taken; or the node without a cell."""
-    design, number = question.design(refusal.side), refusal.place
-    if place_kind(refusal, question) == "node":
-        return f"{node_words(design, number)} has no cell"
-    place = wrong_output(design, number) or 0
-    node = design.cells[number].outputs[place]
-    what = f"output {place} of {cell_words(design, number)} is {node_words(design, node)}"
-    if node >= len(design.nodes) or design.nodes[node].kind is not Kind.ARITHMETIC_OUTPUT:
-        return f"{what}, and no ArithmeticOutput"
-    earlier = next(other for other, cell in enumerate(design.cells) if node in cell.outputs)
-    return f"{what}, which {'it lists twice' if earlier == number else cell_words(design, earlier) + ' lists already'}"
-
-
-def _cell_operand(refusal: Refusal, question: Question) -> str:
-    """28: the cell, its first operand that is too late, and its lowest output."""
-    design = question.design(refusal.side)
-    cell = design.cells[refusal.place]
-    pin, node = late_operand(cell) or ("left 0", cell.left[0])
-    return f"{pin} of {cell_words(design, refusal.place)} is {node_words(design, node)}, which is not below the cell's lowest output, node {min(cell.outputs)}"
-
-
 def _late_reset(refusal: Refusal, question: Question) -> str:
     """14: the register, its reset and its output."""
     design = question.design(refusal.side)
@@ -263,14 +211,13 @@ def _clock(refusal: Refusal, question: Question) -> str:
     return f"the clock of {register_words(design, refusal.place)} is {clock}, and no Input"
 
 
-def _on_the_way(design: Design, *numbers: int) -> str:
-    """The first Output that a value of these nodes reaches through nodes, else the first register, in words; nothing for an Output itself."""
-    if design.nodes[numbers[0]].kind is Kind.OUTPUT:
+def _on_the_way(design: Design, number: int) -> str:
+    """The first Output that a node's value reaches through nodes, else the first register, in words; nothing for an Output itself."""
+    if design.nodes[number].kind is Kind.OUTPUT:
         return ""
-    reached, outputs = set(numbers), design.cell_outputs()
+    reached = {number}
     for later, node in enumerate(design.nodes):
-        operands = [net for _, net in reads(outputs[later][0])] if node.kind is Kind.ARITHMETIC_OUTPUT else node.inputs
-        if reached.intersection(operands):
+        if reached.intersection(node.inputs):
             if node.kind is Kind.OUTPUT:
                 return f", on the way to output {shown(node.name)},"
             reached.add(later)
@@ -285,9 +232,7 @@ def _clock_read(refusal: Refusal, question: Question) -> str:
     """30: the first that reads the clock, the clock with the register that it clocks, and what can stand in its place."""
     design, clock = question.design(refusal.side), refusal.place
     nodes = [number for number, node in enumerate(design.nodes) if clock in node.inputs]
-    pins = [f"{pin} of {cell_words(design, number)}{_on_the_way(design, *cell.outputs)}"
-            for number, cell in enumerate(design.cells) for pin, net in reads(cell) if net == clock]
-    pins += [f"the {what} of register {shown(register.name)}" for register in design.registers for what, net in _read_by(register) if net == clock]
+    pins = [f"the {what} of register {shown(register.name)}" for register in design.registers for what, net in _read_by(register) if net == clock]
     first = node_words(design, nodes[0]) + _on_the_way(design, nodes[0]) if nodes else pins[0]
     others = len(nodes) + len(pins) - 1
     more = f"; {others} more {'reads' if others == 1 else 'read'} it" if others else ""
@@ -355,7 +300,7 @@ def _too_large(refusal: Refusal, question: Question) -> str:
     """23: the sum, and the largest depth that fits."""
     gold, gate = question.design(Side.GOLD), question.design(Side.GATE)
     taken = proof_sum(gold, gate, question.depth)
-    return f"at depth {question.depth} the pair takes {taken:,} of 65,535; {fitting_words(gold, gate)}"
+    return f"at depth {question.depth} the pair takes {taken:,} of 65,535; the largest depth that fits is {largest_depth(gold, gate)}"
 
 
 def _memory(refusal: Refusal, question: Question) -> str:
@@ -389,5 +334,5 @@ _WORDS: Dict[int, Callable[[Refusal, Question], str]] = {
     1: _length, 2: _version, 3: _cut, 4: _code, 5: _name, 6: _count, 7: _undefined_net, 8: _duplicate_port, 9: _duplicate_register,
     10: _register_output, 11: _multiple_drivers, 12: _register_net, 13: _unconnected, 14: _late_reset, 15: _clock, 16: _zero_depth,
     17: _depth_limit, 18: _interface(Kind.INPUT), 19: _interface(Kind.OUTPUT), 20: _many_clocks, 21: _clock_domain, 22: _no_reset,
-    23: _too_large, 24: _memory, 25: _claim, 26: _duplicate_cell, 27: _cell_output, 28: _cell_operand, 30: _clock_read, 36: _learned_limit,
+    23: _too_large, 24: _memory, 25: _claim, 30: _clock_read, 36: _learned_limit,
 }

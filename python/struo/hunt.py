@@ -23,7 +23,7 @@ def renamed(gold: Design, gate: Design) -> Design:
     """Gate with other register names, none of which gold has: a run does not depend on them."""
     prefix = _free_prefix({register.name for register in gold.registers})
     registers = [replace(register, name=prefix + str(number).encode()) for number, register in enumerate(gate.registers)]
-    return replace(gate, registers=registers)
+    return Design(gate.name, gate.nodes, registers)
 
 
 def _free_prefix(taken: Set[bytes]) -> bytes:

@@ -135,29 +135,29 @@ class Library:
         return getattr(self._calls, call)(*flat)
 
     def read(self, record: bytes) -> ReadAnswer:
-        """Reads a design record: accepted, or the first refusal of 1 to 15, 26 to 28 and 30."""
+        """Reads a design record: accepted, or the first refusal of 1 to 15, then 30."""
         return ReadAnswer(_refusal(self._ask("struo_read", record=record)))
 
     def replay(self, gold: bytes, gate: bytes, cycle: int, claim: bytes) -> ReplayAnswer:
-        """Replays a claimed trace: a refusal of 1 to 15, 18 to 22, 25 to 28 or 30, or yes or no."""
+        """Replays a claimed trace: a refusal of 1 to 15, 18 to 22, 25 or 30, or yes or no."""
         answer = self._ask("struo_replay", gold=gold, gate=gate, cycle=_number(cycle), claim=claim)
         return ReplayAnswer(_refusal(answer), bool(answer.yes))
 
     def begin(self, gold: bytes, gate: bytes, position: Position = Position()) -> BeginAnswer:
-        """Sets a position before cycle 0: a refusal of 1 to 15, 18 to 22, 24, 26 to 28 or 30, or the position with the initial bits."""
+        """Sets a position before cycle 0: a refusal of 1 to 15, 18 to 22, 24 or 30, or the position with the initial bits."""
         lent = _Lent(position)
         answer = self._ask("struo_begin", gold=gold, gate=gate, position=lent.position, bits=lent.bits)
         return BeginAnswer(_refusal(answer), lent.after())
 
     def step(self, gold: bytes, gate: bytes, cycle: int, claim: bytes, position: Position) -> StepAnswer:
-        """Moves a position on by one cycle of a claimed trace: a refusal of 1 to 15, 18 to 22, 24 to 28 or 30, or yes or no and the next position."""
+        """Moves a position on by one cycle of a claimed trace: a refusal of 1 to 15, 18 to 22, 24, 25 or 30, or yes or no and the next position."""
         lent = _Lent(position)
         answer = self._ask("struo_step", gold=gold, gate=gate, cycle=_number(cycle), claim=claim, position=lent.position, bits=lent.bits)
         return StepAnswer(_refusal(answer), bool(answer.yes), lent.after())
 
     def check(self, gold: bytes, gate: bytes, depth: int, limit: int = LEARNED_LIMIT, earliest: bool = False, memory: Optional[Memory] = None) -> CheckAnswer:
         """Checks a pair to a maximum depth, under a limit of learned literals for each query, in the mode of the earliest cycle or without it: a refusal of 1 to
-        24, 26 to 28, 30 or 36, or a verdict."""
+        24 or 36, or a verdict."""
         if memory is None:
             memory = self._memory = self._memory or Memory()
         memory.unwrite()

@@ -1,12 +1,11 @@
-"""A module lowered to a design: each node after those that it reads, each flip-flop as a register, and arithmetic as cells while these have room."""
+"""A module lowered to a design: each node after those that it reads, and each flip-flop as a register."""
 from __future__ import annotations
 
 from typing import Dict, List, Optional, Set, Tuple
 
-from .arithmetic import by_gates
-from .gates import GATES, FlipFlop
-from .netlist import Arithmetic, Bit, Element, Module, Unconvertible, fitted
-from .record import MOST_CELLS, WIDEST_CELL, Cell, Design, Enable, Kind, Node, Register, Reset
+from .cells import GATES, FlipFlop
+from .netlist import Bit, Cell, Module, Unconvertible, fitted
+from .record import Design, Enable, Kind, Node, Register, Reset
 from .text import listed, shown
 
 
@@ -19,9 +18,8 @@ class Lowering:
         self.design = Design(fitted(module.name))
         self.numbers: Dict[Bit, int] = {}
         self.made: Dict[Tuple[Kind, Tuple[int, ...], int], int] = {}
-        self.states = {element.pins["Q"]: (element, kind) for element, kind in module.registers}
+        self.states = {cell.pins["Q"]: (cell, kind) for cell, kind in module.registers}
         self.shortened: List[bytes] = []
-        self.made_of_gates: List[str] = []
 
     def node(self, node: Node) -> int:
         """One more node."""
@@ -43,12 +41,10 @@ class Lowering:
         return self.made[key]
 
     def before(self, bit: Bit) -> List[Bit]:
-        """The nets whose nodes come before a net's: a gate's pins, all operands of arithmetic, or an asynchronous reset."""
+        """The nets whose nodes come before a net's: a gate's pins, or an asynchronous reset."""
         if bit in self.states:
-            element, kind = self.states[bit]
-            return [element.pins["R"]] if kind.asynchronous else []
-        if bit in self.module.arithmetic:
-            return [*self.module.arithmetic[bit].left, *self.module.arithmetic[bit].right]
+            cell, kind = self.states[bit]
+            return [cell.pins["R"]] if kind.asynchronous else []
         gate = self.module.gates.get(bit) if isinstance(bit, int) else None
         return [gate.pins[pin] for pin in GATES[gate.kind][0]] if gate else []
 
@@ -71,22 +67,18 @@ class Lowering:
         return self.numbers[bit]
 
     def loop(self, way: List[Bit]) -> None:
-        """Gates or arithmetic that read each other, or an asynchronous reset that its own register drives."""
-        logic = {**self.module.gates, **self.module.arithmetic}
-        names = [self.states[bit][0].name if bit in self.states else logic[bit].name for bit in way]  # type: ignore[index]
-        raise Unconvertible(f"the cells {listed(dict.fromkeys(names))} form a loop without a clock edge")
+        """Gates that read each other, or an asynchronous reset that its own register drives."""
+        cells = [self.states[bit][0].name if bit in self.states else self.module.gates[bit].name for bit in way]  # type: ignore[index]
+        raise Unconvertible(f"the cells {listed(cells)} form a loop without a clock edge")
 
     def emit(self, bit: Bit, reader: str) -> int:
         """The node of a net whose needs are there."""
         if bit in self.states:
             return self.node(Node(Kind.REGISTER_OUTPUT))
-        if isinstance(bit, int) and bit in self.module.arithmetic:
-            self.arithmetic(self.module.arithmetic[bit])
-            return self.numbers[bit]
         if isinstance(bit, int) and bit in self.module.gates:
-            gate = self.module.gates[bit]
-            pins, make = GATES[gate.kind]
-            return make(self.make, *(self.numbers[gate.pins[pin]] for pin in pins))
+            cell = self.module.gates[bit]
+            pins, make = GATES[cell.kind]
+            return make(self.make, *(self.numbers[cell.pins[pin]] for pin in pins))
         if bit in ("0", "1"):
             return self.constant(int(bit))
         if bit == "z" or self.unknown is None:
@@ -96,41 +88,21 @@ class Lowering:
         return self.constant(int(self.unknown))
 
     def reader_of(self, bit: Bit) -> Optional[str]:
-        """A gate or arithmetic that reads a net."""
-        found = [gate.name for gate in self.module.gates.values() if bit in gate.pins.values()]
-        found += [word.name for word in self.module.arithmetic.values() if bit in word.left + word.right]
-        return f"cell {shown(found[0])}" if found else None
+        """A gate that reads a net."""
+        return next((f"cell {shown(cell.name)}" for cell in self.module.gates.values() if bit in cell.pins.values()), None)
 
-    def arithmetic(self, word: Arithmetic) -> None:
-        """The nodes of all outputs of arithmetic: as a cell, or by gates where it is too wide or the cells are used up."""
-        left, right = (tuple(self.numbers[bit] for bit in bits) for bits in (word.left, word.right))
-        if len(word.outputs) <= WIDEST_CELL and len(self.design.cells) < MOST_CELLS:
-            outputs = [self.node(Node(Kind.ARITHMETIC_OUTPUT)) for _ in word.outputs]
-            self.design.cells.append(Cell(self.cell_name(word.name), word.operation, left, right, tuple(outputs)))
-        else:
-            outputs = by_gates(word.operation, left, right, self.make, self.constant)
-            self.made_of_gates.append(word.name)
-        self.numbers.update((bit, number) for bit, number in zip(word.outputs, outputs) if isinstance(bit, int))
-
-    def cell_name(self, name: str) -> bytes:
-        """A cell's name as a record holds it, which no other cell has."""
-        taken = {cell.name for cell in self.design.cells}
-        while fitted(name) in taken:
-            name += "'"
-        return fitted(name)
-
-    def register(self, element: Element, kind: FlipFlop) -> None:
+    def register(self, cell: Cell, kind: FlipFlop) -> None:
         """A flip-flop as a register."""
-        nets = {pin: self.number(element.pins[pin], f"cell {shown(element.name)}") for pin in kind.pins}
+        nets = {pin: self.number(cell.pins[pin], f"cell {shown(cell.name)}") for pin in kind.pins}
         enable = None if kind.enable_low is None else Enable(nets["E"], kind.enable_low)
         reset = None
         if kind.reset_low is not None:
             reset = Reset(nets["R"], kind.reset_low, kind.asynchronous, kind.reset_value)
         if kind.enable_first:
             reset = Reset(self.make(Kind.AND, self.level(nets["R"], kind.reset_low), self.level(nets["E"], kind.enable_low)), False, False, kind.reset_value)
-        output = element.pins["Q"]
+        output = cell.pins["Q"]
         assert isinstance(output, int)
-        name = self.module.names.of(output, element.name)
+        name = self.module.names.of(output, cell.name)
         reset = self.initial(name, reset, self.module.names.initial.get(output))
         short = fitted(name)
         if short != name.encode("utf-8"):
@@ -158,10 +130,10 @@ class Lowering:
         for bit in self.states:
             if not self.before(bit):
                 self.number(bit, "")
-        for element, _ in self.module.registers:
-            self.number(element.pins["Q"], f"cell {shown(element.name)}")
-        for element, kind in self.module.registers:
-            self.register(element, kind)
+        for cell, _ in self.module.registers:
+            self.number(cell.pins["Q"], f"cell {shown(cell.name)}")
+        for cell, kind in self.module.registers:
+            self.register(cell, kind)
         for bit, name in self.module.outputs:
             read = self.number(bit, f"output {shown(name)}")
             self.node(Node(Kind.OUTPUT, name, inputs=(read,)))

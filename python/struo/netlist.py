@@ -1,13 +1,12 @@
-"""A module of a netlist that yosys wrote with write_json: its ports, gates, flip-flops and arithmetic, and the names of its nets. What yosys calls a cell is an
-element here: a cell is one of a record."""
+"""A module of a netlist that yosys wrote with write_json: its ports, gates and flip-flops, and the names of its nets."""
 from __future__ import annotations
 
 import hashlib
 from dataclasses import dataclass, field
-from typing import Any, Dict, Iterator, List, Sequence, Set, Tuple, Union
+from typing import Any, Dict, Iterator, List, Set, Tuple, Union
 
-from .gates import ARITHMETIC, GATES, IGNORED, FlipFlop, flip_flop
-from .record import LONGEST_NAME, NAME_BYTES, Operation
+from .cells import GATES, IGNORED, FlipFlop, flip_flop
+from .record import LONGEST_NAME, NAME_BYTES
 from .text import shown
 
 # A net of the netlist: a number, or a constant 0, 1, x or z.
@@ -19,29 +18,12 @@ class Unconvertible(Exception):
 
 
 @dataclass(frozen=True)
-class Element:
-    """A gate or a flip-flop: its name, its type and the net at each pin."""
+class Cell:
+    """A cell: its name, its type and the net at each pin."""
 
     name: str
     kind: str
     pins: Dict[str, Bit]
-
-
-@dataclass(frozen=True)
-class Arithmetic:
-    """An adder, a subtractor or a multiplier: its operands as wide as its result, lowest bit first."""
-
-    name: str
-    operation: Operation
-    left: Tuple[Bit, ...]
-    right: Tuple[Bit, ...]
-    outputs: Tuple[Bit, ...]
-
-
-def extended(bits: Sequence[Bit], width: int, signed: bool) -> Tuple[Bit, ...]:
-    """An operand as wide as the result: cut, or extended by zeros or by its sign."""
-    fill = bits[-1] if signed and bits else "0"
-    return tuple([*bits, *[fill] * width][:width])
 
 
 @dataclass
@@ -75,7 +57,7 @@ def named_bits(name: str, net: Dict[str, Any]) -> Iterator[Tuple[Bit, str]]:
 
 
 def fitted(name: str) -> bytes:
-    """A register's, cell's or design's name as a record holds it: one that does not fit is shortened to its digest and its end, alike for alike names."""
+    """A register's or design's name as a record holds it: one that does not fit is shortened to its digest and its end, alike for alike names."""
     data = name.encode("utf-8")
     if 1 <= len(data) <= LONGEST_NAME and all(byte in NAME_BYTES for byte in data):
         return data
@@ -91,23 +73,22 @@ def port_name(name: str) -> bytes:
 
 
 class Module:
-    """A module of the netlist: its ports, elements and names, with each net's driver."""
+    """A module of the netlist: its ports, cells and names, with each net's driver."""
 
     def __init__(self, name: str, module: Dict[str, Any], others: Set[str]):
         self.name = name
         self.inputs: List[Tuple[Bit, bytes]] = []
         self.outputs: List[Tuple[Bit, bytes]] = []
-        self.gates: Dict[int, Element] = {}
-        self.arithmetic: Dict[int, Arithmetic] = {}
-        self.registers: List[Tuple[Element, FlipFlop]] = []
+        self.gates: Dict[int, Cell] = {}
+        self.registers: List[Tuple[Cell, FlipFlop]] = []
         self.drivers: Dict[int, str] = {}
         self.names = Names()
         for port, described in module.get("ports", {}).items():
             self.port(port, described)
         for net, described in module.get("netnames", {}).items():
             self.net(net, described)
-        for element, described in module.get("cells", {}).items():
-            self.element(element, described, others)
+        for cell, described in module.get("cells", {}).items():
+            self.cell(cell, described, others)
 
     def port(self, name: str, port: Dict[str, Any]) -> None:
         """The bits of a port."""
@@ -131,18 +112,16 @@ class Module:
             if isinstance(bit, int) and value in "01":
                 self.names.initial[bit] = value
 
-    def element(self, name: str, element: Dict[str, Any], others: Set[str]) -> None:
-        """A gate, a flip-flop or arithmetic; anything else is said by its name."""
-        kind = element["type"]
-        if kind in ARITHMETIC:
-            self.word(name, ARITHMETIC[kind], element["connections"], element["parameters"])
-        if kind in IGNORED or kind in ARITHMETIC:
+    def cell(self, name: str, cell: Dict[str, Any], others: Set[str]) -> None:
+        """A gate or a flip-flop; any other cell is said by its name."""
+        kind = cell["type"]
+        if kind in IGNORED:
             return
-        wide = [pin for pin, bits in element["connections"].items() if len(bits) != 1]
+        wide = [pin for pin, bits in cell["connections"].items() if len(bits) != 1]
         found = flip_flop(kind)
         if (kind not in GATES and found is None) or wide:
             raise Unconvertible(f"cell {shown(name)}: {unheld(kind, others)}")
-        made = Element(name, kind, {pin: bits[0] for pin, bits in element["connections"].items()})
+        made = Cell(name, kind, {pin: bits[0] for pin, bits in cell["connections"].items()})
         output = made.pins.get("Y" if found is None else "Q")
         if not isinstance(output, int):
             return
@@ -152,17 +131,6 @@ class Module:
         else:
             self.registers.append((made, found))
 
-    def word(self, name: str, operation: Operation, pins: Dict[str, List[Bit]], parameters: Dict[str, Any]) -> None:
-        """Arithmetic: its operands are signed where both are."""
-        signed = all(int(str(parameters[pin]), 2) for pin in ("A_SIGNED", "B_SIGNED"))
-        outputs = tuple(pins["Y"])
-        left, right = (extended(pins[pin], len(outputs), signed) for pin in "AB")
-        made = Arithmetic(name, operation, left, right, outputs)
-        for place, bit in enumerate(outputs):
-            if isinstance(bit, int):
-                self.driven(bit, f"output {place} of cell {shown(name)}")
-                self.arithmetic[bit] = made
-
     def driven(self, bit: Bit, by: str) -> None:
         """A net has one driver."""
         if isinstance(bit, int) and self.drivers.setdefault(bit, by) != by:
@@ -170,7 +138,7 @@ class Module:
 
 
 def unheld(kind: str, others: Set[str]) -> str:
-    """Why a type cannot be held."""
+    """Why a cell's type cannot be held."""
     if kind in others:
         return f"it is an instance of the module {shown(kind)}; run `flatten` before write_json"
     if kind.startswith("$_"):

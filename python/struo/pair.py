@@ -4,7 +4,6 @@ from __future__ import annotations
 from dataclasses import dataclass
 from typing import Dict, List, Optional, Tuple
 
-from .cells import cycle_sum
 from .record import Design, Kind
 
 LARGEST_SUM = 65_535
@@ -12,10 +11,9 @@ LARGEST_DEPTH = 64
 
 
 def per_cycle(gold: Design, gate: Design) -> int:
-    """F + S, which a pair takes for each cycle: F = I + 3×N + 10×R + 4×O + 1, and S for the cells of both sides."""
+    """F = I + 3×N + 10×R + 4×O + 1, which a pair takes for each cycle."""
     nodes = len(gold.nodes) + len(gate.nodes)
-    cells = cycle_sum(gold) + cycle_sum(gate)
-    return len(gold.inputs) + 3 * nodes + 10 * registers_of(gold, gate) + 4 * len(gold.outputs) + 1 + cells
+    return len(gold.inputs) + 3 * nodes + 10 * registers_of(gold, gate) + 4 * len(gold.outputs) + 1
 
 
 def registers_of(gold: Design, gate: Design) -> int:
@@ -24,19 +22,13 @@ def registers_of(gold: Design, gate: Design) -> int:
 
 
 def proof_sum(gold: Design, gate: Design, depth: int) -> int:
-    """(D+1)×(F + S) + R."""
+    """(D+1)×F + R."""
     return (depth + 1) * per_cycle(gold, gate) + registers_of(gold, gate)
 
 
 def largest_depth(gold: Design, gate: Design) -> int:
-    """The largest depth whose sum fits, at most 64; 0 where none does. Without cells the largest pair of records fits to depth 6."""
-    return max(0, min(LARGEST_DEPTH, (LARGEST_SUM - registers_of(gold, gate)) // per_cycle(gold, gate) - 1))
-
-
-def fitting_words(gold: Design, gate: Design) -> str:
-    """The largest depth that fits, in words."""
-    depth = largest_depth(gold, gate)
-    return f"the largest depth that fits is {depth}" if depth else "no depth fits"
+    """The largest depth whose sum fits, at most 64; the largest pair of records fits to depth 6."""
+    return min(LARGEST_DEPTH, (LARGEST_SUM - registers_of(gold, gate)) // per_cycle(gold, gate) - 1)
 
 
 @dataclass(frozen=True)

@@ -3,15 +3,12 @@ from __future__ import annotations
 
 from dataclasses import dataclass, field
 from enum import IntEnum
-from typing import Dict, List, Optional, Tuple
+from typing import List, Optional, Tuple
 
-# The versions of the record: the first has no cells.
-PLAIN, WITH_CELLS = 1, 2
+VERSION = 1
 LONGEST_RECORD = 65_535
 MOST_NODES = 1_024
 MOST_REGISTERS = 128
-MOST_CELLS = 64
-WIDEST_CELL = 16
 MOST_PORTS = 64
 LONGEST_NAME = 32
 NAME_BYTES = range(33, 127)
@@ -23,7 +20,6 @@ class Kind(IntEnum):
     INPUT = 0x00
     CONSTANT = 0x01
     REGISTER_OUTPUT = 0x02
-    ARITHMETIC_OUTPUT = 0x03
     NOT = 0x10
     OUTPUT = 0x11
     AND = 0x20
@@ -40,24 +36,6 @@ class Kind(IntEnum):
     def input_count(self) -> int:
         """How many nodes a node of this kind reads: the high four bits of its byte."""
         return self.value // 16
-
-    @staticmethod
-    def listed(version: int) -> Tuple[Kind, ...]:
-        """The kinds that a version lists."""
-        return tuple(kind for kind in Kind if version >= WITH_CELLS or kind is not Kind.ARITHMETIC_OUTPUT)
-
-
-class Operation(IntEnum):
-    """The kind byte of a cell."""
-
-    ADD = 0
-    SUBTRACT = 1
-    MULTIPLY = 2
-
-    @property
-    def word(self) -> str:
-        """The operation as the documents write it."""
-        return self.name.capitalize()
 
 
 @dataclass(frozen=True)
@@ -101,23 +79,6 @@ class Register:
     reset: Optional[Reset] = None
 
 
-@dataclass(frozen=True)
-class Cell:
-    """An arithmetic cell: its name, its operation, and the nodes of its operands and outputs, lowest bit first."""
-
-    name: bytes
-    operation: Operation
-    left: Tuple[int, ...]
-    right: Tuple[int, ...]
-    outputs: Tuple[int, ...]
-    carry: Optional[int] = None
-
-    @property
-    def width(self) -> int:
-        """How many bits its operands and its result have."""
-        return len(self.outputs)
-
-
 @dataclass
 class Design:
     """A design: node i drives net i."""
@@ -125,7 +86,6 @@ class Design:
     name: bytes
     nodes: List[Node] = field(default_factory=list)
     registers: List[Register] = field(default_factory=list)
-    cells: List[Cell] = field(default_factory=list)
 
     def ports(self, kind: Kind) -> List[bytes]:
         """The names of the Inputs or Outputs, in byte order."""
@@ -144,14 +104,6 @@ class Design:
     def register_of(self, node: int) -> Optional[int]:
         """The number of the first register with this output node."""
         return next((number for number, register in enumerate(self.registers) if register.output == node), None)
-
-    def cell_outputs(self) -> Dict[int, Tuple[Cell, int]]:
-        """The cell of each node that a cell lists as an output, and which bit of the result it shows; of two the first."""
-        found: Dict[int, Tuple[Cell, int]] = {}
-        for cell in self.cells:
-            for place, node in enumerate(cell.outputs):
-                found.setdefault(node, (cell, place))
-        return found
 
 
 @dataclass(frozen=True)
@@ -178,7 +130,6 @@ class Decoder:
     def __init__(self, record: bytes):
         self.record = record
         self.at = 0
-        self.version = PLAIN
         self.fields: List[Field] = []
 
     def take(self, length: int, what: str, listed: Tuple[int, ...] = ()) -> bytes:
@@ -203,17 +154,14 @@ class Decoder:
         length = self.take(1, f"the length of {what}")[0]
         return self.take(length, what)
 
-    def numbers(self, count: int, what: str, where: str) -> Tuple[int, ...]:
-        """So many 2-byte numbers, each named by its place."""
-        return tuple(self.number(f"{what} number {place} of {where}") for place in range(count))
-
     def node(self, number: int) -> Node:
         """A node: kind, name or value, input numbers."""
-        kind = Kind(self.code(f"the kind of node {number}", *Kind.listed(self.version)))
+        kind = Kind(self.code(f"the kind of node {number}", *Kind))
         where = f"node {number} ({kind.word})"
         name = self.name(f"the name of {where}") if kind in (Kind.INPUT, Kind.OUTPUT) else b""
         value = self.code(f"the value of {where}", 0, 1) if kind is Kind.CONSTANT else 0
-        return Node(kind, name, value, self.numbers(kind.input_count, "input", where))
+        inputs = tuple(self.number(f"input number {place} of {where}") for place in range(kind.input_count))
+        return Node(kind, name, value, inputs)
 
     def register(self, number: int) -> Register:
         """A register: name, nets, edge, enable, reset."""
@@ -232,32 +180,17 @@ class Decoder:
             reset = Reset(signal, level == 2, asynchronous, self.code(f"the reset's value of {where}", 0, 1))
         return Register(name, output, data, clock, falling, enable, reset)
 
-    def cell(self, number: int) -> Cell:
-        """A cell: name, operation, width, operands, carry, outputs."""
-        name = self.name(f"the name of cell {number}")
-        operation = Operation(self.code(f"the kind of cell {number}", *Operation))
-        where = f"cell {number} ({operation.word})"
-        width = self.code(f"the width of {where}", *range(1, WIDEST_CELL + 1))
-        left, right = (self.numbers(width, what, where) for what in ("left", "right"))
-        carried = self.code(f"the carry of {where}", *((0, 1) if operation is Operation.ADD else (0,)))
-        carry = self.number(f"the carry's number of {where}") if carried else None
-        return Cell(name, operation, left, right, self.numbers(width, "output", where), carry)
-
     def design(self) -> Design:
         """The whole record."""
-        self.version = self.code("the version", PLAIN, WITH_CELLS)
+        self.take(1, "the version")
         self.take(4, "the length field")
         design = Design(self.name("the design's name"))
         for number in range(self.number("the node count")):
             design.nodes.append(self.node(number))
         for number in range(self.number("the register count")):
             design.registers.append(self.register(number))
-        if self.version == WITH_CELLS:
-            for number in range(self.number("the cell count")):
-                design.cells.append(self.cell(number))
         if self.at < len(self.record):
-            last = "cell" if self.version == WITH_CELLS else "register"
-            self.fields.append(Field(self.at, len(self.record) - self.at, f"what follows the last {last}"))
+            self.fields.append(Field(self.at, len(self.record) - self.at, "what follows the last register"))
             raise Undecodable(self.fields)
         return design
 
@@ -304,24 +237,8 @@ def _register(register: Register) -> bytes:
     return stored + bytes([1 + reset.active_low]) + _numbers(reset.signal) + bytes([reset.asynchronous, reset.value])
 
 
-def _cell(cell: Cell) -> bytes:
-    """A cell as it is stored."""
-    stored = _named(cell.name) + bytes([cell.operation, cell.width]) + _numbers(*cell.left, *cell.right)
-    stored += b"\0" if cell.carry is None else b"\1" + _numbers(cell.carry)
-    return stored + _numbers(*cell.outputs)
-
-
-def version_of(design: Design) -> int:
-    """The version in which a design is written: the first where it has no cell and no node of one."""
-    outputs = any(node.kind is Kind.ARITHMETIC_OUTPUT for node in design.nodes)
-    return WITH_CELLS if design.cells or outputs else PLAIN
-
-
 def encode(design: Design) -> bytes:
     """The record of a design; numbers and names have to fit their fields."""
-    version = version_of(design)
     rest = _named(design.name) + _numbers(len(design.nodes)) + b"".join(map(_node, design.nodes))
     rest += _numbers(len(design.registers)) + b"".join(map(_register, design.registers))
-    if version == WITH_CELLS:
-        rest += _numbers(len(design.cells)) + b"".join(map(_cell, design.cells))
-    return bytes([version]) + (5 + len(rest)).to_bytes(4, "big") + rest
+    return bytes([VERSION]) + (5 + len(rest)).to_bytes(4, "big") + rest

@@ -23,18 +23,17 @@ LENT, CLAIMED = "check, begin, step", "replay, step"
 
 # Whose side is named, and what the place is.
 RECORD, NEITHER, ITS = "the record's", "0", "the side at fault"
-OFFSET, NODE, REGISTER, CELL, NONE = "byte offset", "node number", "register number", "cell number", "0"
-CELL_OR_NODE = "cell number; of a node without a cell, its node number"
+OFFSET, NODE, REGISTER, NONE = "byte offset", "node number", "register number", "0"
 
-# By number, which is the checking order but for 26 to 28, 30 and 36: of each record, gold's first, 26 to 28 stand between 13 and 14, and 30 after 15; then the
-# pair, by a check with 36 between 17 and 18.
+# By number, which is the checking order but for 30 and 36: gold is checked wholly through 15 and then 30, then gate; then the pair, by a check with 36 between
+# 17 and 18.
 TABLE: Tuple[Row, ...] = (
     Row(1, "Length", ALL, "the record has under 5 or over 65,535 bytes, or its length field differs from the bytes lent", RECORD, NONE),
-    Row(2, "Version", ALL, "byte 0 is neither 1 nor 2", RECORD, NONE),
-    Row(3, "Cut", ALL, "the next field in file order runs past the end, or bytes remain after the last register, in version 2 after the last cell", RECORD, OFFSET),
+    Row(2, "Version", ALL, "byte 0 is not 1", RECORD, NONE),
+    Row(3, "Cut", ALL, "the next field in file order runs past the end, or bytes remain after the last register", RECORD, OFFSET),
     Row(4, "Code", ALL, "a byte with listed values has another one", RECORD, OFFSET),
     Row(5, "Name", ALL, "a name has length 0 or over 32, or a byte outside 33 to 126", RECORD, OFFSET),
-    Row(6, "Count", ALL, "over 1,024 nodes, over 128 registers or over 64 cells are declared, or a 65th Input or 65th Output is met", RECORD, OFFSET),
+    Row(6, "Count", ALL, "over 1,024 nodes or over 128 registers are declared, or a 65th Input or 65th Output is met", RECORD, OFFSET),
     Row(7, "UndefinedNet", ALL, "a node's input number is not below the node's own", RECORD, NODE),
     Row(8, "DuplicatePortName", ALL, "an Input or Output repeats an earlier Input's or Output's name", RECORD, NODE),
     Row(9, "DuplicateRegisterName", ALL, "a register repeats an earlier register's name", RECORD, REGISTER),
@@ -51,16 +50,11 @@ TABLE: Tuple[Row, ...] = (
     Row(20, "MultipleClockDomains", PAIR, "the registers of one side, gold first, have two clock names or edges", ITS, NONE),
     Row(21, "ClockDomain", PAIR, "clock name or edge differ between the sides, or only one side has registers", NEITHER, NONE),
     Row(22, "UnknownInitialState", PAIR, "a register has no reset; gold by name, then gate", ITS, REGISTER),
-    Row(23, "TooLarge", CHECK,
-        "(D+1)×(F + S) + R is over 65,535, where F = I + 3×N + 10×R + 4×O + 1, and S is 11×w for each Add or Subtract of width w and 12×w×w for each Multiply", NEITHER, NONE),
+    Row(23, "TooLarge", CHECK, "(D+1)×F + R is over 65,535, where F = I + 3×N + 10×R + 4×O + 1", NEITHER, NONE),
     Row(24, "Memory", LENT,
         "the trace buffer is under (D+1)×I + O bytes, or the work memory is under 8,388,608 words of 32 bits or under 65,536 f64; of a begin or a step, the bits are under 256 bytes", NEITHER, NONE),
     Row(25, "Claim", CLAIMED, "the cycle is over 64, the claim's length is not (cycle+1)×I + O, or a byte of it is neither 0 nor 1; of a step, also a register's stored bit", NEITHER, NONE),
-    Row(26, "DuplicateCellName", ALL, "a cell repeats an earlier cell's name", RECORD, CELL),
-    Row(27, "CellOutput", ALL,
-        "a cell's output number is not that of an ArithmeticOutput node or is listed before it; or an ArithmeticOutput node, the lowest such, has no cell", RECORD, CELL_OR_NODE),
-    Row(28, "CellOperand", ALL, "a cell's left, right or carry number is not below the lowest of its output numbers", RECORD, CELL),
-    Row(30, "ClockRead", ALL, "an Input that clocks a register is read by a node, a cell, or a register's data, enable or reset", RECORD, NODE),
+    Row(30, "ClockRead", ALL, "an Input that clocks a register is read by a node, or by a register's data, enable or reset", RECORD, NODE),
     Row(36, "LearnedLimit", CHECK, "the limit of learned literals is over 262,144", NEITHER, NONE),
 )
 

@@ -8,7 +8,7 @@ from dataclasses import dataclass
 from typing import Any, Dict, List, Optional
 
 from .answers import LEARNED_LIMIT, CheckAnswer, Refusal, Status
-from .explain import Question, explain, place_kind, reference
+from .explain import Question, explain, reference
 from .exits import Exit
 from .files import RecordFile
 from .hunt import Hunt
@@ -18,7 +18,7 @@ from .record import decode
 from .refusals import BY_NUMBER
 from .text import counted, either, json_text, listed, shown
 from .trace import Claim, Difference
-from .version import RECORD_VERSION, RECORD_VERSIONS, VERSION
+from .version import RECORD_VERSION, VERSION
 
 
 def versions(library: Library) -> Dict[str, Any]:
@@ -29,7 +29,7 @@ def versions(library: Library) -> Dict[str, Any]:
 
 def refusal_words(refusal: Refusal, question: Question) -> str:
     """A refusal in words with its number: `gate: register s[0] has no reset (22 UnknownInitialState, register 0)`."""
-    return f"{explain(refusal, question)} ({reference(refusal, question)})"
+    return f"{explain(refusal, question)} ({reference(refusal)})"
 
 
 def refusal_json(refusal: Optional[Refusal], question: Question) -> Optional[Dict[str, Any]]:
@@ -37,7 +37,7 @@ def refusal_json(refusal: Optional[Refusal], question: Question) -> Optional[Dic
     if refusal is None:
         return None
     return {"number": refusal.number, "name": BY_NUMBER[refusal.number].name, "side": refusal.side.word, "place": refusal.place,
-            "place_kind": place_kind(refusal, question), "words": explain(refusal, question)}
+            "words": explain(refusal, question)}
 
 
 def names(found: List[bytes]) -> List[str]:
@@ -51,7 +51,7 @@ def side_json(file: RecordFile, accepted: bool) -> Dict[str, Any]:
     if accepted:
         design = decode(file.record)
         told.update(design=design.name.decode("latin-1"), inputs=len(design.inputs), outputs=len(design.outputs), nodes=len(design.nodes),
-                    registers=len(design.registers), cells=len(design.cells))
+                    registers=len(design.registers))
     return told
 
 
@@ -274,7 +274,7 @@ class CheckReport:
         columns += [f"asked depth {self.depth}", f"depth {self.deciding.depth}"]
         for side, file in (("gold", self.gold), ("gate", self.gate)):
             columns += [f"{side} {shown(file.path)}", f"{side} SHA-256 {file.sha256 or 'none, the file is longer than a record'}"]
-        columns += [f"struo {VERSION}", f"record versions {RECORD_VERSIONS}", f"library SHA-256 {made['library_sha256']}"]
+        columns += [f"struo {VERSION}", f"record version {RECORD_VERSION}", f"library SHA-256 {made['library_sha256']}"]
         columns += [learned_words(self.answer, self.limit), f"limit {self.limit:,}", proved_words(self.answer)]
         columns += [f"earliest cycle {'asked for' if self.earliest else 'not asked for'}"]
         return "\t".join(columns) + "\n"
@@ -284,5 +284,5 @@ def accepted_words(file: RecordFile) -> str:
     """The counts of an accepted record."""
     design = decode(file.record)
     counts = (counted(len(design.inputs), "input"), counted(len(design.outputs), "output"), counted(len(design.nodes), "node"),
-              counted(len(design.registers), "register"), *([counted(len(design.cells), "cell")] if design.cells else []))
+              counted(len(design.registers), "register"))
     return f"{shown(file.path)}: design {shown(design.name)}, {', '.join(counts)}"

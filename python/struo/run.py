@@ -4,7 +4,6 @@ from __future__ import annotations
 from dataclasses import dataclass
 from typing import Dict, List, Sequence
 
-from .cells import result
 from .record import Design, Kind, Node
 
 Bits = Dict[bytes, int]
@@ -52,15 +51,10 @@ def _value(design: Design, number: int, node: Node, values: List[int], inputs: B
 
 
 def node_values(design: Design, inputs: Bits, stored: Sequence[int]) -> List[int]:
-    """The bits of all nodes in one cycle; an ArithmeticOutput shows a bit of its cell's result, whose operands all stand below it."""
+    """The bits of all nodes in one cycle."""
     values: List[int] = []
-    outputs = design.cell_outputs()
     for number, node in enumerate(design.nodes):
-        if node.kind is Kind.ARITHMETIC_OUTPUT:
-            cell, place = outputs[number]
-            values.append(result(cell, values)[place])
-        else:
-            values.append(_value(design, number, node, values, inputs, stored))
+        values.append(_value(design, number, node, values, inputs, stored))
     return values
 
 

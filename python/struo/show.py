@@ -1,27 +1,23 @@
-"""A design in readable form: ports, nodes, registers, cells, counts, and what it takes of the sum that refusal 23 limits."""
+"""A design in readable form: ports, nodes, registers, counts, and what it takes of the sum that refusal 23 limits."""
 from __future__ import annotations
 
 from typing import Any, Dict, List
 
-from .cells import cycle_sum
-from .pair import fitting_words, largest_depth, per_cycle
-from .record import Cell, Design, Kind, Node, Operation, Register
+from .pair import largest_depth, per_cycle
+from .record import Design, Kind, Node, Register
 from .text import counted, shown
 
 _SIGNS = {Kind.AND: "&", Kind.OR: "|", Kind.XOR: "^"}
 
 
 def net(design: Design, number: int) -> str:
-    """A net by its name where it has one: an Input's, a register's, or a bit of a cell's result; else by its number."""
+    """A net by its name where it has one: an Input's, or a register's; else by its number."""
     node = design.nodes[number]
     if node.kind is Kind.INPUT:
         return shown(node.name)
     if node.kind is Kind.REGISTER_OUTPUT:
         place = design.register_of(number)
         return f"n{number}" if place is None else shown(design.registers[place].name) + ".q"
-    if node.kind is Kind.ARITHMETIC_OUTPUT:
-        cell, bit = design.cell_outputs()[number]
-        return f"{shown(cell.name)}.y[{bit}]"
     return str(node.value) if node.kind is Kind.CONSTANT else f"n{number}"
 
 
@@ -32,8 +28,8 @@ def node_text(design: Design, node: Node) -> str:
         return f"{node.kind.word} {shown(node.name)}" + (f" = {read[0]}" if read else "")
     if node.kind is Kind.CONSTANT:
         return f"Constant {node.value}"
-    if node.kind in (Kind.REGISTER_OUTPUT, Kind.ARITHMETIC_OUTPUT):
-        return node.kind.word
+    if node.kind is Kind.REGISTER_OUTPUT:
+        return "RegisterOutput"
     if node.kind is Kind.NOT:
         return f"Not {read[0]}"
     if node.kind is Kind.MUX:
@@ -55,30 +51,16 @@ def register_text(design: Design, register: Register) -> str:
     return f"{shown(register.name)} (node {register.output}): {', '.join(parts)}"
 
 
-def cell_text(design: Design, cell: Cell) -> str:
-    """A cell: operation, width, operands and carry, lowest bit first."""
-    left, right = (" ".join(net(design, number) for number in numbers) for numbers in (cell.left, cell.right))
-    parts = [f"{cell.operation.word} of width {cell.width}", f"left {left}", f"right {right}"]
-    if cell.operation is Operation.ADD:
-        parts.append("no carry" if cell.carry is None else f"carry {net(design, cell.carry)}")
-    outputs = f"node{'s' if cell.width > 1 else ''} {', '.join(map(str, cell.outputs))}"
-    return f"{shown(cell.name)} ({outputs}): {', '.join(parts)}"
-
-
-def own_sum(design: Design) -> int:
-    """What the design takes of refusal 23's sum for each cycle as one side of a pair."""
-    return 3 * len(design.nodes) + 10 * len(design.registers) + cycle_sum(design)
-
-
 def size_lines(design: Design) -> List[str]:
     """The counts, and what the design takes of refusal 23's sum."""
-    nodes, registers, cells = len(design.nodes), len(design.registers), len(design.cells)
-    counts = f"{counted(len(design.inputs), 'input')}, {counted(len(design.outputs), 'output')}, {nodes:,} of 1,024 nodes, {registers} of 128 registers"
-    terms = f"3×{nodes} + 10×{registers}" + (f" + {cycle_sum(design):,} for the cells" if cells else "")
+    nodes, registers = len(design.nodes), len(design.registers)
+    own = 3 * nodes + 10 * registers
+    twice = per_cycle(design, design)
+    depth = largest_depth(design, design)
     return [
-        counts + (f", {cells} of 64 cells" if cells else ""),
-        f"of refusal 23's sum it takes {terms} = {own_sum(design):,} a cycle as one side of a pair; "
-        f"against a gate of its own size a cycle takes {per_cycle(design, design):,}, and {fitting_words(design, design)}",
+        f"{counted(len(design.inputs), 'input')}, {counted(len(design.outputs), 'output')}, {nodes:,} of 1,024 nodes, {registers} of 128 registers",
+        f"of refusal 23's sum it takes 3×{nodes} + 10×{registers} = {own:,} a cycle as one side of a pair; "
+        f"against a gate of its own size a cycle takes {twice:,}, and the largest depth that fits is {depth}",
     ]
 
 
@@ -88,16 +70,11 @@ def show(design: Design) -> str:
     lines += ["inputs: " + (" ".join(map(shown, design.inputs)) or "none"), "outputs: " + (" ".join(map(shown, design.outputs)) or "none"), "nodes:"]
     lines += [f"  {number}: {node_text(design, node)}{_of(design, number)}" for number, node in enumerate(design.nodes)]
     lines += ["registers:"] + [f"  {number}: {register_text(design, register)}" for number, register in enumerate(design.registers)]
-    if design.cells:
-        lines += ["cells, lowest bit first:"] + [f"  {number}: {cell_text(design, cell)}" for number, cell in enumerate(design.cells)]
     return "\n".join(lines)
 
 
 def _of(design: Design, number: int) -> str:
-    """The register of a RegisterOutput, or the cell and the bit of an ArithmeticOutput."""
-    if design.nodes[number].kind is Kind.ARITHMETIC_OUTPUT:
-        cell, bit = design.cell_outputs()[number]
-        return f" of {shown(cell.name)}, bit {bit}"
+    """The register of a RegisterOutput."""
     place = design.register_of(number) if design.nodes[number].kind is Kind.REGISTER_OUTPUT else None
     return "" if place is None else f" of {shown(design.registers[place].name)}"
 
@@ -115,12 +92,7 @@ def show_json(design: Design) -> Dict[str, Any]:
                              "value": one.reset.value}
         return told
 
-    def cell(one: Cell) -> Dict[str, Any]:
-        """A cell."""
-        return {"name": one.name.decode("latin-1"), "kind": one.operation.word, "width": one.width, "left": list(one.left), "right": list(one.right),
-                "carry": one.carry, "outputs": list(one.outputs)}
-
     nodes = [{"kind": node.kind.word, "name": node.name.decode("latin-1") or None, "value": node.value if node.kind is Kind.CONSTANT else None,
               "inputs": list(node.inputs)} for node in design.nodes]
     return {"design": design.name.decode("latin-1"), "nodes": nodes, "registers": [register(one) for one in design.registers],
-            "cells": [cell(one) for one in design.cells], "per_cycle": own_sum(design), "largest_depth_against_itself": largest_depth(design, design)}
+            "per_cycle": 3 * len(design.nodes) + 10 * len(design.registers), "largest_depth_against_itself": largest_depth(design, design)}

@@ -1,5 +1,4 @@
-"""The version of the front end, and the newest version of the record that it reads and writes; it reads and writes the earlier ones too."""
+"""The version of the front end, and of the record that it reads and writes."""
 
 VERSION = "0.1.0"
-RECORD_VERSION = 2
-RECORD_VERSIONS = "1 and 2"
+RECORD_VERSION = 1

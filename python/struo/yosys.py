@@ -1,4 +1,4 @@
-"""A record from a netlist of gates, flip-flops and arithmetic that yosys wrote with write_json. What a record cannot hold is said with its name."""
+"""A record from a netlist of gates and flip-flops that yosys wrote with write_json. What a record cannot hold is said with its cell's name."""
 from __future__ import annotations
 
 import json
@@ -8,7 +8,7 @@ from typing import Any, Dict, List, Optional
 from .files import Unreadable
 from .lowering import Lowering
 from .netlist import Module, Unconvertible
-from .record import MOST_CELLS, MOST_NODES, MOST_PORTS, MOST_REGISTERS, WIDEST_CELL, Design, encode
+from .record import MOST_NODES, MOST_PORTS, MOST_REGISTERS, Design, encode
 from .text import counted, listed, shown
 
 
@@ -29,20 +29,17 @@ def limits(design: Design) -> None:
         raise Unconvertible(f"the design {shown(design.name)} is too large for a record: {', '.join(over)}")
 
 
-def notes(module: Module, design: Design, short: List[bytes], made_of_gates: List[str]) -> List[str]:
-    """What a reader should know: registers without a reset, registers that start at their initial value, shortened names, arithmetic that is no cell."""
+def notes(module: Module, design: Design, short: List[bytes]) -> List[str]:
+    """What a reader should know: registers without a reset, registers that start at their initial value, shortened names."""
     found = []
     bare = [register.name for register in design.registers if register.reset is None]
     if bare:
         found.append(f"{counted(len(bare), 'register')} without a reset, which a check refuses (22): {listed(bare)}")
-    started = [element.name for element, kind in module.registers if kind.reset_low is None and element.pins["Q"] in module.names.initial]
+    started = [cell.name for cell, kind in module.registers if kind.reset_low is None and cell.pins["Q"] in module.names.initial]
     if started:
         found.append(f"{counted(len(started), 'register')} without a reset: the initial value is taken, as of a reset that is never asserted")
     if short:
         found.append(f"{counted(len(short), 'register name')} too long for a record, shortened to a digest and the name's end: {listed(short)}")
-    if made_of_gates:
-        found.append(f"{counted(len(made_of_gates), 'arithmetic cell')} made of gates, since a record has at most {MOST_CELLS} cells, each of at most {WIDEST_CELL} "
-                     f"bits: {listed(made_of_gates)}")
     return found
 
 
@@ -70,4 +67,4 @@ def convert(text: str, path: str, top: Optional[str] = None, unknown: Optional[s
     except (KeyError, TypeError, AttributeError, ValueError, IndexError, RecursionError) as error:
         raise Unreadable(f"{shown(path)} is no netlist of yosys' write_json: {type(error).__name__} {shown(str(error))}") from error
     limits(design)
-    return Converted(encode(design), notes(module, design, lowering.shortened, lowering.made_of_gates))
+    return Converted(encode(design), notes(module, design, lowering.shortened))

@@ -4,7 +4,7 @@ from __future__ import annotations
 import random
 from typing import List, Optional, Sequence
 
-from struo.record import Cell, Design, Enable, Kind, Node, Operation, Register, Reset
+from struo.record import Design, Enable, Kind, Node, Register, Reset
 
 
 class Builder:
@@ -32,12 +32,6 @@ class Builder:
                  reset: Optional[Reset] = Reset(1, False, False, 0)) -> None:
         """A register."""
         self.design.registers.append(Register(name.encode(), output, data, clock, falling, enable, reset))
-
-    def cell(self, name: str, operation: Operation, left: Sequence[int], right: Sequence[int], carry: Optional[int] = None) -> List[int]:
-        """A cell, with nodes of its own for its result, lowest bit first."""
-        outputs = [self.node(Kind.ARITHMETIC_OUTPUT) for _ in left]
-        self.design.cells.append(Cell(name.encode(), operation, tuple(left), tuple(right), tuple(outputs), carry))
-        return outputs
 
 
 def wire() -> Design:
@@ -95,16 +89,6 @@ def _exclusive_or(builder: Builder, left: int, right: int, by_gates: bool) -> in
         return builder.node(Kind.XOR, left, right)
     either, both = builder.node(Kind.OR, left, right), builder.node(Kind.AND, left, right)
     return builder.node(Kind.AND, either, builder.node(Kind.NOT, both))
-
-
-def arithmetic(operation: Operation, width: int = 1, carried: bool = False) -> Design:
-    """The outputs y0, y1 and so on show a cell s of a0, a1 and so on, b0, b1 and so on, and c where it is carried."""
-    names = [f"{side}{place}" for side in "ab" for place in range(width)]
-    builder = Builder(*names, *(["c"] if carried else []))
-    shown = builder.cell("s", operation, builder.inputs[:width], builder.inputs[width:2 * width], 2 * width if carried else None)
-    for place, node in enumerate(shown):
-        builder.output(f"y{place}", node)
-    return builder.design
 
 
 def exclusive_or(by_gates: bool) -> Design:

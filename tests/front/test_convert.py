@@ -9,7 +9,7 @@ from typing import Any, Dict
 
 from support import Case, inside
 from struo import open_library
-from struo.gates import GATES, flip_flop
+from struo.cells import GATES, flip_flop
 from struo.files import Unreadable
 from struo.record import Enable, Kind, Reset, decode
 from struo.run import run
@@ -170,7 +170,7 @@ class Faults(Case):
 
     def test_cells(self):
         ports = {"a": ("input", [2]), "y": ("output", [3])}
-        self.refuse(netlist(ports, {"alu": ("$alu", {"A": 2, "Y": 3})}), r"^cell alu: its type \$alu is no gate; run `techmap`")
+        self.refuse(netlist(ports, {"add": ("$add", {"A": 2, "Y": 3})}), r"^cell add: its type \$add is no gate; run `techmap`")
         self.refuse(netlist(ports, {"u1": ("top", {"A": 2, "Y": 3})}), "^cell u1: it is an instance of the module top; run `flatten`")
         self.assertTrue(convert(netlist({"a": ("input", [2])}, {"s": ("$scopeinfo", {})}), "").record)
 

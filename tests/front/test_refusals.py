@@ -1,4 +1,4 @@
-"""Refusals 1 to 28, 30 and 36: each one met, with its words, its names and its place; and the one table of them beside the documents."""
+"""Refusals 1 to 25, 30 and 36: each one met, with its words, its names and its place; and the one table of them beside the documents."""
 from __future__ import annotations
 
 import re
@@ -6,20 +6,19 @@ import unittest
 from dataclasses import replace
 
 from support import ROOT, Case, inside
-from designs import Builder, arithmetic, toggle, wire
+from designs import Builder, toggle, wire
 from struo import Memory, Question, explain, open_library
 from struo.answers import Side
 from struo.explain import reference
-from struo.record import Design, Enable, Kind, Node, Operation, Register, Reset, encode
+from struo.record import Design, Enable, Kind, Node, Register, Reset, encode
 from struo.refusals import TABLE, markdown
 
 NAMES = ("Length Version Cut Code Name Count UndefinedNet DuplicatePortName DuplicateRegisterName InvalidRegisterOutput MultipleDrivers RegisterNet "
          "UnconnectedRegister UnsupportedAsyncReset UnsupportedClock ZeroDepth DepthLimit InputInterface OutputInterface MultipleClockDomains "
-         "ClockDomain UnknownInitialState TooLarge Memory Claim DuplicateCellName CellOutput CellOperand ClockRead LearnedLimit").split()
-NUMBERS = [*range(1, 29), 30, 36]
+         "ClockDomain UnknownInitialState TooLarge Memory Claim ClockRead LearnedLimit").split()
+NUMBERS = [*range(1, 26), 30, 36]
 
 WIRE = encode(wire())
-ADDER = encode(arithmetic(Operation.ADD))
 
 # What is said of every clock that is read.
 NO_DATA = "a clock has edges and no level: in place of a gated clock take its enable"
@@ -30,9 +29,9 @@ def changed(record: bytes, offset: int, *values: int) -> bytes:
     return record[:offset] + bytes(values) + record[offset + len(values):]
 
 
-def sized(rest: bytes, version: int = 1) -> bytes:
+def sized(rest: bytes) -> bytes:
     """A record of these bytes behind the length field."""
-    return bytes([version]) + (5 + len(rest)).to_bytes(4, "big") + rest
+    return b"\x01" + (5 + len(rest)).to_bytes(4, "big") + rest
 
 
 def with_register(**parts) -> bytes:
@@ -63,65 +62,19 @@ def late_reset() -> bytes:
     return encode(Design(design.name, design.nodes, [replace(design.registers[0], reset=Reset(4, False, True, 0))]))
 
 
-def with_cell(operation: Operation = Operation.ADD, width: int = 2, carried: bool = False, **parts) -> bytes:
-    """A cell on four inputs, a0 to b1, and perhaps c, with other parts; its outputs are nodes 4 and 5, carried 5 and 6."""
-    design = arithmetic(operation, width, carried)
-    return encode(replace(design, cells=[replace(design.cells[0], **parts)]))
-
-
-def with_second_cell(**parts) -> bytes:
-    """The same with a second cell, t, that adds the first one's result to itself; its outputs are nodes 8 and 9."""
-    builder = Builder()
-    builder.design = arithmetic(Operation.ADD, 2)
-    builder.cell("t", Operation.MULTIPLY, [4, 5], [4, 5])
-    first, second = builder.design.cells
-    return encode(replace(builder.design, cells=[first, replace(second, **parts)]))
-
-
-def cell_of_the_clock(carried: bool) -> bytes:
-    """A toggle with a cell that reads its clock, on the left or as its carry, and whose second bit is shown at z."""
-    builder = Builder()
-    builder.design = toggle()
-    outputs = builder.cell("sum", Operation.ADD, [2, 2 if carried else 0], [1, 1], 0 if carried else None)
-    builder.output("z", outputs[1])
-    return encode(builder.design)
-
-
-def not_of_the_clock() -> bytes:
-    """A toggle with a Not of its clock that a cell reads, whose second bit is shown at z."""
-    builder = Builder()
-    builder.design = toggle()
-    outputs = builder.cell("sum", Operation.ADD, [2, builder.node(Kind.NOT, 0)], [1, 1])
-    builder.output("z", outputs[1])
-    return encode(builder.design)
-
-
 # Records that are refused: their number, the record, the words, and the number with name and place.
 RECORDS = (
     (1, b"", "the record has 0 bytes, and the shortest has 5", "1 Length"),
     (1, b"\x01", "the record has 1 byte, and the shortest has 5", "1 Length"),
     (1, bytes(65_536), "the record has over 65,535 bytes", "1 Length"),
     (1, WIRE + b"\0", "the length field says 19 bytes, and the record has 20", "1 Length"),
-    (2, changed(WIRE, 0, 9), "byte 0, the version, is 9 and neither 1 nor 2", "2 Version"),
-    (2, changed(ADDER, 0, 3), "byte 0, the version, is 3 and neither 1 nor 2", "2 Version"),
+    (2, changed(WIRE, 0, 9), "byte 0, the version, is 9 and not 1", "2 Version"),
     (3, sized(b""), "byte 5, the length of the design's name, runs past the end: it is 1 byte long, and 0 remain", "3 Cut, byte 5"),
     (3, sized(WIRE[5:-3]), "byte 15, input number 0 of node 1 (Output), runs past the end: it is 2 bytes long, and 1 remain", "3 Cut, byte 15"),
     (3, sized(WIRE[5:] + b"ab"), "byte 19: 2 bytes remain after the last register", "3 Cut, byte 19"),
-    (3, sized(WIRE[5:], 2), "byte 19, the cell count, runs past the end: it is 2 bytes long, and 0 remain", "3 Cut, byte 19"),
-    (3, sized(ADDER[5:-1], 2), "byte 37, output number 0 of cell 0 (Add), runs past the end: it is 2 bytes long, and 1 remain", "3 Cut, byte 37"),
-    (3, sized(ADDER[5:] + b"a", 2), "byte 39: 1 byte remains after the last cell", "3 Cut, byte 39"),
     (4, changed(WIRE, 9, 0x7F), "byte 9, the kind of node 0, is 7f, and the listed values are 00, 01, 02, 10, 11, 20, 21, 22, 30 (hex)",
      "4 Code, byte 9"),
     (4, changed(encode(toggle()), 38, 2), "byte 38, the edge of register 0, is 02, and the listed values are 00, 01 (hex)", "4 Code, byte 38"),
-    (4, changed(ADDER, 0, 1), "byte 17, the kind of node 2, is 03, and the listed values are 00, 01, 02, 10, 11, 20, 21, 22, 30 (hex)", "4 Code, byte 17"),
-    (4, changed(ADDER, 9, 0x7F), "byte 9, the kind of node 0, is 7f, and the listed values are 00, 01, 02, 03, 10, 11, 20, 21, 22, 30 (hex)",
-     "4 Code, byte 9"),
-    (4, changed(ADDER, 30, 3), "byte 30, the kind of cell 0, is 03, and the listed values are 00, 01, 02 (hex)", "4 Code, byte 30"),
-    (4, changed(ADDER, 31, 0), "byte 31, the width of cell 0 (Add), is 00, and the listed values are 01 to 10 (hex)", "4 Code, byte 31"),
-    (4, changed(ADDER, 31, 17), "byte 31, the width of cell 0 (Add), is 11, and the listed values are 01 to 10 (hex)", "4 Code, byte 31"),
-    (4, changed(ADDER, 36, 2), "byte 36, the carry of cell 0 (Add), is 02, and the listed values are 00, 01 (hex)", "4 Code, byte 36"),
-    (4, with_cell(Operation.SUBTRACT, carry=0), "byte 55, the carry of cell 0 (Subtract), is 01, and the listed value is 00 (hex)", "4 Code, byte 55"),
-    (5, changed(ADDER, 29, 0x7F), "byte 29, the name of cell 0, has a byte 127, and a name's bytes are 33 to 126", "5 Name, byte 29"),
     (5, changed(WIRE, 5, 0), "byte 5, the length of the design's name, is 0, and a name has 1 to 32 bytes", "5 Name, byte 5"),
     (5, sized(b"\x21" + b"g" * 33 + b"\0\0\0\0"), "byte 5, the length of the design's name, is 33, and a name has 1 to 32 bytes", "5 Name, byte 5"),
     (5, changed(WIRE, 11, 0x20), "byte 11, the name of node 0 (Input), has a byte 32, and a name's bytes are 33 to 126", "5 Name, byte 11"),
@@ -129,7 +82,6 @@ RECORDS = (
     (6, changed(WIRE, 17, 0, 129), "byte 17, the register count, is 129, over 128", "6 Count, byte 17"),
     (6, ports(Kind.INPUT, 64), "byte 317, the kind of node 64, begins a 65th Input", "6 Count, byte 317"),
     (6, ports(Kind.OUTPUT, 65), "byte 450, the kind of node 65, begins a 65th Output", "6 Count, byte 450"),
-    (6, changed(ADDER, 26, 0, 65), "byte 26, the cell count, is 65, over 64", "6 Count, byte 26"),
     (7, changed(WIRE, 16, 1), "node 1 (Output y) reads net 1, which is not below its own number", "7 UndefinedNet, node 1"),
     (8, changed(WIRE, 14, ord("a")), "node 1 (Output a) repeats the name of node 0 (Input a)", "8 DuplicatePortName, node 1"),
     (9, encode(with_second(name=b"q")), "register q is there twice, as number 0 and number 1", "9 DuplicateRegisterName, register 1"),
@@ -145,26 +97,6 @@ RECORDS = (
     (14, late_reset(), "the asynchronous reset of register q is node 4 (Not), which is not below the register's output, node 2",
      "14 UnsupportedAsyncReset, node 2"),
     (15, with_register(clock=4), "the clock of register q is node 4 (Not), and no Input", "15 UnsupportedClock, register 0"),
-    (26, with_second_cell(name=b"s"), "cell 1 's' repeats the name of cell 0", "26 DuplicateCellName, cell 1"),
-    (27, with_cell(outputs=(4, 6)), "output 1 of cell 0 's' is node 6 (Output y0), and no ArithmeticOutput", "27 CellOutput, cell 0"),
-    (27, with_cell(outputs=(8, 4)), "output 0 of cell 0 's' is node 8, which there is not, and no ArithmeticOutput", "27 CellOutput, cell 0"),
-    (27, with_cell(outputs=(5, 5)), "output 1 of cell 0 's' is node 5 (ArithmeticOutput of s), which it lists twice", "27 CellOutput, cell 0"),
-    (27, with_second_cell(outputs=(8, 4)), "output 1 of cell 1 't' is node 4 (ArithmeticOutput of s), which cell 0 's' lists already", "27 CellOutput, cell 1"),
-    (27, with_cell(left=(0,), right=(2,), outputs=(4,)), "node 5 (ArithmeticOutput) has no cell", "27 CellOutput, node 5"),
-    (27, encode(replace(arithmetic(Operation.ADD, 1), cells=[])), "node 2 (ArithmeticOutput) has no cell", "27 CellOutput, node 2"),
-    (28, with_cell(left=(0, 5)), "left 1 of cell 0 's' is node 5 (ArithmeticOutput of s), which is not below the cell's lowest output, node 4",
-     "28 CellOperand, cell 0"),
-    (28, with_cell(right=(4, 0), outputs=(5, 4)), "right 0 of cell 0 's' is node 4 (ArithmeticOutput of s), which is not below the cell's lowest output, node 4",
-     "28 CellOperand, cell 0"),
-    (28, with_cell(carried=True, carry=99), "carry of cell 0 's' is node 99, which there is not, which is not below the cell's lowest output, node 5",
-     "28 CellOperand, cell 0"),
-    (28, with_second_cell(left=(4, 8)), "left 1 of cell 1 't' is node 8 (ArithmeticOutput of t), which is not below the cell's lowest output, node 8",
-     "28 CellOperand, cell 1"),
-    (30, cell_of_the_clock(False), f"left 1 of cell 0 'sum', on the way to output z, reads the clock clk (Input, node 0) of register q; {NO_DATA}",
-     "30 ClockRead, node 0"),
-    (30, cell_of_the_clock(True), f"carry of cell 0 'sum', on the way to output z, reads the clock clk (Input, node 0) of register q; {NO_DATA}",
-     "30 ClockRead, node 0"),
-    (30, not_of_the_clock(), f"node 5 (Not), on the way to output z, reads the clock clk (Input, node 0) of register q; {NO_DATA}", "30 ClockRead, node 0"),
     (30, with_register(data=0), f"the data of register q reads the clock clk (Input, node 0) of register q; {NO_DATA}", "30 ClockRead, node 0"),
 )
 
@@ -200,26 +132,6 @@ def large() -> Design:
     return builder.design
 
 
-def multipliers() -> Design:
-    """Six multipliers of 16 bits, one after another."""
-    builder = Builder(*(f"a{place}" for place in range(16)))
-    factor = builder.inputs
-    for number in range(6):
-        factor = builder.cell(f"m{number}", Operation.MULTIPLY, builder.inputs, factor)
-    builder.output("y", factor[15])
-    return builder.design
-
-
-def over_by_a_cell() -> Design:
-    """605 nodes and an Add of width 1: without its cell depth 17 would fit."""
-    builder = Builder("a", "b")
-    last = builder.cell("s", Operation.ADD, [0], [1])[0]
-    for _ in range(601):
-        last = builder.node(Kind.NOT, last)
-    builder.output("y", last)
-    return builder.design
-
-
 def bare_pair() -> Design:
     """Two registers without a reset; the second is the first by name."""
     design = with_second(reset=None)
@@ -246,9 +158,6 @@ PAIRS = (
      "22 UnknownInitialState, register 1"),
     (22, 1, toggle(), bare_pair(), 1, "gate: register p has no reset, so that its initial bit is not known; 1 more has none",
      "22 UnknownInitialState, register 1"),
-    (23, 0, arithmetic(Operation.MULTIPLY, 16), arithmetic(Operation.MULTIPLY, 16), 9,
-     "at depth 9 the pair takes 66,250 of 65,535; the largest depth that fits is 8", "23 TooLarge"),
-    (23, 0, multipliers(), multipliers(), 1, "at depth 1 the pair takes 75,126 of 65,535; no depth fits", "23 TooLarge"),
     (23, 0, large(), large(), 64, "at depth 64 the pair takes 234,390 of 65,535; the largest depth that fits is 17", "23 TooLarge"),
 )
 
@@ -264,7 +173,7 @@ class Refusals(Case):
                 self.assertIsNotNone(refusal)
                 self.assertEqual(refusal.number, number)
                 self.assertEqual(explain(refusal, Question(record)), words)
-                self.assertEqual(reference(refusal, Question(record)), told)
+                self.assertEqual(reference(refusal), told)
 
     def test_records_in_a_pair_have_their_side(self):
         library = open_library()
@@ -288,23 +197,6 @@ class Refusals(Case):
         library, record = open_library(), encode(large())
         self.assertIsNone(library.check(record, record, 17).refusal)
         self.assertEqual(library.check(record, record, 18).refusal.number, 23)
-
-    def test_cells_count_in_the_depth_that_fits(self):
-        library, record = open_library(), encode(over_by_a_cell())
-        self.assertIsNone(library.check(record, record, 16).refusal)
-        refusal = library.check(record, record, 17).refusal
-        self.assertEqual(explain(refusal, Question(record, record, depth=17)), "at depth 17 the pair takes 65,862 of 65,535; the largest depth that fits is 16")
-
-    def test_a_pair_of_cells_that_just_fits(self):
-        record = encode(arithmetic(Operation.MULTIPLY, 16))
-        self.assertIsNone(open_library().check(record, record, 8).refusal)
-
-    def test_27_of_a_cell_or_of_a_node(self):
-        design = arithmetic(Operation.ADD, 2)
-        told = {record: reference(open_library().read(record).refusal, Question(record)) for record in (
-            with_cell(outputs=(6, 4)), encode(replace(design, cells=[])), with_cell(left=(0,), right=(2,), outputs=(5,)))}
-        self.assertEqual(list(told.values()), ["27 CellOutput, cell 0", "27 CellOutput, node 4", "27 CellOutput, node 4"])
-        self.assertEqual(reference(open_library().read(next(iter(told))).refusal), "27 CellOutput, cell or node 0")
 
     def test_the_largest_pair_fits_to_depth_six(self):
         nodes = [Node(Kind.INPUT, b"clk"), Node(Kind.INPUT, b"rst")] + [Node(Kind.NOT, inputs=(1,))] * 894 + [Node(Kind.REGISTER_OUTPUT)] * 128
@@ -371,7 +263,7 @@ class Table(unittest.TestCase):
     def test_calls_are_those_that_give_it(self):
         calls = {row.number: row.calls for row in TABLE}
         for number in NUMBERS:
-            own = number <= 15 or number in (26, 27, 28, 30)
+            own = number <= 15 or number == 30
             self.assertEqual("read" in calls[number], own)
             self.assertEqual("check" in calls[number], own or 16 <= number <= 24 or number == 36)
             self.assertEqual("replay" in calls[number], own or 18 <= number <= 22 or number == 25)
@@ -397,7 +289,7 @@ class Table(unittest.TestCase):
 
     def test_the_table_as_the_documents_have_it(self):
         lines = markdown().splitlines()
-        self.assertEqual(len(lines), 32)
+        self.assertEqual(len(lines), 29)
         self.assertTrue(lines[2].startswith("| 1 | Length | read, check, replay, begin, step | "))
 
 

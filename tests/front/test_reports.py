@@ -35,11 +35,10 @@ class Json(Case):
         self.assertEqual(set(told), FIELDS)
         self.assertEqual((status, told["verdict"], told["exit_status"]), (0, "Equivalent", 0))
         self.assertEqual((told["asked_depth"], told["depth"], told["mismatch"], told["trace"], told["refusal"]), (5, 1, None, None, None))
-        side = {"file": WIRE, "sha256": digest(WIRE), "bytes": 19, "design": "g", "inputs": 1, "outputs": 1, "nodes": 2, "registers": 0,
-                "cells": 0}
+        side = {"file": WIRE, "sha256": digest(WIRE), "bytes": 19, "design": "g", "inputs": 1, "outputs": 1, "nodes": 2, "registers": 0}
         self.assertEqual((told["gold"], told["gate"]), (side, side))
         self.assertEqual(told["versions"]["struo"], VERSION)
-        self.assertEqual(told["versions"]["record"], 2)
+        self.assertEqual(told["versions"]["record"], 1)
         self.assertEqual(told["versions"]["library_sha256"], digest(told["versions"]["library"]))
 
     def test_not_equivalent(self):
@@ -59,7 +58,7 @@ class Json(Case):
         bad = self.file("bad", b"")
         status, told = self.told("check", WIRE, bad)
         self.assertEqual((status, told["verdict"], told["exit_status"]), (4, None, 4))
-        self.assertEqual(told["refusal"], {"number": 1, "name": "Length", "side": "gate", "place": 0, "place_kind": None,
+        self.assertEqual(told["refusal"], {"number": 1, "name": "Length", "side": "gate", "place": 0,
                                            "words": "gate: the record has 0 bytes, and the shortest has 5"})
         self.assertEqual(told["gate"], {"file": bad, "sha256": digest(bad), "bytes": 0})
         self.assertEqual(self.told("read", "/dev/zero")[1]["sha256"], None)

@@ -6,12 +6,11 @@ use crate::status::Status;
 #[repr(C)]
 #[derive(Clone, Copy, Debug, Default, Eq, PartialEq)]
 pub struct ReadAnswer {
-    /// 0 for an accepted record, else the refusal's number, 1 to 15, 26 to 28 or 30; of a begin also 18 to 22 and 24.
+    /// 0 for an accepted record, else the refusal's number, 1 to 15 or 30; of a begin also 18 to 22 and 24.
     pub number: u32,
     /// 0; of a begin as for a replay.
     pub side: u32,
-    /// A byte offset for 3 to 6, a node number for 7, 8, 13, 14 and 30, a register number for 9 to 12 and 15, of a begin also for 22, a cell number for 26 and 28,
-    /// a cell or a node number for 27, else 0.
+    /// A byte offset for 3 to 6, a node number for 7, 8, 13, 14 and 30, a register number for 9 to 12 and 15, of a begin also for 22, else 0.
     pub place: u32,
 }
 
@@ -30,7 +29,7 @@ impl ReadAnswer {
 #[repr(C)]
 #[derive(Clone, Copy, Debug, Default, Eq, PartialEq)]
 pub struct ReplayAnswer {
-    /// 0 for an accepted replay, else the refusal's number, 1 to 15, 18 to 22, 25 to 28 or 30; of a step also 24.
+    /// 0 for an accepted replay, else the refusal's number, 1 to 15, 18 to 22, 25 or 30; of a step also 24.
     pub number: u32,
     /// 0 gold, 1 gate, and 0 where neither record alone is at fault.
     pub side: u32,
@@ -65,7 +64,7 @@ pub struct Position {
 #[repr(C)]
 #[derive(Clone, Copy, Debug, Default, Eq, PartialEq)]
 pub struct CheckAnswer {
-    /// 0 for an accepted check, else the refusal's number, 1 to 24, 26 to 28, 30 or 36.
+    /// 0 for an accepted check, else the refusal's number, 1 to 24, 30 or 36.
     pub number: u32,
     /// 0 gold, 1 gate, and 0 where neither record alone is at fault.
     pub side: u32,

@@ -87,7 +87,7 @@ impl Checker {
     ///
     /// # Errors
     ///
-    /// The first refusal in checking order: of each record's own, then of 16, 17, 36, then of 18 to 23.
+    /// The first refusal in checking order: of 1 to 17, then 36, then of 18 to 23.
     pub fn check(&mut self, gold: &[u8], gate: &[u8], options: Options) -> Result<Verdict, Refused> {
         self.trace.fill(UNWRITTEN);
         let answer = check(gold, gate, options.depth, options.limit, options.earliest, &mut self.trace, &mut self.words, &mut self.scores);

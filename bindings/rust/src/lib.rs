@@ -53,30 +53,29 @@ pub const BITS: usize = 256;
 pub const GATE_BITS: usize = 128;
 
 /// How many bytes of stack a read takes at most.
-pub const READ_STACK: usize = 182_000;
+pub const READ_STACK: usize = 70_000;
 
 /// How many bytes of stack a check takes at most.
-pub const CHECK_STACK: usize = 266_000;
+pub const CHECK_STACK: usize = 145_000;
 
 /// How many bytes of stack a replay takes at most.
-pub const REPLAY_STACK: usize = 259_000;
+pub const REPLAY_STACK: usize = 170_000;
 
 /// How many bytes of stack a begin takes at most.
-pub const BEGIN_STACK: usize = 285_000;
+pub const BEGIN_STACK: usize = 145_000;
 
 /// How many bytes of stack a step takes at most.
-pub const STEP_STACK: usize = 300_000;
+pub const STEP_STACK: usize = 198_000;
 
-/// Reads a design record: accepted, or the first refusal of 1 to 15, 26 to 28 and 30, with its place.
+/// Reads a design record: accepted, or the first refusal of 1 to 15, then 30, with its place.
 pub fn read(record: &[u8]) -> ReadAnswer {
     // The library reads as many bytes as the length says.
     unsafe { boundary::struo_read(record.as_ptr(), record.len()) }
 }
 
 /// Checks whether two designs can ever differ, by k-induction for depths 1 to `depth`, in which each query may learn clauses of `limit` literals together: a
-/// refusal of 1 to 24, 26 to 28, 30 or 36, which leaves all buffers as they were, or a verdict. Where `earliest` is true query 0 puts cycle 0 alone first, so that
-/// a mismatch is the earliest cycle that any input sequence can show. The trace is written for NotEquivalent; after an accepted check all of `words` and `scores`
-/// is zero.
+/// refusal of 1 to 24, 30 or 36, which leaves all buffers as they were, or a verdict. Where `earliest` is true query 0 puts cycle 0 alone first, so that a mismatch
+/// is the earliest cycle that any input sequence can show. The trace is written for NotEquivalent; after an accepted check all of `words` and `scores` is zero.
 #[allow(clippy::too_many_arguments)]
 pub fn check(gold: &[u8], gate: &[u8], depth: u64, limit: u64, earliest: bool, trace: &mut [u8], words: &mut [u32], scores: &mut [f64]) -> CheckAnswer {
     // The library reads the two records and writes the three buffers, as far as their lengths say; the borrows keep them apart.
@@ -99,21 +98,21 @@ pub fn check(gold: &[u8], gate: &[u8], depth: u64, limit: u64, earliest: bool, t
     }
 }
 
-/// Replays a claimed trace: a refusal of 1 to 15, 18 to 22, 25 to 28 or 30, or whether the outputs agree before the claimed cycle and differ in it exactly as
+/// Replays a claimed trace: a refusal of 1 to 15, 18 to 22, 25 or 30, or whether the outputs agree before the claimed cycle and differ in it exactly as
 /// marked, in at least one.
 pub fn replay(gold: &[u8], gate: &[u8], cycle: u64, claim: &[u8]) -> ReplayAnswer {
     // The library reads as many bytes as the lengths say.
     unsafe { boundary::struo_replay(gold.as_ptr(), gold.len(), gate.as_ptr(), gate.len(), cycle, claim.as_ptr(), claim.len()) }
 }
 
-/// Sets a lent position before cycle 0: a refusal of 1 to 15, 18 to 22, 24, 26 to 28 or 30, which changes nothing, or accepted. Gold's initial bits are written
-/// from byte 0 on and gate's from byte 128 on, by register number; every other byte stays.
+/// Sets a lent position before cycle 0: a refusal of 1 to 15, 18 to 22, 24 or 30, which changes nothing, or accepted. Gold's initial bits are written from byte
+/// 0 on and gate's from byte 128 on, by register number; every other byte stays.
 pub fn begin(gold: &[u8], gate: &[u8], position: &mut Position, bits: &mut [u8]) -> ReadAnswer {
     // The library reads the records and writes the position and the bits, as far as the lengths say; the borrows keep them apart.
     unsafe { boundary::struo_begin(gold.as_ptr(), gold.len(), gate.as_ptr(), gate.len(), position, bits.as_mut_ptr(), bits.len()) }
 }
 
-/// Moves a lent position on by one cycle of a claimed trace: a refusal of 1 to 15, 18 to 22, 24 to 28 or 30, which changes nothing, or yes or no. Past the claimed
+/// Moves a lent position on by one cycle of a claimed trace: a refusal of 1 to 15, 18 to 22, 24, 25 or 30, which changes nothing, or yes or no. Past the claimed
 /// cycle nothing changes and the answer is no; before it the answer is no; at it yes exactly when the position says that the outputs agreed so far and in this
 /// cycle they differ in exactly the marked ones, at least one.
 pub fn step(gold: &[u8], gate: &[u8], cycle: u64, claim: &[u8], position: &mut Position, bits: &mut [u8]) -> ReplayAnswer {
@@ -400,45 +399,6 @@ mod tests {
         }
     }
 
-    /// Inputs a and b, and an output y that shows an Add of width 1, the cell s; its kind is byte 27.
-    const ADDER: &[u8] = b"\x02\0\0\0\x24\x01g\0\x04\0\x01a\0\x01b\x03\x11\x01y\0\x02\0\0\0\x01\x01s\0\x01\0\0\0\x01\0\0\x02";
-
-    /// The adder with another byte.
-    fn adder(offset: usize, byte: u8) -> Vec<u8> {
-        let mut record = ADDER.to_vec();
-        record[offset] = byte;
-        record
-    }
-
-    #[test]
-    fn cells_are_read_and_checked() {
-        let mut checker = Checker::new();
-        assert_eq!(read(ADDER), ReadAnswer::default());
-        let verdict = checker.check(ADDER, &adder(27, 1), Options::to_depth(1)).expect("both are accepted");
-        assert_eq!(verdict, equivalent(1, 16, (1, 1)));
-        let verdict = checker.check(ADDER, &adder(27, 2), Options::to_depth(1)).expect("both are accepted");
-        assert_eq!(verdict.difference, Some(Difference { cycle: 0, trace: vec![0, 1, 1] }));
-        assert!(replay(ADDER, &adder(27, 2), 0, &[1, 1, 1]).yes && !replay(ADDER, &adder(27, 1), 0, &[1, 1, 1]).yes);
-    }
-
-    #[test]
-    fn faulty_cells_are_refused() {
-        // Version 1 lists no kind 03; the cell's kind, width and carry; its output is the Output node; its right operand is its own output.
-        for (offset, byte, number, place) in [(0, 1, 4, 15), (0, 3, 2, 0), (27, 3, 4, 27), (28, 0, 4, 28), (28, 17, 4, 28), (33, 2, 4, 33), (35, 3, 27, 0), (32, 2, 28, 0)] {
-            assert_eq!(read(&adder(offset, byte)), ReadAnswer { number, side: 0, place });
-        }
-        let mut bare = adder(4, 25);
-        bare.truncate(25);
-        bare[24] = 0;
-        let refused = read(&bare).result().unwrap_err();
-        assert_eq!(refused, Refused { refusal: Refusal::CellOutput, side: Side::Gold, place: 2 });
-        assert!(refused.to_string().ends_with("has no cell (gold cell or node 2)"));
-        let mut twice = [ADDER, &ADDER[25..]].concat();
-        (twice[4], twice[24]) = (47, 2);
-        let refused = check(ADDER, &twice, 1, 0, false, &mut [], &mut [], &mut []).result().unwrap_err();
-        assert_eq!(refused.to_string(), "refused: 26 DuplicateCellName: a cell repeats an earlier cell's name (gate cell 1)");
-    }
-
     #[test]
     fn refusals_and_statuses_in_words() {
         let mut own = WIRE.to_vec();
@@ -450,10 +410,10 @@ mod tests {
         clocked[27] = 0;
         assert_eq!(
             check(TOGGLE, &clocked, 1, 0, false, &mut [], &mut [], &mut []).result().unwrap_err().to_string(),
-            "refused: 30 ClockRead: an Input that clocks a register is read by a node, a cell, or a register's data, enable or reset (gate node 0)"
+            "refused: 30 ClockRead: an Input that clocks a register is read by a node, or by a register's data, enable or reset (gate node 0)"
         );
-        assert!((1..=28).chain([30, 36]).all(|number| Refusal::from_number(number).is_some_and(|refusal| refusal as u32 == number)));
-        assert!([0, 29, 31, 35, 37].into_iter().all(|number| Refusal::from_number(number).is_none()));
+        assert!((1..=25).chain([30, 36]).all(|number| Refusal::from_number(number).is_some_and(|refusal| refusal as u32 == number)));
+        assert!([0, 26, 29, 31, 35, 37].into_iter().all(|number| Refusal::from_number(number).is_none()));
         assert!((0..4).all(|number| Status::from_number(number).is_some_and(|status| status as u32 == number)));
         assert!(Status::from_number(4).is_none());
         assert!(Status::Equivalent.to_string().starts_with("Equivalent: ") && Status::NotEquivalent.to_string().starts_with("NOT EQUIVALENT: "));

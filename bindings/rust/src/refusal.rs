@@ -1,5 +1,5 @@
-//! The refusals of the calls by number, with side and place; that is the checking order but for 26 to 28, which are tested of each record after its 13 and before
-//! its 14, 30, which is tested after its 15, and 36, which a check tests after 17 and before 18.
+//! The refusals of the calls by number, with side and place; that is the checking order but for 30, which is tested of each record after its 15, and 36, which
+//! a check tests after 17 and before 18.
 use std::error::Error;
 use std::fmt;
 
@@ -9,15 +9,15 @@ use std::fmt;
 pub enum Refusal {
     /// The record has under 5 or over 65,535 bytes, or its length field differs from the bytes lent.
     Length = 1,
-    /// Byte 0 is neither 1 nor 2.
+    /// Byte 0 is not 1.
     Version = 2,
-    /// The next field in file order runs past the end, or bytes remain after the last register, in version 2 after the last cell.
+    /// The next field in file order runs past the end, or bytes remain after the last register.
     Cut = 3,
     /// A byte with listed values has another one.
     Code = 4,
     /// A name has length 0 or over 32, or a byte outside 33 to 126.
     Name = 5,
-    /// Over 1,024 nodes, over 128 registers or over 64 cells are declared, or a 65th Input or 65th Output is met.
+    /// Over 1,024 nodes or over 128 registers are declared, or a 65th Input or 65th Output is met.
     Count = 6,
     /// A node's input number is not below the node's own.
     UndefinedNet = 7,
@@ -51,26 +51,20 @@ pub enum Refusal {
     ClockDomain = 21,
     /// A register has no reset; gold by name, then gate.
     UnknownInitialState = 22,
-    /// (D+1)×(F + S) + R is over 65,535, where F = I + 3×N + 10×R + 4×O + 1, and S is 11×w for each Add or Subtract of width w and 12×w×w for each Multiply.
+    /// (D+1)×F + R is over 65,535, where F = I + 3×N + 10×R + 4×O + 1.
     TooLarge = 23,
     /// The trace buffer is under (D+1)×I + O bytes, or the work memory is under 8,388,608 words of 32 bits or under 65,536 f64; of a begin or a step, the bits are under 256 bytes.
     Memory = 24,
     /// The cycle is over 64, the claim's length is not (cycle+1)×I + O, or a byte of it is neither 0 nor 1; of a step, also a register's stored bit.
     Claim = 25,
-    /// A cell repeats an earlier cell's name.
-    DuplicateCellName = 26,
-    /// A cell's output number is not that of an ArithmeticOutput node or is listed before it; or an ArithmeticOutput node, the lowest such, has no cell.
-    CellOutput = 27,
-    /// A cell's left, right or carry number is not below the lowest of its output numbers.
-    CellOperand = 28,
-    /// An Input that clocks a register is read by a node, a cell, or a register's data, enable or reset.
+    /// An Input that clocks a register is read by a node, or by a register's data, enable or reset.
     ClockRead = 30,
     /// The limit of learned literals is over 262,144.
     LearnedLimit = 36,
 }
 
 /// The refusals by number.
-const ALL: [Refusal; 30] = [
+const ALL: [Refusal; 27] = [
     Refusal::Length,
     Refusal::Version,
     Refusal::Cut,
@@ -96,15 +90,12 @@ const ALL: [Refusal; 30] = [
     Refusal::TooLarge,
     Refusal::Memory,
     Refusal::Claim,
-    Refusal::DuplicateCellName,
-    Refusal::CellOutput,
-    Refusal::CellOperand,
     Refusal::ClockRead,
     Refusal::LearnedLimit,
 ];
 
 impl Refusal {
-    /// The refusal of a number, 1 to 28, 30 or 36.
+    /// The refusal of a number, 1 to 25, 30 or 36.
     #[must_use]
     pub fn from_number(number: u32) -> Option<Self> {
         ALL.into_iter().find(|refusal| *refusal as u32 == number)
@@ -115,11 +106,11 @@ impl Refusal {
     pub const fn condition(self) -> &'static str {
         match self {
             Self::Length => "the record has under 5 or over 65,535 bytes, or its length field differs from the bytes lent",
-            Self::Version => "byte 0 is neither 1 nor 2",
-            Self::Cut => "the next field in file order runs past the end, or bytes remain after the last register, in version 2 after the last cell",
+            Self::Version => "byte 0 is not 1",
+            Self::Cut => "the next field in file order runs past the end, or bytes remain after the last register",
             Self::Code => "a byte with listed values has another one",
             Self::Name => "a name has length 0 or over 32, or a byte outside 33 to 126",
-            Self::Count => "over 1,024 nodes, over 128 registers or over 64 cells are declared, or a 65th Input or 65th Output is met",
+            Self::Count => "over 1,024 nodes or over 128 registers are declared, or a 65th Input or 65th Output is met",
             Self::UndefinedNet => "a node's input number is not below the node's own",
             Self::DuplicatePortName => "an Input or Output repeats an earlier Input's or Output's name",
             Self::DuplicateRegisterName => "a register repeats an earlier register's name",
@@ -136,13 +127,10 @@ impl Refusal {
             Self::MultipleClockDomains => "the registers of one side, gold first, have two clock names or edges",
             Self::ClockDomain => "clock name or edge differ between the sides, or only one side has registers",
             Self::UnknownInitialState => "a register has no reset; gold by name, then gate",
-            Self::TooLarge => "(D+1)×(F + S) + R is over 65,535, where F = I + 3×N + 10×R + 4×O + 1, and S is 11×w for each Add or Subtract of width w and 12×w×w for each Multiply",
+            Self::TooLarge => "(D+1)×F + R is over 65,535, where F = I + 3×N + 10×R + 4×O + 1",
             Self::Memory => "the trace buffer is under (D+1)×I + O bytes, or the work memory is under 8,388,608 words of 32 bits or under 65,536 f64; of a begin or a step, the bits are under 256 bytes",
             Self::Claim => "the cycle is over 64, the claim's length is not (cycle+1)×I + O, or a byte of it is neither 0 nor 1; of a step, also a register's stored bit",
-            Self::DuplicateCellName => "a cell repeats an earlier cell's name",
-            Self::CellOutput => "a cell's output number is not that of an ArithmeticOutput node or is listed before it; or an ArithmeticOutput node, the lowest such, has no cell",
-            Self::CellOperand => "a cell's left, right or carry number is not below the lowest of its output numbers",
-            Self::ClockRead => "an Input that clocks a register is read by a node, a cell, or a register's data, enable or reset",
+            Self::ClockRead => "an Input that clocks a register is read by a node, or by a register's data, enable or reset",
             Self::LearnedLimit => "the limit of learned literals is over 262,144",
         }
     }
@@ -181,8 +169,7 @@ pub struct Refused {
     pub refusal: Refusal,
     /// Whose record is at fault; gold where neither alone is.
     pub side: Side,
-    /// A byte offset for 3 to 6, a node number for 7, 8, 13, 14 and 30, a register number for 9 to 12, 15 and 22, a cell number for 26 and 28; for 27 a cell
-    /// number where one of the cells is at fault, else the number of a node without a cell; and else 0.
+    /// A byte offset for 3 to 6, a node number for 7, 8, 13, 14 and 30, a register number for 9 to 12, 15 and 22, and else 0.
     pub place: u32,
 }
 
@@ -200,8 +187,6 @@ impl fmt::Display for Refused {
             3..=6 => "byte",
             7 | 8 | 13 | 14 | 30 => "node",
             9..=12 | 15 | 22 => "register",
-            26 | 28 => "cell",
-            27 => "cell or node",
             _ => return write!(out, "refused: {}", self.refusal),
         };
         write!(out, "refused: {} ({} {what} {})", self.refusal, self.side, self.place)

@@ -18,12 +18,12 @@ use Rattle.assignment.specs.Blocks.{score, Free, Ahead, Leads, Unsigned, higher_
 
 -- ---- who is ahead
 
-pub ahead-self : (xs : List Float) (v : ℕ) → Ahead xs v v
-ahead-self xs v = record { higher = λ h. absurd (omega arith); level = λ h. lt-self (score xs v) }
+pub ahead_self : (xs : List Float) (v : ℕ) → Ahead xs v v
+ahead_self xs v = record { higher = λ h. absurd (omega arith); level = λ h. lt-self (score xs v) }
 
 module _ (xs : List Float) (u : Unsigned xs) where
-  pub ahead-both : (v w x : ℕ) → Ahead xs v w → Ahead xs w x → Ahead xs v x
-  ahead-both v w x f g =
+  pub ahead_both : (v w x : ℕ) → Ahead xs v w → Ahead xs w x → Ahead xs v x
+  ahead_both v w x f g =
       let p = u v in
       let q = u w in
       let r = u x in
@@ -43,8 +43,8 @@ module _ (xs : List Float) (u : Unsigned xs) where
       }
 
 -- two variables that are ahead of each other are one
-pub ahead-one : (xs : List Float) (v w : ℕ) → Ahead xs v w → Ahead xs w v → v ≡ w
-ahead-one xs v w f g =
+pub ahead_one : (xs : List Float) (v w : ℕ) → Ahead xs v w → Ahead xs w v → v ≡ w
+ahead_one xs v w f g =
     by_lt v w (λ h. absurd (false≢true (sym (f.level (omega arith)) ∙ g.higher h)))
     (λ h. by_lt w v (λ k. absurd (false≢true (sym (g.level (omega arith)) ∙ f.higher k))) (λ k. omega arith))
 
@@ -67,7 +67,7 @@ module _ (vs : List Sat.Value) (xs : List Float) where
   leads-free v p f =
       record {
         own = λ q. (omega arith, omega arith, f);
-        all = λ x a b g. let e : x ≡ v = omega arith in (p, rw e (ahead-self xs v));
+        all = λ x a b g. let e : x ≡ v = omega arith in (p, rw e (ahead_self xs v));
       }
 
   -- two choices for one range are the same
@@ -77,7 +77,7 @@ module _ (vs : List Sat.Value) (xs : List Float) where
       (λ p. let o = f.own p in
       let a = g.all v o.0 o.1 o.2 in
       let r = g.own a.0 in
-      ahead-one xs v w (f.all w r.0 r.1 r.2).1 a.1)
+      ahead_one xs v w (f.all w r.0 r.1 r.2).1 a.1)
       (λ z. by_lt 0 w
       (λ p. let o = g.own p in absurd (let q = (f.all w o.0 o.1 o.2).0 in omega arith))
       (λ y. omega arith))
@@ -109,7 +109,7 @@ module _ (vs : List Sat.Value) (xs : List Float) where
             own = λ h. let o = g.own q in (omega (arith, o.0), o.1, o.2);
             all = λ x i j k.
                 by_lt x mid
-                (λ l. (q, ahead-both xs u w v x s (f.all x i l k).1))
+                (λ l. (q, ahead_both xs u w v x s (f.all x i l k).1))
                 (λ l. g.all x l j k);
           }
 
@@ -121,7 +121,7 @@ module _ (vs : List Sat.Value) (xs : List Float) where
             all = λ x i j k.
                 by_lt x mid
                 (λ l. f.all x i l k)
-                (λ l. (p, ahead-both xs u v w x s (g.all x l j k).1));
+                (λ l. (p, ahead_both xs u v w x s (g.all x l j k).1));
           }
 
 -- the choice of two, for each case of the code

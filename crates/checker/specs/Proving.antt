@@ -5,7 +5,7 @@ use Rattle.std.proofs.Common.{◌∙◌, arith}
 use Rattle.words.specs.Layout.{MOST-NODES}
 use Rattle.model.specs.Netlist.{input_count, output_count, register_count}
 use Rattle.model.specs.Options.{Options}
-use Rattle.model.specs.Pair.{nodes_per_cycle, cell_nodes, proof_nodes, trace_length}
+use Rattle.model.specs.Pair.{nodes_per_cycle, proof_nodes, trace_length}
 use Rattle.model.specs.Check as Model
 use Rattle.model.specs.Check.{problem_of}
 use Rattle.laws.specs.Queries.Bound.{states-length}
@@ -50,19 +50,15 @@ module _ (s : List ℕ) (x : Design) (g : List Bool) (t : List ℕ) (y : Design)
         outputs = m.gate_outputs ∙ count-outputs t y u.ordered ∙ sym k.outputs_alike ∙ sym outputs_are;
       }
 
-  -- F + S
-  abbrev frame : ℕ
-  frame = nodes_per_cycle (decoded s x.netlist) (decoded t y.netlist) + (cell_nodes (decoded s x.netlist).cells + cell_nodes (decoded t y.netlist).cells)
-
-  -- a cycle costs at most that
-  cost_small : cycle_cost p.gold p.gate w ≤ frame
+  -- a cycle costs at most F
+  cost_small : cycle_cost p.gold p.gate w ≤ nodes_per_cycle (decoded s x.netlist) (decoded t y.netlist)
   unfolding nodes_per_cycle problem_of
   cost_small =
       omega (arith, side-small p.gold w (decoded s x.netlist) m.gold_formed m.stands.standing.gold, side-small p.gate w (decoded t y.netlist) m.gate_formed m.stands.standing.gate, inputs_are, outputs_are, gold_states)
 
   room : 1 + (p.gold.state_count + p.gate.state_count) + suc o.depth * cycle_cost p.gold p.gate w ≤ MOST-NODES
   unfolding proof_nodes
-  room = omega (arith, gold_states, gate_states, cycles_fit o.depth (cycle_cost p.gold p.gate w) frame (register_count (decoded s x.netlist) + register_count (decoded t y.netlist)) cost_small k.fits)
+  room = omega (arith, gold_states, gate_states, cycles_fit o.depth (cycle_cost p.gold p.gate w) (nodes_per_cycle (decoded s x.netlist) (decoded t y.netlist)) (register_count (decoded s x.netlist) + register_count (decoded t y.netlist)) cost_small k.fits)
 
   -- the problem may be proved
   pub provable : Provable p o.limit o.depth w scores trace

@@ -12,7 +12,7 @@ use Rattle.model.specs.Sat.{score_zero}
 use Rattle.model.specs.Run.{StoredBits, bit_at, initial_bits, by_name}
 use Rattle.model.specs.Equivalence as Model
 use Rattle.model.specs.Equivalence.{Problem, Outcome, prove_sequential_equivalence, largest_learned, proved_through}
-use Rattle.model.specs.Pair.{cell_nodes, Lent, both, refused_pair, read_pair, check_fault}
+use Rattle.model.specs.Pair.{Lent, both, refused_pair, read_pair, check_fault}
 use Rattle.model.specs.Check.{CheckResult, refused_check, accepted_check, problem_of, check_designs, check_pair, check_read, check_outcome, verdict_answer, verdict_trace, check_answer, trace_after, cleared_after, check_result, lent_of}
 use Rattle.laws.specs.Terms.{proved_by_place}
 use Rattle.laws.specs.Check.Asked.{largest_within}
@@ -22,11 +22,7 @@ use Rattle.calls.specs.declared.answers.Asked.{Asked}
 use Rattle.calls.specs.declared.answers.CheckAnswer.{CheckAnswer}
 use Rattle.run.specs.RunTables.{padded}
 use Rattle.run.specs.RunLaws.{Alike, bit_at_append}
-use Rattle.struo_ir.specs.Decoded.{decoded}
-use Rattle.struo_ir.specs.declared.netlist.Netlist.{Netlist}
 use Rattle.refusals.specs.RefusalLaws.{accepted}
-use Rattle.refusals.specs.CellNodes.{cells_any}
-use Rattle.lowering.specs.Cells.{MOST-CELL-NODES}
 use Rattle.queries.specs.Problem.{answer_of_verdict}
 use Rattle.queries.specs.declared.problem.Verdict.{Verdict}
 use Rattle.queries.specs.declared.problem.Verdict.TheVariants as Verdicts
@@ -36,21 +32,21 @@ use Rattle.checker.specs.Results.{Cleared, proved_by}
 
 module _ (r : CheckAnswer) (trace words : List ℕ) (scores : List Float) where
   -- everything lent stays
-  refused-result : (f : Refusal) → check_of r ≡ check_answer (refused_check f) → checked_of r trace words scores ≡ check_result (refused_check f) trace words scores
+  refused_result : (f : Refusal) → check_of r ≡ check_answer (refused_check f) → checked_of r trace words scores ≡ check_result (refused_check f) trace words scores
   unfolding checked_of check_result trace_after cleared_after
-  refused-result f e = rw e
+  refused_result f e = rw e
 
   -- the pair is refused
   pub pair-refused : (o : Options) (gold gate : Design) (f : Option Refusal) (g : Refusal) → f ≡ some g → check_of r ≡ check_answer (refused_check g)
       → checked_of r trace words scores ≡ check_result (check_pair o gold gate f) trace words scores
   unfolding check_pair
-  pair-refused o gold gate f g e h = rw e (refused-result g h)
+  pair-refused o gold gate f g e h = rw e (refused_result g h)
 
   -- a record is refused
   pub read-refused : (s t : List ℕ) (o : Options) (lent : Lent) (f : Refusal) → read_pair s t ≡ refused_pair f → check_of r ≡ check_answer (refused_check f)
       → checked_of r trace words scores ≡ check_result (check_outcome s t o lent) trace words scores
   unfolding check_outcome check_read
-  read-refused s t o lent f e h = rw e (refused-result f h)
+  read-refused s t o lent f e h = rw e (refused_result f h)
 
 -- ---- a call that is accepted
 
@@ -129,13 +125,6 @@ proved r o trace trace' words words₁ words' scores scores₁ scores' a t w c l
 pub words_enough : (gold gate : Design) (o : Options) (trace words : List ℕ) (scores : List Float) → check_fault gold gate o (lent_of trace words scores) ≡ none → LENT ≤ length words
 unfolding lent_of
 words_enough gold gate o trace words scores e = (accepted gold gate o (lent_of trace words scores) e).words_long
-
--- and each side has few enough cells to be lowered, whatever record its names are places in
-pub cells_few : (s t : List ℕ) (gold gate : Netlist) (o : Options) (trace words : List ℕ) (scores : List Float) → check_fault (decoded s gold) (decoded t gate) o (lent_of trace words scores) ≡ none
-    → (cell_nodes (decoded [] gold).cells ≤ MOST-CELL-NODES) × (cell_nodes (decoded [] gate).cells ≤ MOST-CELL-NODES)
-cells_few s t gold gate o trace words scores e =
-    let few = (accepted (decoded s gold) (decoded t gate) o (lent_of trace words scores) e).cells_few in
-    (omega (arith, few, cells_any [] s gold), omega (arith, few, cells_any [] t gate))
 
 -- ---- rows that read alike
 

@@ -6,7 +6,6 @@ use Rattle.words.specs.Region.{region}
 use Rattle.model.specs.Lists.{snoc}
 use Rattle.model.specs.Aig.{Node, Constant, Variable, And, Aig}
 use Rattle.model.specs.Netlist.{Design, node_count, register_count}
-use Rattle.model.specs.Pair.{cell_nodes}
 use Rattle.model.specs.Transition.{TransitionSystem, from_netlist}
 use Rattle.laws.specs.Graph.Size.{ands}
 use Rattle.laws.specs.Queries.Bound.{system-ands}
@@ -57,13 +56,13 @@ side-ands y w s f t =
     conjunctions-ands y.count (region y.base w) (region (y.base + SMALL) w) (no-first y.count _ _ f.ordered)
     ∙ ap ands t.aig
 
--- the side of a design: at most three for a node, six for a register, and those of its cells
-pub side-small : (y : System) (w : List ℕ) (d : Design) → Formed y w → Stands y w (from_netlist d) → conjunctions_of y w ≤ 3 * node_count d + 6 * register_count d + cell_nodes d.cells
+-- the side of a design: at most three for a node and six for a register
+pub side-small : (y : System) (w : List ℕ) (d : Design) → Formed y w → Stands y w (from_netlist d) → conjunctions_of y w ≤ 3 * node_count d + 6 * register_count d
 unfolding node_count register_count
 side-small y w d f t = omega (arith, side-ands y w (from_netlist d) f t, system-ands d)
 
 -- ---- the bound
 
--- (D + 1) × (F + S) + R is enough for (D + 1) cycles of a cost within F + S, after the states' variables and node 0
+-- (D + 1) × F + R is enough for (D + 1) cycles of a cost within F, after the states' variables and node 0
 pub cycles_fit : (depth cost frame registers : ℕ) → cost ≤ frame → suc depth * frame + registers ≤ 65535 → 1 + registers + suc depth * cost ≤ MOST-NODES
 cycles_fit depth cost frame registers h k = omega (arith, mul-le-mul_left {m = cost} {n = frame} (suc depth) h)

@@ -1,16 +1,14 @@
 -- Both sides stand in the words after the second was lowered, and make the problem of the two designs. Assumes nothing.
-use Rattle.std.specs.Prelude.{ℕ, ◌+◌, ◌≤◌, ◌≡◌, refl, Bool, List, [], length}
+use Rattle.std.specs.Prelude.{ℕ, ◌+◌, ◌≤◌, ◌≡◌, refl, Bool, List, length}
 use Rattle.std.proofs.Common.{sym, ap, ◌∙◌}
 use Rattle.words.specs.Layout.{LENT, SMALL, GOLD-LHS, GOLD-RHS, GATE-LHS}
 use Rattle.words.specs.Region.{region}
 use Rattle.model.specs.Transition.{from_netlist}
-use Rattle.model.specs.Pair.{cell_nodes}
 use Rattle.model.specs.Check.{problem_of}
 use Rattle.struo_ir.specs.Decoded.{decoded}
 use Rattle.struo_ir.specs.Orders as Orders
 use Rattle.struo_ir.specs.Designs.{Sized, Sided}
 use Rattle.struo_ir.specs.declared.design.Design.{Design}
-use Rattle.lowering.specs.Cells.{MOST-CELL-NODES}
 use Rattle.lowering.specs.Firsts.{firsts, Below}
 use Rattle.transition.specs.Side.{Formed, Stands}
 use Rattle.transition.specs.SideLaws.{formed-kept, stands-kept}
@@ -21,15 +19,14 @@ use Rattle.queries.specs.declared.problem.Problem.{Problem}
 use Rattle.checker.specs.Sides.{SidesMade}
 
 -- what the lowering of a side asks
-pub lowerable : (d : Design) (base : ℕ) (w : List ℕ) → LENT ≤ length w → GOLD-LHS ≤ base → base ≤ GATE-LHS → Sized d.netlist → cell_nodes (decoded [] d.netlist).cells ≤ MOST-CELL-NODES
+pub lowerable : (d : Design) (base : ℕ) (w : List ℕ) → LENT ≤ length w → GOLD-LHS ≤ base → base ≤ GATE-LHS → Sized d.netlist
     → Orders.Formed d.inputs → Orders.Formed d.outputs → Orders.Formed d.registers → Lowerable d base w
-lowerable d base w long low high sized cells ins outs regs =
+lowerable d base w long low high sized ins outs regs =
     record {
       long = long;
       low = low;
       high = high;
       sized = sized;
-      cells = cells;
       formed_inputs = ins;
       formed_outputs = outs;
       formed_registers = regs;

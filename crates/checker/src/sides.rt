@@ -1,11 +1,8 @@
 // Both sides of a pair lowered into the lent words, and the problem that they make.
-ghost use Rattle.std.specs.Prelude.{◌≤◌, [], length};
+ghost use Rattle.std.specs.Prelude.{◌≤◌, length};
 ghost use Rattle.words.specs.Layout.{LENT, GOLD-LHS, GATE-LHS};
-ghost use Rattle.model.specs.Pair.{cell_nodes};
-ghost use Rattle.struo_ir.specs.Decoded.{decoded};
 ghost use Rattle.struo_ir.specs.Designs.{Sized, Sided};
 ghost use Rattle.struo_ir.specs.Orders.{Formed};
-ghost use Rattle.lowering.specs.Cells.{MOST-CELL-NODES};
 ghost use Rattle.transition.specs.Named.{SystemMade};
 ghost use Rattle.checker.specs.Sides.{SidesMade};
 
@@ -19,7 +16,7 @@ use words::{GATE_LHS, GOLD_LHS};
 
 // One side lowered at its base.
 fn side(words: &mut [u32], design: Design, base: usize) -> System
-    requires { (LENT ≤ length words.old) × (GOLD-LHS ≤ base) × (base ≤ GATE-LHS) × Sized design.netlist × (cell_nodes (decoded [] design.netlist).cells ≤ MOST-CELL-NODES)
+    requires { (LENT ≤ length words.old) × (GOLD-LHS ≤ base) × (base ≤ GATE-LHS) × Sized design.netlist
         × (Formed design.inputs) × (Formed design.outputs) × (Formed design.registers) }
     ensures { SystemMade design base words.old result words.new }
 {
@@ -36,8 +33,7 @@ pub fn sides(
     gold_row: [bool; 128],
     gate_row: [bool; 128],
 ) -> Problem
-    requires { (LENT ≤ length words.old) × (Sided gold.now gold_design) × (Sided gate.now gate_design)
-        × (cell_nodes (decoded [] gold_design.netlist).cells ≤ MOST-CELL-NODES) × (cell_nodes (decoded [] gate_design.netlist).cells ≤ MOST-CELL-NODES) }
+    requires { (LENT ≤ length words.old) × (Sided gold.now gold_design) × (Sided gate.now gate_design) }
     ensures { SidesMade gold.now gold_design gold_row gate.now gate_design gate_row result words.new }
 {
     let left = side(words, gold_design, GOLD_LHS);

@@ -4,7 +4,7 @@ use Rattle.std.proofs.Common.{sym, ◌∙◌, arith}
 use Rattle.std.proofs.Math.Option.{none, some}
 use Rattle.std.proofs.Math.Numerals.{add-one}
 use Rattle.facts.specs.Bools.{both-and}
-use Rattle.model.specs.Validate.{clocks, nodes_read, registers_read, cells_read, clock_read, clock_read_fault}
+use Rattle.model.specs.Validate.{clocks, nodes_read, registers_read, clock_read, clock_read_fault}
 use Rattle.calls.specs.Faults.{refusal}
 use Rattle.calls.specs.FaultLaws.{refused_by, passed_by}
 use Rattle.struo_ir.specs.declared.netlist.Netlist.{Netlist}
@@ -13,7 +13,7 @@ use Rattle.struo_ir.specs.Designs.{Padded}
 use Rattle.struo_ir.specs.WalkLaws.{no-nodes, node-here}
 use Rattle.clock_reads.specs.Marks.{Marked}
 
-module _ (s : List ℕ) (netlist : Netlist) (pad : Padded netlist) (clocking read : List Bool) (c : Marked (λ t k. clocks k (decoded t netlist).registers) clocking) (r : Marked (λ t k. nodes_read k (decoded t netlist).nodes || (registers_read k (decoded t netlist).registers || cells_read k (decoded t netlist).cells)) read) (i : ℕ) (l : i < netlist.node_count) where
+module _ (s : List ℕ) (netlist : Netlist) (pad : Padded netlist) (clocking read : List Bool) (c : Marked (λ t k. clocks k (decoded t netlist).registers) clocking) (r : Marked (λ t k. nodes_read k (decoded t netlist).nodes || registers_read k (decoded t netlist).registers) read) (i : ℕ) (l : i < netlist.node_count) where
   -- the two tables say what the definition asks
   test : (get_or clocking i false && get_or read i false) ≡ clock_read (decoded s netlist) i
   unfolding clock_read

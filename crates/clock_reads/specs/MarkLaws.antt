@@ -12,7 +12,7 @@ use Rattle.clock_reads.specs.Marks.{with_marks, Marked, MarkedSoFar}
 -- ---- numbers marked
 
 -- the table keeps its length
-pub length-marks : (numbers : List ℕ) (table : List Bool) → length (with_marks numbers table) ≡ length table
+length-marks : (numbers : List ℕ) (table : List Bool) → length (with_marks numbers table) ≡ length table
 unfolding with_marks
 length-marks [] table = refl
 length-marks (n ∷ ns) table = length-marks ns (set table n true) ∙ length-set table n true
@@ -46,10 +46,6 @@ no-marks property = record { size = length-replicate 1024 false; marks = λ s k 
 -- marks of one walk, and another walk into the same table
 pub marks-kept : (first second : List ℕ → ℕ → Bool) (table : List Bool) → Marked first table → MarkedSoFar (λ s k. first s k || second s k) second table
 marks-kept first second table m = record { size = m.size; marks = λ s k l. ap (λ (b : Bool). b || second s k) (m.marks s k l) }
-
--- marks of three properties, however they are joined
-pub marks_joined : (first second third : List ℕ → ℕ → Bool) (table : List Bool) → Marked (λ s k. (first s k || second s k) || third s k) table → Marked (λ s k. first s k || (second s k || third s k)) table
-marks_joined first second third table m = record { size = m.size; marks = λ s k l. m.marks s k l ∙ or_assoc (first s k) (second s k) (third s k) }
 
 module _ (property left : List ℕ → ℕ → Bool) (table : List Bool) (so : MarkedSoFar property left table) where
   -- some numbers more

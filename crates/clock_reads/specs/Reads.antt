@@ -8,5 +8,5 @@ signal_numbers zero signal = []
 signal_numbers (suc c) signal = signal ∷ []
 
 -- data, enable and reset
-unfoldable pub data_read : RegisterCell → List ℕ
-data_read r = r.«data» ∷ (signal_numbers r.enable r.enable_signal ++ signal_numbers r.reset r.reset_signal)
+unfoldable pub cell_numbers : RegisterCell → List ℕ
+cell_numbers r = r.«data» ∷ (signal_numbers r.enable r.enable_signal ++ signal_numbers r.reset r.reset_signal)

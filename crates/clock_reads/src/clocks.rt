@@ -16,8 +16,8 @@ pub fn clocks(netlist: Netlist) -> [bool; 1024]
     let total = netlist.register_count;
     let mut i: usize = 0;
     while i < total {
-        let register = netlist.registers[i];
-        mark(&mut table, register.clock);
+        let cell = netlist.registers[i];
+        mark(&mut table, cell.clock);
         i += 1;
     }
     table

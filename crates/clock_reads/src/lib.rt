@@ -1,4 +1,4 @@
-// The check that no clock is read as data: 30 an Input that clocks a register and that a node, a register or a cell reads.
+// The check that no clock is read as data: 30 an Input that clocks a register and that a node or a register reads.
 pub mod clocks;
 pub mod marks;
 pub mod reads;

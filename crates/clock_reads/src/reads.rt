@@ -1,16 +1,15 @@
-// The numbers that a node or a cell reads, or a register as data: its data, enable and reset, and not its clock.
-ghost use Rattle.std.specs.Prelude.{◌≡◌, ◌≤◌, ◌||◌, [], ◌∷◌, length, take};
+// The numbers that a node reads, or a register as data: its data, enable and reset, and not its clock.
+ghost use Rattle.std.specs.Prelude.{◌≡◌, ◌||◌, [], ◌∷◌, take};
 ghost use Rattle.model.specs.Record.{inputs_per_kind};
-ghost use Rattle.model.specs.Validate.{nodes_read, registers_read, cells_read};
+ghost use Rattle.model.specs.Validate.{nodes_read, registers_read};
 ghost use Rattle.struo_ir.specs.Decoded.{decoded};
-ghost use Rattle.struo_ir.specs.Designs.{Shaped, Padded};
-ghost use Rattle.cells.specs.Operands.{operand_numbers};
+ghost use Rattle.struo_ir.specs.Designs.{Padded};
 ghost use Rattle.clock_reads.specs.Marks.{with_marks, Marked};
-ghost use Rattle.clock_reads.specs.Reads.{signal_numbers, data_read};
+ghost use Rattle.clock_reads.specs.Reads.{signal_numbers, cell_numbers};
 
 use crate::marks::mark;
 use fields::inputs_per_kind;
-use struo_ir::netlist::{ArithmeticCell, Netlist, Node, RegisterCell};
+use struo_ir::netlist::{Netlist, Node, RegisterCell};
 
 // Marks the node's input numbers.
 fn mark_inputs(table: &mut [bool], node: Node)
@@ -31,19 +30,7 @@ fn mark_inputs(table: &mut [bool], node: Node)
     mark(table, node.third);
 }
 
-// Marks the first numbers of an array.
-fn mark_numbers(table: &mut [bool], numbers: [u16; 16], count: usize)
-    requires { (count ≤ 16) × (length numbers ≡ 16) }
-    ensures { table.new ≡ with_marks (take count numbers) table.old }
-{
-    let mut i: usize = 0;
-    while i < count {
-        mark(table, numbers[i]);
-        i += 1;
-    }
-}
-
-// Marks the signal of an enable or a reset, or a carry, where its code has one.
+// Marks the signal of an enable or a reset, where its code has one.
 fn mark_signal(table: &mut [bool], code: u8, signal: u16)
     ensures { table.new ≡ with_marks (signal_numbers code signal) table.old }
 {
@@ -54,25 +41,12 @@ fn mark_signal(table: &mut [bool], code: u8, signal: u16)
 }
 
 // Marks what the register reads as data.
-fn mark_data(table: &mut [bool], register: RegisterCell)
-    ensures { table.new ≡ with_marks (data_read register) table.old }
+fn mark_data(table: &mut [bool], cell: RegisterCell)
+    ensures { table.new ≡ with_marks (cell_numbers cell) table.old }
 {
-    mark(table, register.data);
-    mark_signal(table, register.enable, register.enable_signal);
-    mark_signal(table, register.reset, register.reset_signal);
-}
-
-// Marks what the cell reads.
-fn mark_operands(table: &mut [bool], cell: ArithmeticCell)
-    requires { Shaped cell }
-    ensures { table.new ≡ with_marks (operand_numbers cell) table.old }
-{
-    let width = cell.width as usize;
-    let left = cell.left;
-    let right = cell.right;
-    mark_numbers(table, left, width);
-    mark_numbers(table, right, width);
-    mark_signal(table, cell.carry, cell.carry_number);
+    mark(table, cell.data);
+    mark_signal(table, cell.enable, cell.enable_signal);
+    mark_signal(table, cell.reset, cell.reset_signal);
 }
 
 // The table of what the nodes read.
@@ -92,7 +66,7 @@ fn node_reads(netlist: Netlist) -> [bool; 1024]
 }
 
 // The table of what the nodes read, and the registers as data.
-fn data_reads(netlist: Netlist) -> [bool; 1024]
+pub fn reads(netlist: Netlist) -> [bool; 1024]
     requires { Padded netlist }
     ensures { Marked (λ s k. nodes_read k (decoded s netlist).nodes || registers_read k (decoded s netlist).registers) result }
 {
@@ -100,24 +74,8 @@ fn data_reads(netlist: Netlist) -> [bool; 1024]
     let total = netlist.register_count;
     let mut i: usize = 0;
     while i < total {
-        let register = netlist.registers[i];
-        mark_data(&mut table, register);
-        i += 1;
-    }
-    table
-}
-
-// The table of what the nodes and the cells read, and the registers as data.
-pub fn reads(netlist: Netlist) -> [bool; 1024]
-    requires { Padded netlist }
-    ensures { Marked (λ s k. nodes_read k (decoded s netlist).nodes || (registers_read k (decoded s netlist).registers || cells_read k (decoded s netlist).cells)) result }
-{
-    let mut table = data_reads(netlist);
-    let total = netlist.cell_count;
-    let mut i: usize = 0;
-    while i < total {
-        let cell = netlist.cells[i];
-        mark_operands(&mut table, cell);
+        let cell = netlist.registers[i];
+        mark_data(&mut table, cell);
         i += 1;
     }
     table

@@ -31,6 +31,6 @@ placed i = map_step (λ n. i)
 unfoldable pub room_for : ℕ → ℕ → ℕ → Bool
 room_for inputs outputs k = not (eqb k input_kind && leb 64 inputs) && not (eqb k output_kind && leb 64 outputs)
 
--- the kind byte in a version, after so many Inputs and Outputs
-unfoldable pub kind_at : ℕ → ℕ → ℕ → Reader ℕ
-kind_at version inputs outputs = guard 6 (room_for inputs outputs) (code (listed_kind version))
+-- the kind byte, after so many Inputs and Outputs
+unfoldable pub kind_at : ℕ → ℕ → Reader ℕ
+kind_at inputs outputs = guard 6 (room_for inputs outputs) (code listed_kind)

@@ -6,8 +6,6 @@ pub const INPUT: u8 = 0x00;
 pub const CONSTANT: u8 = 0x01;
 // No input: what a register shows.
 pub const REGISTER_OUTPUT: u8 = 0x02;
-// No input: an output of an arithmetic cell.
-pub const ARITHMETIC_OUTPUT: u8 = 0x03;
 // One input.
 pub const NOT: u8 = 0x10;
 // One input, and a name.

@@ -1,13 +1,11 @@
 // The fields of a record, each read at an offset. A refusal has its number and the offset of its field.
 pub mod kinds;
 
-ghost use Rattle.std.specs.Prelude.{◌≡◌, ◌+◌, ◌≤◌, ◌&&◌, leb, length};
+ghost use Rattle.std.specs.Prelude.{◌≡◌, ◌+◌, ◌≤◌, length};
 ghost use Rattle.model.specs.Record as Record;
 ghost use Rattle.fields.specs.Fields.{code_of, number_of, placed, room_for, kind_at};
 
-use crate::kinds::{
-    AND, ARITHMETIC_OUTPUT, CONSTANT, INPUT, MUX, NOT, OR, OUTPUT, REGISTER_OUTPUT, XOR,
-};
+use crate::kinds::{AND, CONSTANT, INPUT, MUX, NOT, OR, OUTPUT, REGISTER_OUTPUT, XOR};
 
 // A byte with its next offset, or a refusal.
 #[derive(Drop)]
@@ -30,13 +28,10 @@ pub fn inputs_per_kind(kind: u8) -> u8
     kind / 16
 }
 
-// The test of the kinds that a version lists.
-fn is_listed(version: u8, kind: u8) -> bool
-    ensures { result ≡ Record.listed_kind version kind }
+// The test of listed kinds.
+fn is_listed(kind: u8) -> bool
+    ensures { result ≡ Record.listed_kind kind }
 {
-    if kind == ARITHMETIC_OUTPUT {
-        return 2 <= version;
-    }
     if kind == INPUT {
         return true;
     }
@@ -130,34 +125,15 @@ pub fn read_code_below(bytes: &[u8], n: u8, at: u32) -> Code
     }
 }
 
-// The width byte of a cell, from 1 to 16.
-pub fn read_width(bytes: &[u8], at: u32) -> Code
+// The kind byte of a node, after so many Inputs and Outputs.
+pub fn read_kind(bytes: &[u8], inputs: u32, outputs: u32, at: u32) -> Code
     requires { length bytes.now ≤ 65535 }
-    ensures { code_of result ≡ Record.code (λ w. leb 1 w && leb w 16) bytes.now at }
-{
-    match read_byte(bytes, at) {
-        Code::Refused(number, place) => Code::Refused(number, place),
-        Code::Got(w, next) => {
-            if w < 1 {
-                return Code::Refused(4, at);
-            }
-            if 16 < w {
-                return Code::Refused(4, at);
-            }
-            Code::Got(w, next)
-        }
-    }
-}
-
-// The kind byte of a node in a version, after so many Inputs and Outputs.
-pub fn read_kind(bytes: &[u8], version: u8, inputs: u32, outputs: u32, at: u32) -> Code
-    requires { length bytes.now ≤ 65535 }
-    ensures { code_of result ≡ kind_at version inputs outputs bytes.now at }
+    ensures { code_of result ≡ kind_at inputs outputs bytes.now at }
 {
     match read_byte(bytes, at) {
         Code::Refused(number, place) => Code::Refused(number, place),
         Code::Got(b, next) => {
-            if is_listed(version, b) {
+            if is_listed(b) {
                 if has_room(b, inputs, outputs) {
                     Code::Got(b, next)
                 } else {

@@ -5,24 +5,21 @@ use Rattle.std.proofs.Common.{subst, ◌∙◌, inl, inr, zero-add, add-zero}
 use Rattle.std.specs.Prelude.{◌⊎◌, Bool}
 use Rattle.std.proofs.Math.Bool.{true, false}
 use mathlib.Core.List.Memᴰ
-use mathlib.Core.List.{List, [], ◌∷◌, ◌++◌, map, Memᴰ}
+use mathlib.Core.List.{List, [], ◌∷◌, ◌++◌, Memᴰ}
 use Rattle.std.proofs.Math.Option.{Option, none, some}
 use native.Mathlib.Omega.{arith}
 use Rattle.std.proofs.Math.ListN.{length, get_or, get_elem?, get_or-eq_default}
 use Rattle.std.proofs.Math.Dec.{eqb}
 use Rattle.model.specs.Lists.{snoc}
 use Rattle.model.specs.Names.{Name, Place}
-use Rattle.model.specs.Netlist.{Node, Input, Constant, RegisterOutput, ArithmeticOutput, Not, Output, And, Or, Xor, Mux, Enable, Reset, Register, Cell, Design, input_name, output_name, input_numbers, place_if, ports_from, outputs}
+use Rattle.model.specs.Netlist.{Node, Input, Constant, RegisterOutput, Not, Output, And, Or, Xor, Mux, Enable, Reset, Register, Design, input_name, output_name, input_numbers, place_if, ports_from, outputs}
 use Rattle.model.specs.Validate.{is_input, is_input_at, enable_numbers, reset_numbers, Driver, driver_from, driver, clocks, data_numbers, validate}
-use Rattle.model.specs.Run.{InputBits, StoredBits, InputSequence, bit_at, shown_bit, shown, number_at, carry_at, result_bits, result_bit, node_value, values_from, node_values, enabled_bit, reset_bit, next_bit, next_from, next_stored, output_bits, stored_at, outputs_at}
+use Rattle.model.specs.Run.{InputBits, StoredBits, InputSequence, bit_at, shown_bit, shown, node_value, values_from, node_values, enabled_bit, reset_bit, next_bit, next_from, next_stored, output_bits, stored_at, outputs_at}
 use Rattle.facts.specs.Bools.{is_false}
 use Rattle.facts.specs.Lists.{All, all_map}
 use Rattle.facts.specs.Numbers.{below}
 use Rattle.laws.specs.Lists.{length-snoc, get_or-snoc-old, get_or-snoc-new}
-use Rattle.model.specs.Arithmetic.{bit_number}
-use Rattle.model.specs.Cells.{lefts, rights, carry_numbers, operands, CellBit, cell_bit}
-use Rattle.laws.specs.Terms.{by_node, by_register, by_cell, AlikeButClocks}
-use Rattle.laws.specs.Record.Cells.{bit-lists}
+use Rattle.laws.specs.Terms.{by_node, by_register, AlikeButClocks}
 use Rattle.laws.specs.Record.ClockRead.{contrary, read-apart, clock-input}
 use Rattle.laws.specs.Lowering.Rows.{all_sorted, map_same}
 
@@ -61,16 +58,6 @@ module _ (d : Design) (valid : validate d ≡ none) where
   -- nor is what a register reads as data
   register_plain : (r : Register) → Memᴰ r d.registers → (k : ℕ) → Memᴰ k (data_numbers r) → Plain k
   register_plain r m k i = read-apart d valid k (by_register r m i)
-
-  -- nor is what a cell reads
-  cell_plain : (c : Cell) → Memᴰ c d.cells → (k : ℕ) → Memᴰ k (operands c) → Plain k
-  cell_plain c m k i = read-apart d valid k (by_cell c m i)
-
-  -- what stands at a place is one of the list
-  at_held : {A : Type 0} (xs : List A) (i : ℕ) (x : A) → get_elem? xs i ≡ some x → Memᴰ x xs
-  at_held [] i x h = absurd (let z : ◌≡◌ {A = ℕ} 0 1 = cc in omega arith)
-  at_held (y ∷ xs) zero x h = let e : y ≡ x = cc in Memᴰ.head (sym e)
-  at_held (y ∷ xs) (suc i) x h = Memᴰ.tail (at_held xs i x h)
 
   -- a driver is one of the registers
   driver-held : (k net : ℕ) (rs : List Register) (x : Driver) → driver_from k net rs ≡ some x → Memᴰ x.register rs
@@ -129,33 +116,6 @@ module _ (d : Design) (valid : validate d ≡ none) where
         go none e = q
         go (some z) e = rw (alike.same z.signal (reset_plain r m z e), q)
 
-    -- the bits of numbers that are no clocks
-    bits-same : (ks : List ℕ) → ((k : ℕ) → Memᴰ k ks → Plain k) → map (bit_at xs) ks ≡ map (bit_at ys) ks
-    bits-same [] h = refl
-    bits-same (k ∷ ks) h = ap₂ ◌∷◌ (alike.same k (h k (Memᴰ.head refl))) (bits-same ks (λ j m. h j (Memᴰ.tail m)))
-
-    carry_same : (o : Option ℕ) → ((k : ℕ) → Memᴰ k (carry_numbers o) → Plain k) → carry_at xs o ≡ carry_at ys o
-    unfolding carry_at carry_numbers
-    carry_same none h = refl
-    carry_same (some k) h = ap bit_number (alike.same k (h k (Memᴰ.head refl)))
-
-    -- the result of a cell
-    result-same : (c : Cell) → Memᴰ c d.cells → result_bits xs c ≡ result_bits ys c
-    unfolding result_bits number_at operands
-    result-same c m =
-        let plain = cell_plain c m in
-        rw (
-          bits-same (lefts c) (λ k i. plain k (Memᴰ.append_left {s = lefts c} (rights c ++ carry_numbers c.carry) i)),
-          bits-same (rights c) (λ k i. plain k (Memᴰ.append_right (lefts c) {t = rights c ++ carry_numbers c.carry} (Memᴰ.append_left {s = rights c} (carry_numbers c.carry) i))),
-          carry_same c.carry (λ k i. plain k (Memᴰ.append_right (lefts c) {t = rights c ++ carry_numbers c.carry} (Memᴰ.append_right (rights c) {t = carry_numbers c.carry} i))),
-        )
-
-    -- what an ArithmeticOutput shows
-    bit-same : (i : ℕ) (o : Option CellBit) → cell_bit d.cells i ≡ o → result_bit xs o ≡ result_bit ys o
-    unfolding result_bit cell_bit
-    bit-same i none e = refl
-    bit-same i (some b) e = let l = bit-lists 0 i d.cells b e in ap (λ (bits : List Bool). bit_at bits b.place) (result-same b.cell (at_held d.cells l.at b.cell l.here))
-
     -- the next stored bits
     next-same : (stored : StoredBits) (k : ℕ) (rs : List Register) → ((r : Register) → Memᴰ r rs → Memᴰ r d.registers) → next_from xs stored k rs ≡ next_from ys stored k rs
     unfolding next_from next_bit
@@ -166,12 +126,11 @@ module _ (d : Design) (valid : validate d ≡ none) where
 
     -- the value of a node that is no clock: two rows of input bits that agree at its name, where it is an Input
     node-same : (inp other : InputBits) (stored : StoredBits) (i : ℕ) (n : Node) → Memᴰ n d.nodes → ((x : Name) → n ≡ Input x → inp x ≡ other x)
-        → node_value d.cells d.registers inp stored xs i n ≡ node_value d.cells d.registers other stored ys i n
+        → node_value d.registers inp stored xs i n ≡ node_value d.registers other stored ys i n
     unfolding node_value input_numbers driver
     node-same inp other stored i (Input x) m e = e x refl
     node-same inp other stored i (Constant b) m e = refl
     node-same inp other stored i RegisterOutput m e = driver-same stored (driver d.registers i) (driver-held 0 i d.registers)
-    node-same inp other stored i ArithmeticOutput m e = bit-same i (cell_bit d.cells i) refl
     node-same inp other stored i (Not a) m e = rw (alike.same a (node_plain (Not a) m a (Memᴰ.head refl)))
     node-same inp other stored i (Output x a) m e = alike.same a (node_plain (Output x a) m a (Memᴰ.head refl))
     node-same inp other stored i (And a b) m e =
@@ -196,7 +155,7 @@ module _ (d : Design) (valid : validate d ≡ none) where
   module _ (inp other : InputBits) (stored : StoredBits) where
     values-alike : (i : ℕ) (ns : List Node) (xs ys : List Bool) → ((n : Node) → Memᴰ n ns → Memᴰ n d.nodes)
         → ((j : ℕ) (x : Name) → get_elem? ns j ≡ some (Input x) → Plain (i + j) → inp x ≡ other x) → length xs ≡ i → Alike xs ys
-        → Alike (values_from d.cells d.registers inp stored i ns xs) (values_from d.cells d.registers other stored i ns ys)
+        → Alike (values_from d.registers inp stored i ns xs) (values_from d.registers other stored i ns ys)
     unfolding values_from snoc
     values-alike i [] xs ys held agree l h = h
     values-alike i (n ∷ ns) xs ys held agree l h =
@@ -216,7 +175,6 @@ module _ (d : Design) (valid : validate d ≡ none) where
   output-no-input (Input y) x e = absurd (let z : ◌≡◌ {A = ℕ} 0 1 = cc in omega arith)
   output-no-input (Constant b) x e = refl
   output-no-input RegisterOutput x e = refl
-  output-no-input ArithmeticOutput x e = refl
   output-no-input (Not a) x e = refl
   output-no-input (Output y a) x e = refl
   output-no-input (And a b) x e = refl

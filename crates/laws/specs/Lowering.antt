@@ -1,8 +1,6 @@
 -- The lowering: a transition system runs as its design does. Assumes nothing.
 pub mod SystemRun
 pub mod Lists
-pub mod Words
-pub mod Results
 pub mod Walk
 pub mod Shape
 pub mod Registers

@@ -1,17 +1,14 @@
 -- What is promised of the check, of replay, of the stepping call and of read, on one page and with nothing assumed. Every word here is of `model`, or of `Terms` and `StepTerms`, which add a few definitions over `model` alone. `checked` is the definition of the check of two records under a caller's options (maximum depth, limit of learned literals, mode of the earliest cycle), as a refusal or a status and a depth; `check` is the call, under the same options, with every number and every lent byte; `check_designs` is the check of two designs, each from its own start bits. Assumes nothing.
-use Rattle.std.specs.Prelude.{ℕ, suc, ◌/◌, ◌%◌, ◌≤◌, ◌<◌, ◌≡◌, ◌≢◌, ◌⊎◌, ◌↔◌, Bool, true, false, length, get_or, drop, replicate, Float}
+use Rattle.std.specs.Prelude.{ℕ, suc, ◌/◌, ◌≤◌, ◌<◌, ◌≡◌, ◌≢◌, ◌⊎◌, ◌↔◌, Bool, true, false, length, get_or, drop, replicate, Float}
 use mathlib.Core.List.{List, [], ◌∷◌, ◌++◌, Memᴰ}
 use Rattle.std.proofs.Math.Option.{none, some}
-use Rattle.std.proofs.Math.ListN.{get_elem?}
 use Rattle.model.specs.Answers.{Refusal, accepted, Status, Equivalent, NotEquivalent, GaveUp, status_number, Asked, refused_answer, accepted_answer}
 use Rattle.model.specs.Options.{Options, to_depth, first_query}
 use Rattle.model.specs.Names.{Name, member_name, names_of}
-use Rattle.model.specs.Arithmetic.{power, result_of}
-use Rattle.model.specs.Cells.{width, lefts, rights, results, operands, CellBit, cell_bit}
-use Rattle.model.specs.Netlist.{Node, Cell, Design, inputs, outputs, input_numbers}
+use Rattle.model.specs.Netlist.{Node, Design, inputs, outputs, input_numbers}
 use Rattle.model.specs.Record.{got, listed_kind, node, parsed, parse}
 use Rattle.model.specs.Validate.{validate, read}
-use Rattle.model.specs.Run.{InputBits, bit_at, number_at, carry_at, result_bits, node_values, StoredBits, InputSequence, stored_at, outputs_at, initial_bits}
+use Rattle.model.specs.Run.{StoredBits, InputSequence, stored_at, outputs_at, initial_bits}
 use Rattle.model.specs.Pair.{Lent, both, read_pair, inputs_differ, outputs_differ, interface_fault, proof_nodes, check_refusal, replay_fault}
 use Rattle.model.specs.Replay.{claim_inputs, differ_at, agree_before, replays, replay, steps_replay}
 use Rattle.model.specs.Stepping.{LentPosition, step_fault, begin, step}
@@ -23,15 +20,11 @@ use Rattle.model.specs.Equivalence.{Problem, Query, base_counterexample, ask, un
 use Rattle.model.specs.Equivalence as Search
 use Rattle.model.specs.Check.{problem_of, check_designs, accepted_check, check_outcome, check_result, lent_of, check, checked}
 use Rattle.laws.specs.Search.Limits.{give_up_needed}
-use Rattle.laws.specs.Terms.{fault_before30, OfRecord, UpToKind, OfCheck, OfReplay, replay_refusal, RefusedWith, UnusedZero, learned_of, proved_of, seven_of, AsOutcome, Called, TraceLeft, CalledEquivalent, Comparable, checked_designs, LargerLimit, in_mode, outcome_to, OverLimit, Linked, JoinedDesigns, ClockReadAt, LowestClockRead, AlikeButClocks, SameButClock, SameRuns, SameClaim, TraceGood, Yes, Settled, answer_total, literal_count, Reached, GivesUp, QueryOf, Asks, StopsAt, Told, Sooner, FirstLargest, LastGivesUp, EqualThrough, proved_by_place, CanDiffer, Earliest, EarliestAt, GoesOn, AsFar}
+use Rattle.laws.specs.Terms.{fault_to15, OfRecord, UpToKind, OfCheck, OfReplay, replay_refusal, RefusedWith, UnusedZero, learned_of, proved_of, seven_of, AsOutcome, Called, TraceLeft, CalledEquivalent, Comparable, checked_designs, LargerLimit, in_mode, outcome_to, OverLimit, Linked, JoinedDesigns, ClockReadAt, LowestClockRead, AlikeButClocks, SameButClock, SameRuns, SameClaim, TraceGood, Yes, Settled, answer_total, literal_count, Reached, GivesUp, QueryOf, Asks, StopsAt, Told, Sooner, FirstLargest, LastGivesUp, EqualThrough, proved_by_place, CanDiffer, Earliest, EarliestAt, GoesOn, AsFar}
 use Rattle.laws.specs.StepTerms.{begin_refusal, step_refusal, OfBegin, OfStep, after_begin, step_answer, after_steps, run_position, held_at, moved_from, BytesKept, SameBits}
 use Rattle.laws.specs.Record.KindBytes.{node-counted, unlisted-refused}
 use Rattle.laws.specs.Record.ClockRead.{clock-refused, reads_no-clock}
-use Rattle.facts.specs.Lists.{All}
 use Rattle.laws.specs.ClockRun.{stored_same, run-outputs-same}
-use Rattle.laws.specs.CellRun.{result-shows, number-shown}
-use Rattle.laws.specs.Record.Cells.{cells_settled}
-use Rattle.laws.specs.Record.Limits.{Limits, parse_limits}
 use Rattle.laws.specs.Induction.Chain.{chain_outputs}
 use Rattle.laws.specs.Induction.Pairs.{comparable}
 use Rattle.laws.specs.Check.Call.{check-refuses, outcome-is, check-refused, check-cleared}
@@ -67,7 +60,7 @@ refused_exactly = check-refuses
 pub else_answered : (a b : List ℕ) (o : Options) (lent : Lent) → check_refusal a b o lent ≡ none → (status : Status) × (d : ℕ) × (checked a b o lent ≡ answered status d)
 else_answered = check-answers
 
--- every refusal of a check has a number from 1 to 24, from 26 to 28, or 30, or is 36 with side and place 0
+-- every refusal of a check has a number from 1 to 24, or 30, or is 36 with side and place 0
 pub refusal-numbered : (a b : List ℕ) (o : Options) (lent : Lent) (r : Refusal) → check_refusal a b o lent ≡ some r → OfCheck r
 refusal-numbered = check-within
 
@@ -80,16 +73,16 @@ number-zero_exactly = number-zero
 pub read_accepts_exactly : (s : List ℕ) → ((read s).number ≡ 0) ↔ ((d : Design) × (parse s ≡ parsed d) × (validate d ≡ none))
 read_accepts_exactly = read-zero
 
--- it answers three zeros, or a number from 1 to 15, from 26 to 28, or 30, on side 0
+-- it answers three zeros, or a number from 1 to 15, or 30, on side 0
 pub read-numbered : (s : List ℕ) → (read s ≡ accepted) ⊎ OfRecord (read s)
 read-numbered = read-answers
 
--- a node that is read has a kind listed in its version, and as many inputs as its kind byte divided by 16
-pub kind_byte-counts : (version : ℕ) (ns : List Node) (n : Node) (s : List ℕ) (i j : ℕ) → node (listed_kind version) ns s i ≡ got n j → (listed_kind version (get_or s i 0) ≡ true) × (length (input_numbers n) ≡ get_or s i 0 / 16)
+-- a node that is read has a listed kind, and as many inputs as its kind byte divided by 16
+pub kind_byte-counts : (ns : List Node) (n : Node) (s : List ℕ) (i j : ℕ) → node listed_kind ns s i ≡ got n j → (listed_kind (get_or s i 0) ≡ true) × (length (input_numbers n) ≡ get_or s i 0 / 16)
 kind_byte-counts = node-counted
 
--- where a record is in order up to the kind byte of a node and that byte is not listed in its version, read answers 4 at that byte, whatever stands behind it
-pub unlisted_kind_refused : (s : List ℕ) (m place : ℕ) → UpToKind s m place → listed_kind (get_or s 0 0) (get_or s place 0) ≡ false → read s ≡ record { number = 4; side = 0; place = place }
+-- where a record is in order up to the kind byte of a node and that byte is not listed, read answers 4 at that byte, whatever stands behind it
+pub unlisted_kind_refused : (s : List ℕ) (m place : ℕ) → UpToKind s m place → listed_kind (get_or s place 0) ≡ false → read s ≡ record { number = 4; side = 0; place = place }
 unlisted_kind_refused = unlisted-refused
 
 -- where read refuses gold's record, every check and every replay of the pair is refused with what it answers
@@ -223,9 +216,9 @@ pub larger_limit : (o larger : Options) → LargerLimit o larger → larger.limi
 larger_limit = check_larger
 
 -- nor anything else that the call leaves: mismatch, query, what was learned, trace, words and scores
-pub larger_limit-result : (o larger : Options) → LargerLimit o larger → larger.limit ≤ 262144 → (a b : List ℕ) (lent : Lent) (status : Status) (d : ℕ) → checked a b o lent ≡ answered status d → status ≢ GaveUp
+pub larger_limit_result : (o larger : Options) → LargerLimit o larger → larger.limit ≤ 262144 → (a b : List ℕ) (lent : Lent) (status : Status) (d : ℕ) → checked a b o lent ≡ answered status d → status ≢ GaveUp
     → (trace words : List ℕ) (scores : List Float) → check_result (check_outcome a b larger lent) trace words scores ≡ check_result (check_outcome a b o lent) trace words scores
-larger_limit-result = result_larger
+larger_limit_result = result_larger
 
 -- and a query gives up only where it has to: under any larger limit that settles it, it learns more literals than the limit
 pub gives_up_only_above : (limit larger : ℕ) → limit ≤ larger → (g : Aig) (assumptions : List Literal) (k : ℕ) → solve limit g assumptions ≡ gave_up k
@@ -624,11 +617,11 @@ step_looks_at-registers = step-alike
 
 -- read answers 30 exactly where the bytes are parsed to a design that passes every check before it and has an Input that clocks one of its registers and is read; the place is the lowest such Input
 pub clock-read-refused_exactly : (s : List ℕ) (k : ℕ)
-    → (read s ≡ record { number = 30; side = 0; place = k }) ↔ ((d : Design) × (parse s ≡ parsed d) × (fault_before30 d ≡ none) × LowestClockRead d k)
+    → (read s ≡ record { number = 30; side = 0; place = k }) ↔ ((d : Design) × (parse s ≡ parsed d) × (fault_to15 d ≡ none) × LowestClockRead d k)
 clock-read-refused_exactly = clock-refused
 
 -- no check refuses a design exactly where those before 30 do not and it reads none of its clocks
-pub accepted_reads_no-clock : (d : Design) → (validate d ≡ none) ↔ ((fault_before30 d ≡ none) × ((k : ℕ) → ClockReadAt d k → ⊥))
+pub accepted_reads_no-clock : (d : Design) → (validate d ≡ none) ↔ ((fault_to15 d ≡ none) × ((k : ℕ) → ClockReadAt d k → ⊥))
 accepted_reads_no-clock = reads_no-clock
 
 -- two input sequences that differ at Inputs that clock its registers alone give a design the same outputs in every cycle, from any start bits
@@ -665,27 +658,6 @@ clock_changes_no-step = step_same
 pub trace-replays-on_any_clock : (a b : List ℕ) (o : Options) (lent : Lent) (gold gate : Design) (d m : ℕ) (bytes other : List ℕ) → check_refusal a b o lent ≡ none → read_pair a b ≡ both gold gate
     → (check_designs o gold gate (initial_bits gold) (initial_bits gate)).verdict ≡ Search.NotEquivalent d m bytes → SameClaim gold m bytes other → replay a b m other ≡ record { refusal = accepted; yes = true }
 trace-replays-on_any_clock = check-replays-clock
-
--- ==== arithmetic cells: what they show, and how many a record has
-
--- in every cycle of an accepted design's run the results of a cell say the result of the numbers that it reads, modulo 2 to its width: left + right + carry, left - right (with 2 to the width more), or left × right
-pub cell-shows : (d : Design) → validate d ≡ none → (inp : InputBits) (stored : StoredBits) (j : ℕ) (c : Cell) → get_elem? d.cells j ≡ some c
-    → number_at (node_values d inp stored) (results c)
-    ≡ result_of c.operation (width c) (number_at (node_values d inp stored) (lefts c)) (number_at (node_values d inp stored) (rights c)) (carry_at (node_values d inp stored) c.carry) % power (width c)
-cell-shows = number-shown
-
--- each result shows its own bit, the lowest first
-pub cell-bit-shows : (d : Design) → validate d ≡ none → (inp : InputBits) (stored : StoredBits) (j : ℕ) (c : Cell) → get_elem? d.cells j ≡ some c → (k o : ℕ) → get_elem? (results c) k ≡ some o
-    → bit_at (node_values d inp stored) o ≡ bit_at (result_bits (node_values d inp stored) c) k
-cell-bit-shows = result-shows
-
--- what a cell reads stands below each of its results
-pub cell_reads_below : (d : Design) → validate d ≡ none → (net : ℕ) (b : CellBit) → cell_bit d.cells net ≡ some b → (get_elem? d.cells b.number ≡ some b.cell) × All (λ (k : ℕ). k < net) (operands b.cell)
-cell_reads_below = cells_settled
-
--- a parsed design has at most 64 cells, each of 1 to 16 bits; 128 registers, 64 Inputs and 64 Outputs
-pub parsed-within_limits : (s : List ℕ) (d : Design) → parse s ≡ parsed d → Limits d
-parsed-within_limits = parse_limits
 
 -- ==== the check of two designs, each from its own start bits: the laws of two records are these at the initial bits
 

@@ -6,5 +6,4 @@ pub mod Limits
 pub mod KindBytes
 pub mod Accepted
 pub mod Valid
-pub mod Cells
 pub mod ClockRead

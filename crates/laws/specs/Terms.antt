@@ -9,10 +9,9 @@ use Rattle.model.specs.Answers as Answers
 use Rattle.model.specs.Lists.{snoc}
 use Rattle.model.specs.Options.{Options, to_depth, first_query}
 use Rattle.model.specs.Names.{Name, member_name, names_of}
-use Rattle.model.specs.Netlist.{Node, Input, Register, Cell, Design, inputs, outputs, input_count, input_numbers}
+use Rattle.model.specs.Netlist.{Node, Input, Register, Design, inputs, outputs, input_count, input_numbers}
 use Rattle.model.specs.Record.{got, number, name, listed_kind, nodes_from, length_fits}
-use Rattle.model.specs.Validate.{◌otherwise◌, refuse_if, nodes_fault, is_input_at, registers_fault, connection_fault, cells_fault, result_fault, reset_fault, clock_fault, clocks, data_numbers, validate}
-use Rattle.model.specs.Cells.{operands}
+use Rattle.model.specs.Validate.{◌otherwise◌, refuse_if, nodes_fault, is_input_at, registers_fault, connection_fault, reset_fault, clock_fault, clocks, data_numbers, validate}
 use Rattle.model.specs.Run.{StoredBits, InputSequence, bit_at, stored_at, outputs_at, initial_bits}
 use Rattle.model.specs.Pair.{Lent, Domain, domain, interface_fault, initial_fault, proof_nodes, trace_length, too_short, all_bits, replay_fault, ReadPair, both, refused_pair, read_pair}
 use Rattle.model.specs.Replay.{claim_bit, claim_inputs, differ_at, replays, replay}
@@ -32,21 +31,18 @@ pub record Within (first last : ℕ) (r : Refusal) : Type 0 where
   pub low : first ≤ r.number
   pub high : r.number ≤ last
 
--- the first refusal of 7 to 15 and 26 to 28, the checks of a design before 30
-unfoldable pub fault_before30 : Design → Option Refusal
-fault_before30 d =
+-- the first refusal of 7 to 15, the checks of a design before 30
+unfoldable pub fault_to15 : Design → Option Refusal
+fault_to15 d =
     nodes_fault 0 [] d.nodes
     otherwise registers_fault d.nodes 0 [] [] d.registers
     otherwise connection_fault d.registers 0 d.nodes
-    otherwise cells_fault d.nodes 0 [] [] d.cells
-    otherwise result_fault d.cells 0 d.nodes
     otherwise reset_fault d.registers 0 d.nodes
     otherwise clock_fault d.nodes 0 d.registers
 
--- a refusal of one record, on either side: 1 to 15, 26 to 28, or 30
+-- a refusal of one record, on either side: 1 to 15, or 30
 pub data OfOne (r : Refusal) : Type 0 where
   of_fields : Within 1 15 r → OfOne r
-  of_cells : Within 26 28 r → OfOne r
   of_clock : r.number ≡ 30 → OfOne r
 
 -- a refusal of a read: one of a record, on side 0
@@ -57,8 +53,7 @@ pub record OfRecord (r : Refusal) : Type 0 where
 -- the record's bytes up to the kind byte of node m, at the place: length, version, name and count are in order, and the m nodes before it are read
 pub record UpToKind (s : List ℕ) (m place : ℕ) : Type 0 where
   pub sized : length_fits s ≡ true
-  pub first : 1 ≤ get_or s 0 0
-  pub last : get_or s 0 0 ≤ 2
+  pub version : get_or s 0 0 ≡ 1
   pub design_name : Name
   pub count_at : ℕ
   pub named : name s 5 ≡ got design_name count_at
@@ -67,7 +62,7 @@ pub record UpToKind (s : List ℕ) (m place : ℕ) : Type 0 where
   pub few : count ≤ 1024
   pub declared : m < count
   pub before : List Node
-  pub nodes_before : nodes_from (listed_kind (get_or s 0 0)) m [] s (count_at + 2) ≡ got before place
+  pub nodes_before : nodes_from listed_kind m [] s (count_at + 2) ≡ got before place
   pub within : place < length s
 
 -- a refusal of a check: one of a record, 16 to 24, or 36 with side and place 0
@@ -257,11 +252,10 @@ pub record JoinedDesigns (a b : Begun) : Type 0 where
 
 -- ---- the clock
 
--- node k is read: by a node, as the data, enable or reset of a register, or by a cell
+-- node k is read: by a node, or as the data, enable or reset of a register
 pub data ReadAt (d : Design) (k : ℕ) : Type 0 where
   by_node : (n : Node) → Memᴰ n d.nodes → Memᴰ k (input_numbers n) → ReadAt d k
   by_register : (r : Register) → Memᴰ r d.registers → Memᴰ k (data_numbers r) → ReadAt d k
-  by_cell : (c : Cell) → Memᴰ c d.cells → Memᴰ k (operands c) → ReadAt d k
 
 -- node k is an Input that clocks one of the design's registers, and is read
 pub record ClockReadAt (d : Design) (k : ℕ) : Type 0 where

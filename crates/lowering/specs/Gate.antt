@@ -4,25 +4,24 @@ use Rattle.std.proofs.Math.Path.{refl}
 use Rattle.std.proofs.Common.{◌∙◌, arith}
 use Rattle.std.proofs.Math.Bool.{true, false, cond}
 use borrow.Author.Tests.{ne_eqb}
-use Rattle.words.specs.Layout.{RESULTS, NETS, STATES}
+use Rattle.words.specs.Layout.{NETS, STATES}
 use Rattle.words.specs.Region.{region}
-use Rattle.model.specs.Kinds.{input_kind, constant_kind, register_output_kind, arithmetic_output_kind, not_kind, output_kind, and_kind, or_kind, xor_kind, mux_kind, by_kind}
+use Rattle.model.specs.Kinds.{input_kind, constant_kind, register_output_kind, not_kind, output_kind, and_kind, or_kind, xor_kind, mux_kind, by_kind}
 use Rattle.model.specs.Literal.{Literal, FALSE, negate, constant_literal}
 use Rattle.model.specs.Aig.{Aig, Built, variable, and, or, xor, mux}
 use Rattle.model.specs.Names.{Name}
-use Rattle.model.specs.Netlist.{Node, Input, Constant, RegisterOutput, ArithmeticOutput, Not, Output, And, Or, Xor, Mux}
+use Rattle.model.specs.Netlist.{Node, Input, Constant, RegisterOutput, Not, Output, And, Or, Xor, Mux}
 use Rattle.model.specs.Record.{node_of}
 use Rattle.model.specs.Transition.{net_literal}
 use Rattle.laws.specs.Record.Kinds.{by_kind_lem}
 use Rattle.aig.specs.Made.{Ready, Made, made_none}
 use Rattle.aig.specs.Graph.{graph_of}
 
--- what a node makes of the graph, from the literals of the nets; a register output its state's variable; of an arithmetic output nothing, which is its cell's
+-- what a node makes of the graph, from the literals of the nets; a register output its state's variable
 unfoldable pub gate_of : Aig → List Literal → Node → Built
 gate_of g nets (Input n) = variable g
 gate_of g nets (Constant b) = record { aig = g; literal = constant_literal b }
 gate_of g nets RegisterOutput = variable g
-gate_of g nets ArithmeticOutput = record { aig = g; literal = FALSE }
 gate_of g nets (Not a) = record { aig = g; literal = negate (net_literal nets a) }
 gate_of g nets (Output n a) = record { aig = g; literal = net_literal nets a }
 gate_of g nets (And a b) = and g (net_literal nets a) (net_literal nets b)
@@ -37,7 +36,7 @@ no_gate g = record { aig = g; literal = FALSE }
 -- the same by the kind of a gate with two or three inputs; FALSE for another kind
 unfoldable pub pair_by : Aig → List Literal → ℕ → ℕ → ℕ → ℕ → Built
 pair_by g nets k a b c =
-    by_kind k (no_gate g) (no_gate g) (no_gate g) (no_gate g) (no_gate g) (no_gate g)
+    by_kind k (no_gate g) (no_gate g) (no_gate g) (no_gate g) (no_gate g)
     (and g (net_literal nets a) (net_literal nets b))
     (or g (net_literal nets a) (net_literal nets b))
     (xor g (net_literal nets a) (net_literal nets b))
@@ -47,7 +46,7 @@ pair_by g nets k a b c =
 -- the same by the kind of any node, its value and its input numbers
 unfoldable pub gate_by : Aig → List Literal → ℕ → ℕ → ℕ → ℕ → ℕ → Built
 gate_by g nets k v a b c =
-    by_kind k (variable g) (record { aig = g; literal = constant_literal (eqb v 1) }) (variable g) (no_gate g)
+    by_kind k (variable g) (record { aig = g; literal = constant_literal (eqb v 1) }) (variable g)
     (record { aig = g; literal = negate (net_literal nets a) })
     (record { aig = g; literal = net_literal nets a })
     (and g (net_literal nets a) (net_literal nets b))
@@ -59,7 +58,7 @@ gate_by g nets k v a b c =
 -- the decoded node's gate
 pub gate_of_lem : (g : Aig) (nets : List Literal) (k : ℕ) (n : Name) (v a b c : ℕ) → gate_of g nets (node_of k n v (a ∷ b ∷ c ∷ [])) ≡ gate_by g nets k v a b c
 unfolding gate_of gate_by node_of constant_literal
-gate_of_lem g nets k n v a b c = by_kind_lem (gate_of g nets) k _ _ _ _ _ _ _ _ _ _ _
+gate_of_lem g nets k n v a b c = by_kind_lem (gate_of g nets) k _ _ _ _ _ _ _ _ _ _
 
 -- ---- nets that read alike
 
@@ -72,7 +71,6 @@ unfolding gate_of
 gate-alike g xs ys (Input n) e = refl
 gate-alike g xs ys (Constant b) e = refl
 gate-alike g xs ys RegisterOutput e = refl
-gate-alike g xs ys ArithmeticOutput e = refl
 gate-alike g xs ys (Not a) e = rw (e.at a)
 gate-alike g xs ys (Output n a) e = rw (e.at a)
 gate-alike g xs ys (And a b) e = rw (e.at a, e.at b)
@@ -82,12 +80,11 @@ gate-alike g xs ys (Mux c a b) e = rw (e.at c, e.at a, e.at b)
 
 -- ---- what the code made
 
--- the words hold a graph of c nodes; the nets' literals, the state variables and the cells' literals are of it
+-- the words hold a graph of c nodes; the nets' literals and the state variables are of it
 pub record Netted (c : ℕ) (w : List ℕ) : Type 0 where
   pub ready : Ready c w
   pub nets : (a : ℕ) → net_literal (region NETS w) a < c * 2
   pub states : (k : ℕ) → get_or (region STATES w) k 0 < c * 2
-  pub results : (k : ℕ) → get_or (region RESULTS w) k 0 < c * 2
 
 -- the same work with more room
 pub made_more : {k n : ℕ} {w : List ℕ} {n' : ℕ} {w' : List ℕ} {l : ℕ} {m : Built} (k' : ℕ) → k ≤ k' → Made k n w n' w' l m → Made k' n w n' w' l m
@@ -122,7 +119,7 @@ module _ (g : Aig) (nets : List Literal) (k a b c : ℕ) where
   pair-none p q r s =
       let z = no_gate g in
       rw (ne_eqb k and_kind p, ne_eqb k or_kind q, ne_eqb k xor_kind r, ne_eqb k mux_kind s)
-      (either (eqb k input_kind) z _ (either (eqb k constant_kind) z _ (either (eqb k register_output_kind) z _ (either (eqb k arithmetic_output_kind) z _ (either (eqb k not_kind) z _ (either (eqb k output_kind) z _ refl))))))
+      (either (eqb k input_kind) z _ (either (eqb k constant_kind) z _ (either (eqb k register_output_kind) z _ (either (eqb k not_kind) z _ (either (eqb k output_kind) z _ refl)))))
     where
       either : (t : Bool) (x y : Built) → x ≡ y → x ≡ cond t x y
       either true x y e = refl

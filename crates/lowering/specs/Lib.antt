@@ -3,9 +3,6 @@ pub mod Gate
 pub mod Walk
 pub mod Step
 pub mod Driver
-pub mod Cells
-pub mod CellLaws
 pub mod Nodes
 pub mod Registers
-pub mod Room
 pub mod System

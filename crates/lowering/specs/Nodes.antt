@@ -1,5 +1,5 @@
 -- The walk over all nodes of a decoded design. Assumes nothing.
-use Rattle.std.specs.Prelude.{◌≡◌, refl, Bool, true, false, cond, ℕ, suc, ◌+◌, ◌≤◌, ◌<◌, eqb, get_or, set}
+use Rattle.std.specs.Prelude.{◌≡◌, refl, Bool, true, false, cond, ℕ, suc, ◌+◌, ◌*◌, ◌≤◌, ◌<◌, eqb, get_or, set}
 use Rattle.std.proofs.Math.Path.{ap}
 use Rattle.std.proofs.Common.{◌∙◌, arith, take-suc, get_or-take, ne_eqb}
 use mathlib.Core.List.{List, [], ◌∷◌, ◌++◌}
@@ -8,9 +8,9 @@ use Rattle.std.proofs.Math.ListN.{length, take, length-take, length-map, get_or-
 use Rattle.words.specs.Layout.{TABLE, NETS, STATES}
 use Rattle.words.specs.Region.{region}
 use Rattle.model.specs.Aig.{variable}
-use Rattle.model.specs.Kinds.{input_kind, constant_kind, register_output_kind, arithmetic_output_kind, not_kind, output_kind, and_kind, or_kind, xor_kind, mux_kind, by_kind}
+use Rattle.model.specs.Kinds.{input_kind, constant_kind, register_output_kind, not_kind, output_kind, and_kind, or_kind, xor_kind, mux_kind, by_kind}
 use Rattle.model.specs.Names.{Name}
-use Rattle.model.specs.Netlist.{is_register_output, is_arithmetic_output, Register, Cell, RegisterOutput, ArithmeticOutput}
+use Rattle.model.specs.Netlist.{is_register_output, Register, RegisterOutput}
 use Rattle.model.specs.Netlist as Model
 use Rattle.model.specs.Record.{node_of}
 use Rattle.model.specs.Transition.{Lowering, driver_reset, shown, lower_node, lower_nodes, no_nodes}
@@ -25,9 +25,6 @@ use Rattle.lowering.specs.declared.resets.ResetCell.{ResetCell}
 use Rattle.lowering.specs.Gate.{gate_by, gate_of_lem, Netted}
 use Rattle.lowering.specs.Walk.{Walked, elsewhere}
 use Rattle.lowering.specs.Step.{Entered, reset_of, walked-gate, walked-register}
-use Rattle.model.specs.Cells.{cell_bit}
-use Rattle.cells.specs.CellTable.{cell_bit_by}
-use Rattle.lowering.specs.Cells.{ResultMade}
 use Rattle.lowering.specs.Driver.{Driven}
 
 -- ---- one node
@@ -36,7 +33,8 @@ use Rattle.lowering.specs.Driver.{Driven}
 pub record Taken (node : Node) (n : Netlist) (net c : ℕ) (w : List ℕ) (c' : ℕ) (w' : List ℕ) : Type 0 where
   pub netted : Netted c' w'
   pub same : Same elsewhere w w'
-  pub walked : (s : List ℕ) (l : Lowering) → Walked l net c w → Walked (lower_node (decoded s n).cells (decoded s n).registers l net (decoded_node s node)) (net + 1) c' w'
+  pub within : c' ≤ c + 4
+  pub walked : (s : List ℕ) (l : Lowering) → Walked l net c w → Walked (lower_node (decoded s n).registers l net (decoded_node s node)) (net + 1) c' w'
 
 -- a choice of false or what is false
 false_either : (t : Bool) {x : Bool} → x ≡ false → cond t false x ≡ false
@@ -46,40 +44,29 @@ false_either false e = e
 no_register : (k : ℕ) (n : Name) (v : ℕ) (ins : List ℕ) → (k ≡ register_output_kind → ⊥) → is_register_output (node_of k n v ins) ≡ false
 unfolding node_of is_register_output by_kind
 no_register k n v ins e =
-    by_kind_lem is_register_output k _ _ _ _ _ _ _ _ _ _ _
+    by_kind_lem is_register_output k _ _ _ _ _ _ _ _ _ _
     ∙ rw (ne_eqb k register_output_kind e)
-    (false_either (eqb k input_kind) (false_either (eqb k constant_kind) (false_either (eqb k arithmetic_output_kind) (false_either (eqb k not_kind) (false_either (eqb k output_kind)
-    (false_either (eqb k and_kind) (false_either (eqb k or_kind) (false_either (eqb k xor_kind) (false_either (eqb k mux_kind) refl)))))))))
-
-no_result : (k : ℕ) (n : Name) (v : ℕ) (ins : List ℕ) → (k ≡ arithmetic_output_kind → ⊥) → is_arithmetic_output (node_of k n v ins) ≡ false
-unfolding node_of is_arithmetic_output by_kind
-no_result k n v ins e =
-    by_kind_lem is_arithmetic_output k _ _ _ _ _ _ _ _ _ _ _
-    ∙ rw (ne_eqb k arithmetic_output_kind e)
-    (false_either (eqb k input_kind) (false_either (eqb k constant_kind) (false_either (eqb k register_output_kind) (false_either (eqb k not_kind) (false_either (eqb k output_kind)
-    (false_either (eqb k and_kind) (false_either (eqb k or_kind) (false_either (eqb k xor_kind) (false_either (eqb k mux_kind) refl)))))))))
-
-a-result : (k : ℕ) (n : Name) (v : ℕ) (ins : List ℕ) → k ≡ arithmetic_output_kind → node_of k n v ins ≡ ArithmeticOutput
-unfolding node_of by_kind
-a-result k n v ins e = rw e
+    (false_either (eqb k input_kind) (false_either (eqb k constant_kind) (false_either (eqb k not_kind) (false_either (eqb k output_kind)
+    (false_either (eqb k and_kind) (false_either (eqb k or_kind) (false_either (eqb k xor_kind) (false_either (eqb k mux_kind) refl))))))))
 
 a-register : (k : ℕ) (n : Name) (v : ℕ) (ins : List ℕ) → k ≡ register_output_kind → node_of k n v ins ≡ RegisterOutput
 unfolding node_of by_kind
 a-register k n v ins e = rw e
 
 module _ (node : Node) (n : Netlist) (net c c' : ℕ) (w w' : List ℕ) (before : Netted c w) (small : net < TABLE) where
-  -- no output of a register or cell
-  pub taken-gate : (node.kind ≡ register_output_kind → ⊥) → (node.kind ≡ arithmetic_output_kind → ⊥)
+  -- no register output
+  pub taken-gate : (node.kind ≡ register_output_kind → ⊥)
       → Entered 3 net c w c' w' (region STATES w) (gate_by (graph_of c w) (region NETS w) node.kind node.detail node.first node.second node.third)
       → Taken node n net c w c' w'
   unfolding decoded_node
-  taken-gate h u e =
+  taken-gate h e =
       record {
         netted = e.netted;
         same = e.same;
+        within = omega (arith, e.within);
         walked = λ s l at.
-            walked-gate (decoded s n).cells (decoded s n).registers l net c c' w w' 3 small before.ready.long at (decoded_node s node)
-            (no_register node.kind (name_at s node.detail) node.detail _ h) (no_result node.kind (name_at s node.detail) node.detail _ u)
+            walked-gate (decoded s n).registers l net c c' w w' 3 small before.ready.long at (decoded_node s node)
+            (no_register node.kind (name_at s node.detail) node.detail _ h)
             (rw (← (gate_of_lem (graph_of c w) (region NETS w) node.kind (name_at s node.detail) node.detail node.first node.second node.third)) at e);
       }
 
@@ -93,41 +80,32 @@ module _ (node : Node) (n : Netlist) (net c c' : ℕ) (w w' : List ℕ) (before 
       record {
         netted = e.netted;
         same = e.same;
+        within = omega (arith, e.within);
         walked = λ s l at.
             rw (a-register node.kind (name_at s node.detail) node.detail (node.first ∷ node.second ∷ node.third ∷ []) h)
-            (walked-register (decoded s n).cells (decoded s n).registers l net c c' w w' 4 small before.ready.long at (rw (r s ∙ ap driver_reset (d s)) at e));
-      }
-
-  -- an output of a cell
-  pub taken-result : (entry : ℕ) → node.kind ≡ arithmetic_output_kind → ((s : List ℕ) → cell_bit_by s n.cells entry ≡ cell_bit (decoded s n).cells net) → ResultMade n net entry c w c' w' → Taken node n net c w c' w'
-  unfolding decoded_node lower_node
-  taken-result entry h d e =
-      record {
-        netted = e.netted;
-        same = e.same;
-        walked = λ s l at.
-            rw (a-result node.kind (name_at s node.detail) node.detail (node.first ∷ node.second ∷ node.third ∷ []) h, ← (d s)) (e.walked s l at);
+            (walked-register (decoded s n).registers l net c c' w w' 4 small before.ready.long at (rw (r s ∙ ap driver_reset (d s)) at e));
       }
 
 -- ---- all nodes
 
-lower_snoc : (cs : List Cell) (rs : List Register) (l : Lowering) (net : ℕ) (ns : List Model.Node) (n : Model.Node)
-    → lower_nodes cs rs l net (ns ++ (n ∷ [])) ≡ lower_node cs rs (lower_nodes cs rs l net ns) (net + length ns) n
+lower_snoc : (rs : List Register) (l : Lowering) (net : ℕ) (ns : List Model.Node) (n : Model.Node)
+    → lower_nodes rs l net (ns ++ (n ∷ [])) ≡ lower_node rs (lower_nodes rs l net ns) (net + length ns) n
 unfolding lower_nodes
-lower_snoc cs rs l net [] n = ap (λ (k : ℕ). lower_node cs rs l k n) (omega arith)
-lower_snoc cs rs l net (m ∷ ns) n =
-    lower_snoc cs rs (lower_node cs rs l net m) (suc net) ns n ∙ ap (λ (k : ℕ). lower_node cs rs (lower_nodes cs rs (lower_node cs rs l net m) (suc net) ns) k n) (omega arith)
+lower_snoc rs l net [] n = ap (λ (k : ℕ). lower_node rs l k n) (omega arith)
+lower_snoc rs l net (m ∷ ns) n =
+    lower_snoc rs (lower_node rs l net m) (suc net) ns n ∙ ap (λ (k : ℕ). lower_node rs (lower_nodes rs (lower_node rs l net m) (suc net) ns) k n) (omega arith)
 
 -- From c₀ nodes in w₀ the walk took the first i nodes.
 pub record Walking (n : Netlist) (c₀ : ℕ) (w₀ : List ℕ) (i c : ℕ) (w : List ℕ) : Type 0 where
   pub netted : Netted c w
   pub same : Same elsewhere w₀ w
-  pub walked : (s : List ℕ) → Walked no_nodes 0 c₀ w₀ → Walked (lower_nodes (decoded s n).cells (decoded s n).registers no_nodes 0 (take i (decoded s n).nodes)) i c w
+  pub within : c ≤ c₀ + 4 * i
+  pub walked : (s : List ℕ) → Walked no_nodes 0 c₀ w₀ → Walked (lower_nodes (decoded s n).registers no_nodes 0 (take i (decoded s n).nodes)) i c w
 
 module _ (n : Netlist) (c₀ : ℕ) (w₀ : List ℕ) where
   pub walking_none : Netted c₀ w₀ → Walking n c₀ w₀ 0 c₀ w₀
   unfolding lower_nodes
-  walking_none h = record { netted = h; same = same_refl elsewhere w₀; walked = λ s at. at }
+  walking_none h = record { netted = h; same = same_refl elsewhere w₀; within = omega arith; walked = λ s at. at }
 
   -- one node more
   pub walking_more : (i c c' : ℕ) (w w' : List ℕ) (d : Node) → i < n.node_count → n.node_count ≤ length n.nodes → Walking n c₀ w₀ i c w → Taken (get_or n.nodes i d) n i c w c' w'
@@ -137,13 +115,13 @@ module _ (n : Netlist) (c₀ : ℕ) (w₀ : List ℕ) where
       record {
         netted = t.netted;
         same = same_trans a.same t.same;
+        within = omega (arith, a.within, t.within);
         walked = λ s at. rw (step s) (t.walked s _ (a.walked s at));
       }
     where
-      step : (s : List ℕ) → lower_nodes (decoded s n).cells (decoded s n).registers no_nodes 0 (take (i + 1) (decoded s n).nodes)
-          ≡ lower_node (decoded s n).cells (decoded s n).registers (lower_nodes (decoded s n).cells (decoded s n).registers no_nodes 0 (take i (decoded s n).nodes)) i (decoded_node s (get_or n.nodes i d))
+      step : (s : List ℕ) → lower_nodes (decoded s n).registers no_nodes 0 (take (i + 1) (decoded s n).nodes)
+          ≡ lower_node (decoded s n).registers (lower_nodes (decoded s n).registers no_nodes 0 (take i (decoded s n).nodes)) i (decoded_node s (get_or n.nodes i d))
       step s =
-          let C : List Cell = (decoded s n).cells in
           let R : List Register = (decoded s n).registers in
           let N : List Model.Node = (decoded s n).nodes in
           let m : i < length N = rw length-map (simp length-take (omega arith)) in
@@ -152,6 +130,6 @@ module _ (n : Netlist) (c₀ : ℕ) (w₀ : List ℕ) where
           (take-suc N i (decoded_node s d) m
           ∙ ap (λ (x : Model.Node). take i N ++ (x ∷ [])) (get_or-map (decoded_node s) (take n.node_count n.nodes) i d ∙ ap (decoded_node s) (get_or-take n.node_count n.nodes i d h))) in
           let q : 0 + length (take i N) ≡ i = simp length-take (omega arith) in
-          ap (λ (x : List Model.Node). lower_nodes C R no_nodes 0 x) p
-          ∙ lower_snoc C R no_nodes 0 (take i N) (decoded_node s (get_or n.nodes i d))
-          ∙ ap (λ (j : ℕ). lower_node C R (lower_nodes C R no_nodes 0 (take i N)) j (decoded_node s (get_or n.nodes i d))) q
+          ap (λ (x : List Model.Node). lower_nodes R no_nodes 0 x) p
+          ∙ lower_snoc R no_nodes 0 (take i N) (decoded_node s (get_or n.nodes i d))
+          ∙ ap (λ (j : ℕ). lower_node R (lower_nodes R no_nodes 0 (take i N)) j (decoded_node s (get_or n.nodes i d))) q

@@ -7,12 +7,12 @@ use Rattle.std.proofs.Math.Option.{Option, none, some}
 use Rattle.std.proofs.Math.ListN.{length}
 use Rattle.facts.specs.Bools.{and_both}
 use Rattle.facts.specs.Lists.{set_any}
-use Rattle.words.specs.Layout.{LENT, TABLE, NETS, STATES, RESULTS, LOWERED}
+use Rattle.words.specs.Layout.{LENT, TABLE, NETS, STATES}
 use Rattle.words.specs.Region.{region, apart, stored, stores, length-region}
 use Rattle.model.specs.Literal.{Literal, constant_literal}
 use Rattle.model.specs.Lists.{snoc}
 use Rattle.model.specs.Aig.{Aig, Built, variable, mux}
-use Rattle.model.specs.Netlist.{Node, Input, Constant, RegisterOutput, ArithmeticOutput, Not, Output, And, Or, Xor, Mux, ActiveLevel, High, Low, Reset, Register, Cell, is_register_output, is_arithmetic_output}
+use Rattle.model.specs.Netlist.{Node, Input, Constant, RegisterOutput, Not, Output, And, Or, Xor, Mux, ActiveLevel, High, Low, Reset, Register, is_register_output}
 use Rattle.model.specs.Record.{level_of, bit}
 use Rattle.model.specs.Validate.{driver}
 use Rattle.model.specs.Transition.{Lowering, asserted_literal, net_literal, driver_reset, with_net, with_literal, lower_input, lower_output, reset_mux, shown, lower_shown, lower_register_output, lower_node}
@@ -36,7 +36,6 @@ netted-made k c w c' w' l m n d =
       ready = d.ready;
       nets = λ a. rw (d.same.at NETS refl) (omega (arith, n.nets a, d.grows));
       states = λ a. rw (d.same.at STATES refl) (omega (arith, n.states a, d.grows));
-      results = λ a. rw (d.same.at RESULTS refl) (omega (arith, n.results a, d.grows));
     }
 
 pub netted_net : (c : ℕ) (w : List ℕ) (i v : ℕ) → Netted c w → v < c * 2 → Netted c (stored NETS w i v)
@@ -46,7 +45,6 @@ netted_net c w i v n h =
       ready = ready-stored NETS c w i v refl n.ready;
       nets = λ a. simp stores (set_any (λ l. l < c * 2) (region NETS w) i a v 0 (n.nets a) h);
       states = λ a. simp stores (n.states a);
-      results = λ a. simp stores (n.results a);
     }
 
 pub netted-state : (c : ℕ) (w : List ℕ) (i v : ℕ) → Netted c w → v < c * 2 → Netted c (stored STATES w i v)
@@ -56,17 +54,14 @@ netted-state c w i v n h =
       ready = ready-stored STATES c w i v refl n.ready;
       nets = λ a. simp stores (n.nets a);
       states = λ a. simp stores (set_any (λ l. l < c * 2) (region STATES w) i a v 0 (n.states a) h);
-      results = λ a. simp stores (n.results a);
     }
 
 -- the tests of `elsewhere`
-pub elsewhere_parts : (b : ℕ) → elsewhere b ≡ true → (outside b ≡ true) × (apart b NETS ≡ true) × (apart b STATES ≡ true) × (apart b RESULTS ≡ true) × (apart b LOWERED ≡ true)
+pub elsewhere_parts : (b : ℕ) → elsewhere b ≡ true → (outside b ≡ true) × (apart b NETS ≡ true) × (apart b STATES ≡ true)
 elsewhere_parts b e =
-    let p : (outside b ≡ true) × ((apart b NETS && (apart b STATES && (apart b RESULTS && apart b LOWERED))) ≡ true) = and_both _ _ e in
-    let q : (apart b NETS ≡ true) × ((apart b STATES && (apart b RESULTS && apart b LOWERED)) ≡ true) = and_both _ _ p.1 in
-    let r : (apart b STATES ≡ true) × ((apart b RESULTS && apart b LOWERED) ≡ true) = and_both _ _ q.1 in
-    let t : (apart b RESULTS ≡ true) × (apart b LOWERED ≡ true) = and_both _ _ r.1 in
-    (p.0, q.0, r.0, t.0, t.1)
+    let p : (outside b ≡ true) × ((apart b NETS && apart b STATES) ≡ true) = and_both _ _ e in
+    let q : (apart b NETS ≡ true) × (apart b STATES ≡ true) = and_both _ _ p.1 in
+    (p.0, q.0, q.1)
 
 pub same-elsewhere : {w w' : List ℕ} → Same outside w w' → Same elsewhere w w'
 same-elsewhere f = record { at = λ b e. f.at b (elsewhere_parts b e).0 }
@@ -88,8 +83,6 @@ pub record Entered (k net c : ℕ) (w : List ℕ) (c' : ℕ) (w' : List ℕ) (ss
   pub states : region STATES w' ≡ ss
   pub nets : region NETS w' ≡ set (region NETS w) net m.literal
   pub graph : graph_of c' w' ≡ m.aig
-  pub results : region RESULTS w' ≡ region RESULTS w
-  pub marks : region LOWERED w' ≡ region LOWERED w
 
 -- a gate's literal
 pub entered_gate : (net c : ℕ) (w : List ℕ) (c' : ℕ) (w' : List ℕ) (l : ℕ) (m : Built) → Netted c w → Made 3 c w c' w' l m
@@ -103,8 +96,6 @@ entered_gate net c w c' w' l m n d =
       states = simp stores (d.same.at STATES refl);
       nets = simp stores (ap₂ (λ (xs : List ℕ) (v : ℕ). set xs net v) (d.same.at NETS refl) (ap (λ (x : Built). x.literal) d.built));
       graph = graph-stored NETS c' w' net l refl ∙ ap (λ (x : Built). x.aig) d.built;
-      results = simp stores (d.same.at RESULTS refl);
-      marks = simp stores (d.same.at LOWERED refl);
     }
 
 -- a register output: its state's variable, then what it shows
@@ -127,8 +118,6 @@ entered_register net c w c₁ w₁ state c₂ w₂ l m r n d e =
       states = p.states ∙ simp stores (ap₂ (λ (xs : List ℕ) (v : ℕ). set xs net v) (d.same.at STATES refl) s);
       nets = p.nets ∙ ap (λ (xs : List ℕ). set xs net (shown m.aig (region NETS w) r m.literal).literal) nets;
       graph = p.graph;
-      results = p.results ∙ simp stores (d.same.at RESULTS refl);
-      marks = p.marks ∙ simp stores (d.same.at LOWERED refl);
     }
 
 -- ---- what a register output shows
@@ -187,27 +176,26 @@ shown-alike g xs ys (some r) state e = go r.asynchronous
 
 -- ---- the walk goes on
 
--- a node that is no output of a register or cell adds its gate's literal
-gate-step : (cs : List Cell) (rs : List Register) (l : Lowering) (net : ℕ) (n : Node) → is_register_output n ≡ false → is_arithmetic_output n ≡ false
-    → ((lower_node cs rs l net n).aig ≡ (gate_of l.aig l.nets n).aig) × ((lower_node cs rs l net n).nets ≡ snoc l.nets (gate_of l.aig l.nets n).literal)
-    × ((lower_node cs rs l net n).state_variables ≡ l.state_variables) × ((lower_node cs rs l net n).lowered ≡ l.lowered)
-unfolding lower_node gate_of lower_input lower_output with_net with_literal is_register_output is_arithmetic_output
-gate-step cs rs l net (Input n) e f = (refl, refl, refl, refl)
-gate-step cs rs l net (Constant b) e f = (refl, refl, refl, refl)
-gate-step cs rs l net RegisterOutput e f = absurd (false≢true (sym e))
-gate-step cs rs l net ArithmeticOutput e f = absurd (false≢true (sym f))
-gate-step cs rs l net (Not a) e f = (refl, refl, refl, refl)
-gate-step cs rs l net (Output n a) e f = (refl, refl, refl, refl)
-gate-step cs rs l net (And a b) e f = (refl, refl, refl, refl)
-gate-step cs rs l net (Or a b) e f = (refl, refl, refl, refl)
-gate-step cs rs l net (Xor a b) e f = (refl, refl, refl, refl)
-gate-step cs rs l net (Mux c a b) e f = (refl, refl, refl, refl)
+-- a node that is no register output adds its gate's literal
+gate-step : (rs : List Register) (l : Lowering) (net : ℕ) (n : Node) → is_register_output n ≡ false
+    → ((lower_node rs l net n).aig ≡ (gate_of l.aig l.nets n).aig) × ((lower_node rs l net n).nets ≡ snoc l.nets (gate_of l.aig l.nets n).literal)
+    × ((lower_node rs l net n).state_variables ≡ l.state_variables)
+unfolding lower_node gate_of lower_input lower_output with_net with_literal is_register_output
+gate-step rs l net (Input n) e = (refl, refl, refl)
+gate-step rs l net (Constant b) e = (refl, refl, refl)
+gate-step rs l net RegisterOutput e = absurd (false≢true (sym e))
+gate-step rs l net (Not a) e = (refl, refl, refl)
+gate-step rs l net (Output n a) e = (refl, refl, refl)
+gate-step rs l net (And a b) e = (refl, refl, refl)
+gate-step rs l net (Or a b) e = (refl, refl, refl)
+gate-step rs l net (Xor a b) e = (refl, refl, refl)
+gate-step rs l net (Mux c a b) e = (refl, refl, refl)
 
-module _ (cs : List Cell) (rs : List Register) (l : Lowering) (net c c' : ℕ) (w w' : List ℕ) (k : ℕ) (small : net < TABLE) (long : LENT ≤ length w) (at : Walked l net c w) where
-  pub walked-gate : (n : Node) → is_register_output n ≡ false → is_arithmetic_output n ≡ false → Entered k net c w c' w' (region STATES w) (gate_of (graph_of c w) (region NETS w) n)
-      → Walked (lower_node cs rs l net n) (net + 1) c' w'
-  walked-gate n o u e =
-      let p = gate-step cs rs l net n o u in
+module _ (rs : List Register) (l : Lowering) (net c c' : ℕ) (w w' : List ℕ) (k : ℕ) (small : net < TABLE) (long : LENT ≤ length w) (at : Walked l net c w) where
+  pub walked-gate : (n : Node) → is_register_output n ≡ false → Entered k net c w c' w' (region STATES w) (gate_of (graph_of c w) (region NETS w) n)
+      → Walked (lower_node rs l net n) (net + 1) c' w'
+  walked-gate n o e =
+      let p = gate-step rs l net n o in
       let m : gate_of (graph_of c w) (region NETS w) n ≡ gate_of l.aig l.nets n =
       ap (λ (g : Aig). gate_of g (region NETS w) n) at.graph ∙ gate-alike l.aig (region NETS w) l.nets n at.nets in
       let room : net < length (region NETS w) = omega (arith, length-region NETS w (omega arith)) in
@@ -217,12 +205,11 @@ module _ (cs : List Cell) (rs : List Register) (l : Lowering) (net c c' : ℕ) (
         count = rw p.1 (length_more l.nets _ net at.count);
         states = λ i. rw (e.states, p.2) (at.states i);
         fresh = λ i h z. rw p.2 (at.fresh i (omega arith) z);
-        cells = λ i. rw (p.3, e.results, e.marks) (at.cells i);
       }
 
   pub walked-register : Entered k net c w c' w' (set (region STATES w) net (variable (graph_of c w)).literal)
       (shown (variable (graph_of c w)).aig (region NETS w) (driver_reset (driver rs net)) (variable (graph_of c w)).literal)
-      → Walked (lower_node cs rs l net RegisterOutput) (net + 1) c' w'
+      → Walked (lower_node rs l net RegisterOutput) (net + 1) c' w'
   unfolding lower_node lower_register_output lower_shown
   walked-register e =
       let v : variable (graph_of c w) ≡ variable l.aig = ap variable at.graph in
@@ -238,5 +225,4 @@ module _ (cs : List Cell) (rs : List Register) (l : Lowering) (net c c' : ℕ) (
         count = length_more l.nets _ net at.count;
         states = λ i. rw (e.states, v) (states-more (region STATES w) l.state_variables net _ at.states at.fresh room' i);
         fresh = λ i h z. fresh-more (region STATES w) l.state_variables net _ at.states at.fresh room' i h z;
-        cells = λ i. rw (e.results, e.marks) (at.cells i);
       }

@@ -1,21 +1,19 @@
 -- The transition system of a decoded design, in a side's regions: the walk's start, the copy of the finished graph, and the whole. Assumes nothing.
-use Rattle.std.specs.Prelude.{◌≡◌, refl, Bool, true, false, ◌&&◌, List, [], ℕ, ◌+◌, ◌*◌, ◌≤◌, ◌<◌, eqb, ltb, length, get_or, take, set}
-use Rattle.std.proofs.Common.{sym, ap, ◌∙◌, arith, get_or-set_other, get_or-set_same, take_all, eqb-true, ltb-true, ltb-false}
+use Rattle.std.specs.Prelude.{◌≡◌, refl, Bool, true, false, ◌&&◌, List, ℕ, ◌+◌, ◌*◌, ◌≤◌, ◌<◌, eqb, ltb, length, get_or, take, set}
+use Rattle.std.proofs.Common.{ap, ◌∙◌, arith, get_or-set_other, get_or-set_same, take_all, eqb-true, ltb-true, ltb-false}
 use Rattle.std.proofs.Math.ListN.{length-take, length-map, get_or-eq_default}
 use Rattle.std.proofs.lemmas.Bool.{eqb-false}
 use Rattle.facts.specs.Bools.{and_both}
-use Rattle.words.specs.Layout.{LENT, SMALL, TABLE, MOST-NODES, GRAPH-LHS, GRAPH-RHS, AND-NEXT, GOLD-LHS, GATE-LHS, IMPORTED, NETS, STATES, RESULTS, LOWERED, AND-HEADS}
+use Rattle.words.specs.Layout.{LENT, SMALL, TABLE, MOST-NODES, GRAPH-LHS, GRAPH-RHS, AND-NEXT, GOLD-LHS, GATE-LHS, IMPORTED, NETS, STATES, AND-HEADS}
 use Rattle.words.specs.Fill.{filled, get_or-filled, length-filled}
 use Rattle.words.specs.Region.{region, apart, size_of, stored, cleared, stores, stored_in, stored_out, length-region}
 use Rattle.model.specs.Lists.{lookup}
 use Rattle.model.specs.Aig.{new}
-use Rattle.model.specs.Transition.{Lowering, Registers, net_literal, lowered_cell, lower_nodes, lower_registers, no_nodes, system_of, with_registers, from_netlist}
+use Rattle.model.specs.Transition.{Lowering, Registers, net_literal, lower_nodes, lower_registers, no_nodes, system_of, with_registers, from_netlist}
 use Rattle.struo_ir.specs.Decoded.{decoded}
 use Rattle.struo_ir.specs.Designs.{Sized}
 use Rattle.struo_ir.specs.declared.netlist.Netlist.{Netlist}
-use Rattle.model.specs.Pair.{cell_nodes}
-use Rattle.laws.specs.Queries.Bound.{walk-nodes}
-use Rattle.aig.specs.Graph.{length-graph, graph_at, graph_of, Ordered, nodes-agree, ordered-agree}
+use Rattle.aig.specs.Graph.{graph_at, graph_of, Ordered, nodes-agree, ordered-agree}
 use Rattle.aig.specs.Made.{Ready, Same, outside, same_refl, same_trans}
 use Rattle.aig.specs.Side.{side-size, side-above, side_after, side_under, side_before}
 use Rattle.lowering.specs.Gate.{Netted, Alike}
@@ -26,11 +24,11 @@ use Rattle.lowering.specs.Registers.{Held, Registering, no_states, nexts, variab
 
 -- ---- the start
 
--- the words of the nets, the state variables and the cells cleared
+-- the words of the nets and the state variables cleared
 abbrev pub wiped : List ℕ → List ℕ
-wiped w = cleared LOWERED (cleared RESULTS (cleared STATES (cleared NETS w TABLE) TABLE) TABLE) TABLE
+wiped w = cleared STATES (cleared NETS w TABLE) TABLE
 
--- the walk may begin: node 0 alone, every net FALSE, no state variable, no cell lowered
+-- the walk may begin: node 0 alone, every net FALSE, no state variable
 pub record Started (w₀ w : List ℕ) : Type 0 where
   pub netted : Netted 1 w
   pub walked : Walked no_nodes 0 1 w
@@ -44,20 +42,16 @@ zeroes xs a e = go (ltb a TABLE) refl
     go false f = get_or-eq_default (filled 0 TABLE xs) 0 (rw length-filled (omega (arith, ltb-false a TABLE f)))
 
 pub started : (w₀ w : List ℕ) → LENT ≤ length w₀ → graph_of 1 w ≡ new → Ready 1 w → Same outside (wiped w₀) w → Started w₀ w
-unfolding net_literal lookup no_nodes lowered_cell
+unfolding net_literal lookup no_nodes
 started w₀ w long g r s =
-    let results : (k : ℕ) → get_or (region RESULTS w) k 0 ≡ 0 =
-    λ k. rw (s.at RESULTS refl) (simp stores (zeroes (region RESULTS w₀) k (length-region RESULTS w₀ (omega arith)))) in
-    let marks : (k : ℕ) → get_or (region LOWERED w) k 0 ≡ 0 =
-    λ k. rw (s.at LOWERED refl) (simp stores (zeroes (region LOWERED w₀) k (length-region LOWERED w₀ (omega arith)))) in
     let nets : (a : ℕ) → get_or (region NETS w) a 0 ≡ 0 =
     λ a. rw (s.at NETS refl) (simp stores (zeroes (region NETS w₀) a (length-region NETS w₀ (omega arith)))) in
     let states : (k : ℕ) → get_or (region STATES w) k 0 ≡ 0 =
     λ k. rw (s.at STATES refl) (simp stores (zeroes (region STATES w₀) k (length-region STATES w₀ (omega arith)))) in
     record {
-      netted = record { ready = r; nets = λ a. rw (nets a) (omega arith); states = λ k. rw (states k) (omega arith); results = λ k. rw (results k) (omega arith) };
-      walked = record { graph = g; nets = record { at = nets }; count = refl; states = states; fresh = λ k h z. refl; cells = marks };
-      same = record { at = λ b e. let q = elsewhere_parts b e in s.at b q.0 ∙ simp (stores, q.1, q.2, q.3, q.4) };
+      netted = record { ready = r; nets = λ a. rw (nets a) (omega arith); states = λ k. rw (states k) (omega arith) };
+      walked = record { graph = g; nets = record { at = nets }; count = refl; states = states; fresh = λ k h z. refl };
+      same = record { at = λ b e. let q = elsewhere_parts b e in s.at b q.0 ∙ simp (stores, q.1, q.2) };
     }
 
 -- ---- the copy
@@ -126,7 +120,7 @@ module _ (base : ℕ) (lo : GOLD-LHS ≤ base) (hi : base ≤ GATE-LHS) (w₀ : 
 
 -- the walk over the nodes of a decoded design
 abbrev pub walk_of : List ℕ → Netlist → Lowering
-walk_of s n = lower_nodes (decoded s n).cells (decoded s n).registers no_nodes 0 (decoded s n).nodes
+walk_of s n = lower_nodes (decoded s n).registers no_nodes 0 (decoded s n).nodes
 
 -- its registers, after the walk
 abbrev pub registers_lowered : List ℕ → Netlist → Registers
@@ -135,7 +129,7 @@ registers_lowered s n = lower_registers (walk_of s n) (no_states (walk_of s n)) 
 -- The transition system of netlist n lies at `base`; s is any record that its names are places in.
 pub record Lowered (n : Netlist) (base : ℕ) (w₀ : List ℕ) (count : ℕ) (next variable : List ℕ) (w : List ℕ) : Type 0 where
   pub ready : Ready count w
-  pub small : count ≤ 4865 + cell_nodes (decoded [] n).cells
+  pub small : count ≤ 4865
   pub same : Same (λ b. elsewhere b && off_side base b) w₀ w
   pub ordered : Ordered count (region base w) (region (base + SMALL) w)
   pub graph : (s : List ℕ) → graph_at base count w ≡ (from_netlist (decoded s n)).aig
@@ -147,14 +141,6 @@ pub record Lowered (n : Netlist) (base : ℕ) (w₀ : List ℕ) (count : ℕ) (n
 
 off_far : (base : ℕ) → GOLD-LHS ≤ base → base ≤ GATE-LHS → (x : ℕ) → IMPORTED ≤ x → off_side base x ≡ true
 off_far base lo hi x h = rw (side_before base lo (omega arith) x (omega arith), side_before (base + SMALL) (omega arith) (omega arith) x (omega arith))
-
--- how many nodes the walk over all nodes has made
-pub walk-small : (n : Netlist) → Sized n → (c : ℕ) (w : List ℕ) → Walked (walk_of [] n) n.node_count c w → c ≤ 4097 + cell_nodes (decoded [] n).cells
-unfolding decoded
-walk-small n sized c w a =
-    let e : c ≡ length (walk_of [] n).aig = sym (length-graph c w) ∙ ap length a.graph in
-    let m : length (decoded [] n).nodes ≤ 1024 = rw length-map (simp length-take (omega (arith, sized.nodes))) in
-    omega (arith, e, m, walk-nodes (decoded [] n).cells (decoded [] n).registers (decoded [] n).nodes)
 
 module _ (n : Netlist) (base : ℕ) (lo : GOLD-LHS ≤ base) (hi : base ≤ GATE-LHS) (w₀ w₁ w₂ w₃ w₄ : List ℕ) (c₁ c₂ : ℕ) (next variable : List ℕ)
     (sized : Sized n)
@@ -189,7 +175,7 @@ module _ (n : Netlist) (base : ℕ) (lo : GOLD-LHS ≤ base) (hi : base ≤ GATE
   lowered =
       record {
         ready = ready_copy;
-        small = omega (arith, walk-small n sized c₁ w₂ (walked []), regs.within, sized.registers);
+        small = omega (arith, walk.within, regs.within, sized.nodes, sized.registers);
         same = record {
           at = λ b e.
               let p = and_both (elsewhere b) (off_side base b) e in

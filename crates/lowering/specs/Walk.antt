@@ -1,42 +1,35 @@
 -- The walk over the nodes in lent words: the graph, the literal of each net, and each register output's state variable. Assumes nothing.
-use Rattle.std.specs.Prelude.{◌≡◌, Bool, ◌&&◌, cond, ℕ, ◌+◌, ◌*◌, ◌≤◌, ◌<◌, length, set}
+use Rattle.std.specs.Prelude.{◌≡◌, Bool, ◌&&◌, cond, ℕ, ◌+◌, ◌≤◌, ◌<◌, length, set}
 use Rattle.std.proofs.Math.Path.{refl, sym}
 use Rattle.std.proofs.Common.{ap, ◌∙◌, arith, get_or-set_same}
 use Rattle.std.proofs.Math.Bool.{true, false}
 use mathlib.Core.List.{List, [], ◌∷◌, ◌++◌}
-use Rattle.std.proofs.Math.Option.{Option, none, some}
 use Rattle.std.proofs.Math.Dec.{eqb, ltb}
 use Rattle.std.proofs.Math.ListN.{get_or, length-append, get_or-append, get_or-eq_default}
 use Rattle.std.proofs.Math.Seq.{get_or-set_other, get_or-append_seam}
 use borrow.Author.Tests.{eqb-true, eqb-false, ne_eqb, ltb-true, ltb-false}
-use Rattle.words.specs.Layout.{NETS, STATES, RESULTS, LOWERED}
+use Rattle.words.specs.Layout.{NETS, STATES}
 use Rattle.words.specs.Region.{region, apart}
 use Rattle.model.specs.Literal.{Literal, FALSE}
 use Rattle.model.specs.Lists.{snoc, lookup}
-use Rattle.model.specs.Transition.{Lowering, net_literal, lowered_cell}
+use Rattle.model.specs.Transition.{Lowering, net_literal}
 use Rattle.aig.specs.Graph.{graph_of}
 use Rattle.aig.specs.Made.{outside}
 use Rattle.lowering.specs.Gate.{Alike}
 
 -- ---- what the words hold after some nodes
 
--- the region at b is none that the walk writes: the proof graph's four, the nets, the state variables, the cells' two
+-- the region at b is none that the walk writes: the proof graph's four, the nets, the state variables
 abbrev pub elsewhere : ℕ → Bool
-elsewhere b = outside b && (apart b NETS && (apart b STATES && (apart b RESULTS && apart b LOWERED)))
+elsewhere b = outside b && (apart b NETS && apart b STATES)
 
--- cell k is marked where it was lowered, and then its place in RESULTS has its literals, FALSE past them
-abbrev pub CellHeld : List ℕ → List ℕ → ℕ → Option (List Literal) → Type 0
-CellHeld results marks k none = get_or marks k 0 ≡ 0
-CellHeld results marks k (some ls) = (get_or marks k 0 ≡ 1) × ((j : ℕ) → j < 16 → get_or results (16 * k + j) 0 ≡ get_or ls j 0)
-
--- the words hold the walk's graph, nets, state variables and lowered cells; the next net is `net`
+-- the words hold the walk's graph, nets and state variables; the next net is `net`
 pub record Walked (l : Lowering) (net c : ℕ) (w : List ℕ) : Type 0 where
   pub graph : graph_of c w ≡ l.aig
   pub nets : Alike (region NETS w) l.nets
   pub count : length l.nets ≡ net
   pub states : (k : ℕ) → get_or (region STATES w) k 0 ≡ lookup FALSE l.state_variables k
   pub fresh : (k : ℕ) → net ≤ k → (z : ℕ) → lookup z l.state_variables k ≡ z
-  pub cells : (k : ℕ) → CellHeld (region RESULTS w) (region LOWERED w) k (lowered_cell l.lowered k)
 
 -- ---- one net more
 

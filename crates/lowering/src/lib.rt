@@ -5,5 +5,4 @@ pub mod lowering;
 pub mod nets;
 pub mod registers;
 pub mod resets;
-pub mod results;
 pub mod walk;

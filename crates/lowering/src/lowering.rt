@@ -1,16 +1,12 @@
 // The transition system of a decoded design in lent words: transition.rs's from_netlist.
-ghost use Rattle.std.specs.Prelude.{◌≤◌, length, []};
+ghost use Rattle.std.specs.Prelude.{◌≤◌, length};
 ghost use Rattle.words.specs.Layout.{LENT, GOLD-LHS, GATE-LHS};
-ghost use Rattle.model.specs.Pair.{cell_nodes};
-ghost use Rattle.struo_ir.specs.Decoded.{decoded};
 ghost use Rattle.struo_ir.specs.Designs.{Sized};
-ghost use Rattle.lowering.specs.Cells.{MOST-CELL-NODES};
 ghost use Rattle.lowering.specs.System.{Lowered};
 
 use crate::copy::copy_graph;
 use crate::registers::lower_registers;
 use crate::walk::{lower_nodes, start_walk};
-use cells::table::cell_table;
 use drivers::drivers;
 use struo_ir::netlist::Netlist;
 use words::wide;
@@ -25,13 +21,12 @@ pub struct TransitionSystem {
 
 // The transition system of a design. Its graph is left at `base`, the literals of its nets in NETS.
 pub fn from_netlist(words: &mut [u32], netlist: Netlist, base: usize) -> TransitionSystem
-    requires { (LENT ≤ length words.old) × (GOLD-LHS ≤ base) × (base ≤ GATE-LHS) × Sized netlist × (cell_nodes (decoded [] netlist).cells ≤ MOST-CELL-NODES) }
+    requires { (LENT ≤ length words.old) × (GOLD-LHS ≤ base) × (base ≤ GATE-LHS) × Sized netlist }
     ensures { Lowered netlist base words.old result.count result.next result.variables words.new }
 {
     let start = start_walk(words);
-    let drivers = drivers(netlist);
-    let cells = cell_table(netlist);
-    let walked = lower_nodes(start, words, netlist, drivers, cells);
+    let table = drivers(netlist);
+    let walked = lower_nodes(start, words, netlist, table);
     let lowered = lower_registers(walked, words, netlist);
     let aig = lowered.aig;
     let count = aig.count;

@@ -81,7 +81,7 @@ pub struct Registers {
 
 // All registers in record order.
 pub fn lower_registers(start: Aig, words: &mut [u32], netlist: Netlist) -> Registers
-    requires { Netted start.count words.old × (start.count ≤ 64768) × Sized netlist }
+    requires { Netted start.count words.old × (start.count ≤ 4097) × Sized netlist }
     ensures { Registering netlist start.count words.old netlist.register_count result.aig.count words.new result.next result.variables }
 {
     let count = netlist.register_count;

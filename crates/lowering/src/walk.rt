@@ -1,17 +1,11 @@
 // The walk over the nodes of a design in record order.
-ghost use Rattle.std.specs.Prelude.{◌≡◌, ◌+◌, ◌≤◌, ◌<◌, length, set, []};
+ghost use Rattle.std.specs.Prelude.{◌≡◌, ◌+◌, ◌≤◌, ◌<◌, length, set};
 ghost use Rattle.words.specs.Layout.{LENT, TABLE, MOST-NODES, NETS, STATES};
 ghost use Rattle.words.specs.Region.{region};
 ghost use Rattle.model.specs.Transition as Model;
 ghost use Rattle.aig.specs.Graph.{graph_of};
 ghost use Rattle.struo_ir.specs.Designs.{Sized};
-ghost use Rattle.model.specs.Transition.{no_nodes};
-ghost use Rattle.model.specs.Pair.{cell_nodes};
-ghost use Rattle.struo_ir.specs.Decoded.{decoded};
 ghost use Rattle.drivers.specs.Drivers.{Drivers};
-ghost use Rattle.cells.specs.CellTable.{CellTable};
-ghost use Rattle.lowering.specs.Walk.{Walked};
-ghost use Rattle.lowering.specs.Cells.{MOST-CELL-NODES, CellDriven, BitRoomy};
 ghost use Rattle.lowering.specs.Driver.{Driven};
 ghost use Rattle.lowering.specs.Nodes.{Taken, Walking};
 ghost use Rattle.lowering.specs.System.{Started};
@@ -21,11 +15,10 @@ ghost use Rattle.lowering.specs.Step.{Entered, reset_of};
 
 use crate::gates::gate;
 use crate::resets::{ResetCell, driver_reset, shown};
-use crate::results::lower_result;
 use aig::Aig;
-use fields::kinds::{ARITHMETIC_OUTPUT, REGISTER_OUTPUT};
+use fields::kinds::REGISTER_OUTPUT;
 use struo_ir::netlist::{Netlist, Node};
-use words::{LOWERED, NETS, RESULTS, STATES, TABLE, clear, stash};
+use words::{NETS, STATES, TABLE, clear, stash};
 
 // The net of a node that is no register output.
 fn lower_gate(aig: Aig, words: &mut [u32], net: usize, node: Node) -> Aig
@@ -55,41 +48,29 @@ fn lower_register_output(aig: Aig, words: &mut [u32], net: usize, reset: ResetCe
     aig
 }
 
-// One node, at its own number, with its net's entries in the tables of drivers and of cells.
+// One node, at its own number, with its net's entry in the table of drivers.
 fn lower_node(
     aig: Aig,
     words: &mut [u32],
     net: usize,
     node: Node,
     netlist: Netlist,
-    driver: u16,
     entry: u16,
 ) -> Aig
-    requires { Netted aig.count words.old × (aig.count + 4 ≤ MOST-NODES) × (net < TABLE) × (driver ≤ 128) × Driven netlist net driver
-        × Sized netlist × (entry ≤ 1024) × CellDriven netlist net entry × BitRoomy netlist entry aig.count words.old }
+    requires { Netted aig.count words.old × (aig.count + 4 ≤ MOST-NODES) × (net < TABLE) × (entry ≤ 128) × Driven netlist net entry }
     ensures { Taken node netlist net aig.count words.old result.count words.new }
 {
     let kind = node.kind;
     if kind == REGISTER_OUTPUT {
-        let reset = driver_reset(netlist, driver);
+        let reset = driver_reset(netlist, entry);
         return lower_register_output(aig, words, net, reset);
-    }
-    if kind == ARITHMETIC_OUTPUT {
-        return lower_result(aig, words, net, netlist, entry);
     }
     lower_gate(aig, words, net, node)
 }
 
 // All nodes in record order.
-pub fn lower_nodes(
-    start: Aig,
-    words: &mut [u32],
-    netlist: Netlist,
-    drivers: [u16; 1024],
-    cells: [u16; 1024],
-) -> Aig
-    requires { Netted start.count words.old × Walked no_nodes 0 start.count words.old × Sized netlist × Drivers netlist drivers × CellTable netlist cells
-        × (cell_nodes (decoded [] netlist).cells ≤ MOST-CELL-NODES) }
+pub fn lower_nodes(start: Aig, words: &mut [u32], netlist: Netlist, table: [u16; 1024]) -> Aig
+    requires { Netted start.count words.old × (start.count ≤ 1) × Sized netlist × Drivers netlist table }
     ensures { Walking netlist start.count words.old netlist.node_count result.count words.new }
 {
     let count = netlist.node_count;
@@ -97,22 +78,19 @@ pub fn lower_nodes(
     let mut i: usize = 0;
     while i < count {
         let node = netlist.nodes[i];
-        let driver = drivers[i];
-        let entry = cells[i];
-        aig = lower_node(aig, words, i, node, netlist, driver, entry);
+        let entry = table[i];
+        aig = lower_node(aig, words, i, node, netlist, entry);
         i += 1;
     }
     aig
 }
 
-// Makes the words ready for a walk: the empty graph, every net FALSE, no state variable, no cell lowered.
+// Makes the words ready for a walk: the empty graph, every net FALSE, no state variable.
 pub fn start_walk(words: &mut [u32]) -> Aig
     requires { LENT ≤ length words.old }
     ensures { (result.count ≡ 1) × Started words.old words.new }
 {
     clear(words, NETS, TABLE, TABLE);
     clear(words, STATES, TABLE, TABLE);
-    clear(words, RESULTS, TABLE, TABLE);
-    clear(words, LOWERED, TABLE, TABLE);
     Aig::new(words)
 }

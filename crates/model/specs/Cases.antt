@@ -45,7 +45,7 @@ rst = 114 ∷ 115 ∷ 116 ∷ []
 
 -- a design named g
 unfoldable pub design : List Node → List Register → Design
-design ns rs = record { name = 103 ∷ []; nodes = ns; registers = rs; cells = [] }
+design ns rs = record { name = 103 ∷ []; nodes = ns; registers = rs }
 
 -- a synchronous reset, active high, from a signal to a value
 unfoldable pub sync : ℕ → Bool → Option Reset

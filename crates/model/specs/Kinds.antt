@@ -13,10 +13,6 @@ constant_kind = 0x01
 abbrev pub register_output_kind : ℕ
 register_output_kind = 0x02
 
--- no input: an output of an arithmetic cell
-abbrev pub arithmetic_output_kind : ℕ
-arithmetic_output_kind = 0x03
-
 -- one input
 abbrev pub not_kind : ℕ
 not_kind = 0x10
@@ -40,15 +36,14 @@ abbrev pub mux_kind : ℕ
 mux_kind = 0x30
 
 -- the table: what a kind byte chooses of one meaning for each kind, and of one for a byte that is no kind
-unfoldable pub by_kind : {A : Type 0} → ℕ → (input constant register_output arithmetic_output not output and or xor mux other : A) → A
-by_kind k input constant register_output arithmetic_output not output and or xor mux other =
+unfoldable pub by_kind : {A : Type 0} → ℕ → (input constant register_output not output and or xor mux other : A) → A
+by_kind k input constant register_output not output and or xor mux other =
     cond (eqb k input_kind) input
     (cond (eqb k constant_kind) constant
     (cond (eqb k register_output_kind) register_output
-    (cond (eqb k arithmetic_output_kind) arithmetic_output
     (cond (eqb k not_kind) not
     (cond (eqb k output_kind) output
     (cond (eqb k and_kind) and
     (cond (eqb k or_kind) or
     (cond (eqb k xor_kind) xor
-    (cond (eqb k mux_kind) mux other)))))))))
+    (cond (eqb k mux_kind) mux other))))))))

@@ -4,8 +4,6 @@ pub mod Options
 pub mod Kinds
 pub mod Names
 pub mod Netlist
-pub mod Arithmetic
-pub mod Cells
 pub mod Record
 pub mod Validate
 pub mod Run
@@ -14,7 +12,6 @@ pub mod Replay
 pub mod Induction
 pub mod Literal
 pub mod Aig
-pub mod Adder
 pub mod Sat
 pub mod Transition
 pub mod Equivalence
@@ -28,5 +25,4 @@ pub mod RunCases
 pub mod StepCases
 pub mod GraphCases
 pub mod SatCases
-pub mod CellCases
 pub mod SatStates

@@ -1,4 +1,4 @@
--- A design as the record has it: nodes in order, registers, arithmetic cells; its ports and registers by name. Definitions only.
+-- A design as the record has it: nodes in order, then registers; its ports and registers by name. Definitions only.
 use Rattle.std.specs.Prelude.{ℕ, suc, Bool, true, false, List, [], ◌∷◌, length}
 use Rattle.std.proofs.Math.Option.{Option, none, some}
 use Rattle.model.specs.Names.{Name, Place, sort}
@@ -7,7 +7,7 @@ use Rattle.model.specs.Names.{Name, Place, sort}
 pub data Node : Type 0 where
   Input : Name → Node
   Constant : Bool → Node
-  RegisterOutput ArithmeticOutput : Node
+  RegisterOutput : Node
   Not : ℕ → Node
   Output : Name → ℕ → Node
   And Or Xor : ℕ → ℕ → Node
@@ -43,36 +43,17 @@ pub record Register : Type 0 where
   pub enable : Option Enable
   pub reset : Option Reset
 
--- what an arithmetic cell does with its operands
-pub data Arithmetic : Type 0 where
-  Add Subtract Multiply : Arithmetic
-
--- one bit of an arithmetic cell: the nodes that it reads on the left and on the right, and its ArithmeticOutput node
-pub record Column : Type 0 where
-  pub left : ℕ
-  pub right : ℕ
-  pub result : ℕ
-
--- an arithmetic cell: its name, its columns, lowest bit first, and the node of a carry
-pub record Cell : Type 0 where
-  pub name : Name
-  pub operation : Arithmetic
-  pub columns : List Column
-  pub carry : Option ℕ
-
 -- a design
 pub record Design : Type 0 where
   pub name : Name
   pub nodes : List Node
   pub registers : List Register
-  pub cells : List Cell
 
 -- the name of an Input node
 unfoldable pub input_name : Node → Option Name
 input_name (Input n) = some n
 input_name (Constant b) = none
 input_name RegisterOutput = none
-input_name ArithmeticOutput = none
 input_name (Not a) = none
 input_name (Output n a) = none
 input_name (And a b) = none
@@ -85,7 +66,6 @@ unfoldable pub output_name : Node → Option Name
 output_name (Input n) = none
 output_name (Constant b) = none
 output_name RegisterOutput = none
-output_name ArithmeticOutput = none
 output_name (Not a) = none
 output_name (Output n a) = some n
 output_name (And a b) = none
@@ -98,7 +78,6 @@ unfoldable pub is_register_output : Node → Bool
 is_register_output (Input n) = false
 is_register_output (Constant b) = false
 is_register_output RegisterOutput = true
-is_register_output ArithmeticOutput = false
 is_register_output (Not a) = false
 is_register_output (Output n a) = false
 is_register_output (And a b) = false
@@ -106,25 +85,11 @@ is_register_output (Or a b) = false
 is_register_output (Xor a b) = false
 is_register_output (Mux c a b) = false
 
--- the node is an ArithmeticOutput
-unfoldable pub is_arithmetic_output : Node → Bool
-is_arithmetic_output (Input n) = false
-is_arithmetic_output (Constant b) = false
-is_arithmetic_output RegisterOutput = false
-is_arithmetic_output ArithmeticOutput = true
-is_arithmetic_output (Not a) = false
-is_arithmetic_output (Output n a) = false
-is_arithmetic_output (And a b) = false
-is_arithmetic_output (Or a b) = false
-is_arithmetic_output (Xor a b) = false
-is_arithmetic_output (Mux c a b) = false
-
 -- the input numbers of a node, in record order
 unfoldable pub input_numbers : Node → List ℕ
 input_numbers (Input n) = []
 input_numbers (Constant b) = []
 input_numbers RegisterOutput = []
-input_numbers ArithmeticOutput = []
 input_numbers (Not a) = a ∷ []
 input_numbers (Output n a) = a ∷ []
 input_numbers (And a b) = a ∷ b ∷ []
@@ -177,5 +142,5 @@ register_count d = length d.registers
 
 -- naming this opens them all
 unfoldable pub all : Unit {0}
-unfolding input_name output_name is_register_output is_arithmetic_output input_numbers place_if ports_from register_places inputs outputs registers_by_name input_count output_count node_count register_count
+unfolding input_name output_name is_register_output input_numbers place_if ports_from register_places inputs outputs registers_by_name input_count output_count node_count register_count
 all = tt

@@ -6,8 +6,7 @@ use Rattle.model.specs.Answers.{Refusal}
 use Rattle.model.specs.Options.{Options, learned_limit}
 use Rattle.model.specs.Options as Options
 use Rattle.model.specs.Names.{Name, Place, same_name, same_names, names_of}
-use Rattle.model.specs.Netlist.{Node, Edge, Rising, Falling, Reset, Register, Arithmetic, Add, Subtract, Multiply, Cell, Design, input_name, inputs, outputs, registers_by_name, input_count, output_count, node_count, register_count}
-use Rattle.model.specs.Cells.{width}
+use Rattle.model.specs.Netlist.{Node, Edge, Rising, Falling, Reset, Register, Design, input_name, inputs, outputs, registers_by_name, input_count, output_count, node_count, register_count}
 use Rattle.model.specs.Record.{Read, parsed, refused_record}
 use Rattle.model.specs.Validate.{◌otherwise◌, refuse_if, read_record}
 use Rattle.model.specs.Validate as Validate
@@ -110,21 +109,9 @@ nodes_per_cycle gold gate =
     input_count gold + 3 * (node_count gold + node_count gate) + 10 * (register_count gold + register_count gate)
     + 4 * output_count gold + 1
 
--- the nodes that a cell of w bits can make: 11×w for Add and Subtract, 12×w×w for Multiply
-unfoldable pub operation_nodes : Arithmetic → ℕ → ℕ
-operation_nodes Add w = 11 * w
-operation_nodes Subtract w = 11 * w
-operation_nodes Multiply w = 12 * w * w
-
--- S of one side: the sum over its cells
-unfoldable pub cell_nodes : List Cell → ℕ
-cell_nodes [] = 0
-cell_nodes (c ∷ cs) = operation_nodes c.operation (width c) + cell_nodes cs
-
--- (D+1)×(F + S) + R
+-- (D+1)×F + R
 unfoldable pub proof_nodes : Design → Design → ℕ → ℕ
-proof_nodes gold gate depth =
-    suc depth * (nodes_per_cycle gold gate + (cell_nodes gold.cells + cell_nodes gate.cells)) + (register_count gold + register_count gate)
+proof_nodes gold gate depth = suc depth * nodes_per_cycle gold gate + (register_count gold + register_count gate)
 
 -- the lengths of the lent buffers: trace bytes, work words of 32 bits, scores of 64 bits
 pub record Lent : Type 0 where
@@ -169,7 +156,7 @@ replay_fault gold gate cycle claim =
 
 -- ---- from the bytes of both records
 
--- both records accepted, or the first refusal of 1 to 15, 26 to 28 and 30: gold wholly, then gate
+-- both records accepted, or the first refusal of 1 to 15 and 30: gold wholly, then gate
 pub data ReadPair : Type 0 where
   both : Design → Design → ReadPair
   refused_pair : Refusal → ReadPair
@@ -203,5 +190,5 @@ check_refusal gold gate options lent = check_refusal_of (read_pair gold gate) op
 
 -- naming this opens them all
 unfoldable pub all : Unit {0}
-unfolding on_gate with_gate with_gold read_pair check_refusal_of check_refusal inputs_differ outputs_differ name_or name_at domain_of same_edge same_domain all_in many_domains domain domains_differ interface_fault no_reset no_reset_at resets_fault initial_fault nodes_per_cycle operation_nodes cell_nodes proof_nodes trace_length too_short check_fault all_bits bad_claim replay_fault Options.all Validate.all
+unfolding on_gate with_gate with_gold read_pair check_refusal_of check_refusal inputs_differ outputs_differ name_or name_at domain_of same_edge same_domain all_in many_domains domain domains_differ interface_fault no_reset no_reset_at resets_fault initial_fault nodes_per_cycle proof_nodes trace_length too_short check_fault all_bits bad_claim replay_fault Options.all Validate.all
 all = tt

@@ -4,11 +4,11 @@ use Rattle.std.proofs.Math.Option.{Option, none, some}
 use Rattle.model.specs.Answers.{Refusal}
 use Rattle.model.specs.Lists.{member}
 use Rattle.model.specs.Lists as Lists
-use Rattle.model.specs.Kinds.{input_kind, constant_kind, register_output_kind, arithmetic_output_kind, not_kind, output_kind, and_kind, or_kind, xor_kind, mux_kind, by_kind}
+use Rattle.model.specs.Kinds.{input_kind, constant_kind, register_output_kind, not_kind, output_kind, and_kind, or_kind, xor_kind, mux_kind, by_kind}
 use Rattle.model.specs.Names.{Name}
 use Rattle.model.specs.Names as Names
 use Rattle.model.specs.Netlist as Netlist
-use Rattle.model.specs.Netlist.{Node, Input, Constant, RegisterOutput, ArithmeticOutput, Not, Output, And, Or, Xor, Mux, Edge, Rising, Falling, ActiveLevel, High, Low, Enable, Reset, Register, Arithmetic, Add, Subtract, Multiply, Column, Cell, Design, input_name, output_name, ports_from}
+use Rattle.model.specs.Netlist.{Node, Input, Constant, RegisterOutput, Not, Output, And, Or, Xor, Mux, Edge, Rising, Falling, ActiveLevel, High, Low, Enable, Reset, Register, Design, input_name, output_name, ports_from}
 
 -- a reader's step: the value read and the offset of the next field, or a refusal
 pub data Step (A : Type 0) : Type 0 where
@@ -89,9 +89,9 @@ name = do
 unfoldable pub kinds : List ℕ
 kinds = input_kind ∷ constant_kind ∷ register_output_kind ∷ not_kind ∷ output_kind ∷ and_kind ∷ or_kind ∷ xor_kind ∷ mux_kind ∷ []
 
--- the test of listed kinds in a version: from 2 on ArithmeticOutput too
-unfoldable pub listed_kind : ℕ → ℕ → Bool
-listed_kind version k = member k kinds || (eqb k arithmetic_output_kind && leb 2 version)
+-- the test of listed kinds
+unfoldable pub listed_kind : ℕ → Bool
+listed_kind k = member k kinds
 
 -- the number of inputs of a listed kind: the high four bits of its byte
 unfoldable pub inputs_per_kind : ℕ → ℕ
@@ -129,7 +129,7 @@ node_of k n v ins =
     let a = get_or ins 0 0 in
     let b = get_or ins 1 0 in
     let c = get_or ins 2 0 in
-    by_kind k (Input n) (Constant (eqb v 1)) RegisterOutput ArithmeticOutput (Not a) (Output n a) (And a b) (Or a b) (Xor a b) (Mux a b c) (Constant false)
+    by_kind k (Input n) (Constant (eqb v 1)) RegisterOutput (Not a) (Output n a) (And a b) (Or a b) (Xor a b) (Mux a b c) (Constant false)
 
 -- among the nodes so far there is room for one more of this kind: at most 64 Inputs and 64 Outputs
 unfoldable pub room : List Node → ℕ → Bool
@@ -214,76 +214,22 @@ registers one = do
   n ← guard 6 (λ n. leb n 128) number
   registers_from one n []
 
--- cell kinds: 0 Add, 1 Subtract, 2 Multiply
-unfoldable pub operation_of : ℕ → Arithmetic
-operation_of b = cond (eqb b 0) Add (cond (eqb b 1) Subtract Multiply)
-
--- how many carry codes a cell kind has: 0 for no carry; 1, a carry, for Add alone
-unfoldable pub carry_codes : ℕ → ℕ
-carry_codes kind = cond (eqb kind 0) 2 1
-
--- the carry after its code: its number, unless the code is 0
-unfoldable pub carry_for : ℕ → Reader (Option ℕ)
-carry_for zero = pure none
-carry_for (suc c) = do
-  carry ← number
-  pure (some carry)
-
--- the columns of left, right and result numbers, of each as many
-unfoldable pub columns_of : List ℕ → List ℕ → List ℕ → List Column
-columns_of [] rs os = []
-columns_of (l ∷ ls) [] os = []
-columns_of (l ∷ ls) (r ∷ rs) [] = []
-columns_of (l ∷ ls) (r ∷ rs) (o ∷ os) = record { left = l; right = r; result = o } ∷ columns_of ls rs os
-
--- an arithmetic cell: name, kind, width from 1 to 16; left, right; carry; results
-unfoldable pub cell : Reader Cell
-cell = do
-  n ← name
-  kind ← code_below 3
-  width ← code (λ w. leb 1 w && leb w 16)
-  left ← numbers width
-  right ← numbers width
-  c ← code_below (carry_codes kind)
-  carry ← carry_for c
-  results ← numbers width
-  pure (record { name = n; operation = operation_of kind; columns = columns_of left right results; carry = carry })
-
--- k more cells after those so far
-unfoldable pub cells_from : ℕ → List Cell → Reader (List Cell)
-cells_from zero cs = pure cs
-cells_from (suc k) cs = do
-  c ← cell
-  cells_from k (cs ++ (c ∷ []))
-
--- the cells: a count of at most 64, else 6; then each cell
-unfoldable pub cells : Reader (List Cell)
-cells = do
-  n ← guard 6 (λ n. leb n 64) number
-  cells_from n []
-
--- the cells of a version: none before version 2
-unfoldable pub cells_if : Bool → Reader (List Cell)
-cells_if true = cells
-cells_if false = pure []
-
 -- no byte is left; else 3 at the first one
 unfoldable pub end : Reader (Unit {0})
 end s i = cond (leb (length s) i) (got tt i) (refuse 3 i)
 
--- a version after the length: design name, nodes, registers, and from version 2 on cells
-unfoldable pub fields : ℕ → Reader Design
-fields version = do
+-- version 1 after the length: design name, nodes, registers
+unfoldable pub version1 : Reader Design
+version1 = do
   n ← name
-  ns ← nodes (listed_kind version)
+  ns ← nodes listed_kind
   rs ← registers register
-  cs ← cells_if (leb 2 version)
   e ← end
-  pure (record { name = n; nodes = ns; registers = rs; cells = cs })
+  pure (record { name = n; nodes = ns; registers = rs })
 
--- the reader that the version byte asks for: 1 or 2
+-- the reader that the version byte asks for
 unfoldable pub version_of : ℕ → Option (Reader Design)
-version_of v = cond (leb 1 v && leb v 2) (some (fields v)) none
+version_of v = cond (eqb v 1) (some version1) none
 
 -- what reading a record gives
 pub data Read : Type 0 where
@@ -315,5 +261,5 @@ parse s = parse_sized s (length_fits s)
 
 -- naming this opens them all
 unfoldable pub all : Unit {0}
-unfolding refuse pure go_on ◌>>=◌ tested guard bytes big_endian byte number code code_below name_byte name_bytes name kinds listed_kind inputs_per_kind has_name has_value name_if value_if numbers by_kind node_of room node nodes_from nodes edge_of level_of bit enable_for reset_for register registers_from registers operation_of carry_codes carry_for columns_of cell cells_from cells cells_if end fields version_of length_fits finished parse_fields parse_sized parse Lists.all Names.all Netlist.all
+unfolding refuse pure go_on ◌>>=◌ tested guard bytes big_endian byte number code code_below name_byte name_bytes name kinds listed_kind inputs_per_kind has_name has_value name_if value_if numbers by_kind node_of room node nodes_from nodes edge_of level_of bit enable_for reset_for register registers_from registers end version1 version_of length_fits finished parse_fields parse_sized parse Lists.all Names.all Netlist.all
 all = tt

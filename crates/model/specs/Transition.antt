@@ -1,16 +1,12 @@
 -- The transition system of a design that passed validation, as transition.rs builds it. Definitions only.
-use Rattle.std.specs.Prelude.{ℕ, suc, true, false, cond, List, [], ◌∷◌, map, get_or, eqb}
+use Rattle.std.specs.Prelude.{ℕ, suc, true, false, List, [], ◌∷◌, get_or}
 use Rattle.std.proofs.Math.Option.{Option, none, some}
 use Rattle.model.specs.Literal.{Literal, FALSE, node, negate, constant_literal}
 use Rattle.model.specs.Lists.{snoc, lookup}
 use Rattle.model.specs.Aig.{Aig, Built, new, variable, and, or, xor, mux}
 use Rattle.model.specs.Aig as Graph
-use Rattle.model.specs.Adder.{Word, lower_arithmetic}
-use Rattle.model.specs.Adder as Adder
-use Rattle.model.specs.Cells.{lefts, rights, CellBit, cell_bit}
-use Rattle.model.specs.Cells as Cells
 use Rattle.model.specs.Names.{Name, sort_by_name}
-use Rattle.model.specs.Netlist.{Node, Input, Constant, RegisterOutput, ArithmeticOutput, Not, Output, And, Or, Xor, Mux, ActiveLevel, High, Low, Enable, Reset, Register, Cell, Design}
+use Rattle.model.specs.Netlist.{Node, Input, Constant, RegisterOutput, Not, Output, And, Or, Xor, Mux, ActiveLevel, High, Low, Enable, Reset, Register, Design}
 use Rattle.model.specs.Names as Names
 use Rattle.model.specs.Validate.{Driver, driver, driver_from}
 
@@ -32,15 +28,13 @@ pub record TransitionSystem : Type 0 where
   pub states : List StateBit
   pub outputs : List Port
 
--- the walk over the nodes: the graph, each net's literal, ports in record order, the variable of each register output's net, and the results' literals of
--- each cell that was lowered, by its number
+-- the walk over the nodes: the graph, each net's literal, ports in record order, and the variable of each register output's net
 pub record Lowering : Type 0 where
   pub aig : Aig
   pub nets : List Literal
   pub inputs : List Port
   pub outputs : List Port
   pub state_variables : List (ℕ × Literal)
-  pub lowered : List (ℕ × List Literal)
 
 -- a signal's literal as its active level asks
 unfoldable pub asserted_literal : Literal → ActiveLevel → Literal
@@ -59,7 +53,7 @@ driver_reset (some d) = d.register.reset
 -- the walk with one net more
 unfoldable pub with_net : Lowering → Built → Lowering
 with_net w m =
-    record { aig = m.aig; nets = snoc w.nets m.literal; inputs = w.inputs; outputs = w.outputs; state_variables = w.state_variables; lowered = w.lowered }
+    record { aig = m.aig; nets = snoc w.nets m.literal; inputs = w.inputs; outputs = w.outputs; state_variables = w.state_variables }
 
 -- a net that needs no change of the graph
 unfoldable pub with_literal : Lowering → Literal → Lowering
@@ -74,7 +68,6 @@ lower_input w n m =
       inputs = snoc w.inputs (record { name = n; literal = m.literal });
       outputs = w.outputs;
       state_variables = w.state_variables;
-      lowered = w.lowered;
     }
 
 -- an output is its net's literal
@@ -86,7 +79,6 @@ lower_output w n l =
       inputs = w.inputs;
       outputs = snoc w.outputs (record { name = n; literal = l });
       state_variables = w.state_variables;
-      lowered = w.lowered;
     }
 
 -- the reset value while a reset is asserted, else the value
@@ -107,70 +99,32 @@ lower_shown w net state m =
       inputs = w.inputs;
       outputs = w.outputs;
       state_variables = snoc w.state_variables (net, state);
-      lowered = w.lowered;
     }
 
 -- a register output: a new variable, then what it shows
 unfoldable pub lower_register_output : List Register → Lowering → ℕ → Built → Lowering
 lower_register_output rs w net m = lower_shown w net m.literal (shown m.aig w.nets (driver_reset (driver rs net)) m.literal)
 
--- the literals of a cell's results, if the cell was lowered
-unfoldable pub lowered_cell : List (ℕ × List Literal) → ℕ → Option (List Literal)
-lowered_cell [] k = none
-lowered_cell (p ∷ ps) k = let rest = lowered_cell ps k in cond (eqb p.0 k) (some p.1) rest
-
--- the literal of a carry; FALSE where there is none
-unfoldable pub carry_literal : List Literal → Option ℕ → Literal
-carry_literal nets none = FALSE
-carry_literal nets (some k) = net_literal nets k
-
--- a cell lowered whole, from its operands' literals
-unfoldable pub lower_cell : Aig → List Literal → Cell → Word
-lower_cell g nets c = lower_arithmetic g c.operation (map (net_literal nets) (lefts c)) (map (net_literal nets) (rights c)) (carry_literal nets c.carry)
-
--- the net of a result of cell k, which was lowered just now
-unfoldable pub with_cell : Lowering → ℕ → ℕ → Word → Lowering
-with_cell w k place m =
-    record {
-      aig = m.aig;
-      nets = snoc w.nets (get_or m.literals place FALSE);
-      inputs = w.inputs;
-      outputs = w.outputs;
-      state_variables = w.state_variables;
-      lowered = (k, m.literals) ∷ w.lowered;
-    }
-
--- the net of a cell's bit: the cell is lowered at the first of its results that is met, the others make nothing
-unfoldable pub lower_bit : Lowering → CellBit → Option (List Literal) → Lowering
-lower_bit w b (some ls) = with_literal w (get_or ls b.place FALSE)
-lower_bit w b none = with_cell w b.number b.place (lower_cell w.aig w.nets b.cell)
-
--- the net of an ArithmeticOutput; FALSE where no cell drives it, which is refused before
-unfoldable pub lower_result : Lowering → Option CellBit → Lowering
-lower_result w none = with_literal w FALSE
-lower_result w (some b) = lower_bit w b (lowered_cell w.lowered b.number)
-
 -- one node; the number is its net's
-unfoldable pub lower_node : List Cell → List Register → Lowering → ℕ → Node → Lowering
-lower_node cs rs w net (Input n) = lower_input w n (variable w.aig)
-lower_node cs rs w net (Constant b) = with_literal w (constant_literal b)
-lower_node cs rs w net RegisterOutput = lower_register_output rs w net (variable w.aig)
-lower_node cs rs w net ArithmeticOutput = lower_result w (cell_bit cs net)
-lower_node cs rs w net (Not a) = with_literal w (negate (net_literal w.nets a))
-lower_node cs rs w net (Output n a) = lower_output w n (net_literal w.nets a)
-lower_node cs rs w net (And a b) = with_net w (and w.aig (net_literal w.nets a) (net_literal w.nets b))
-lower_node cs rs w net (Or a b) = with_net w (or w.aig (net_literal w.nets a) (net_literal w.nets b))
-lower_node cs rs w net (Xor a b) = with_net w (xor w.aig (net_literal w.nets a) (net_literal w.nets b))
-lower_node cs rs w net (Mux c a b) = with_net w (mux w.aig (net_literal w.nets c) (net_literal w.nets a) (net_literal w.nets b))
+unfoldable pub lower_node : List Register → Lowering → ℕ → Node → Lowering
+lower_node rs w net (Input n) = lower_input w n (variable w.aig)
+lower_node rs w net (Constant b) = with_literal w (constant_literal b)
+lower_node rs w net RegisterOutput = lower_register_output rs w net (variable w.aig)
+lower_node rs w net (Not a) = with_literal w (negate (net_literal w.nets a))
+lower_node rs w net (Output n a) = lower_output w n (net_literal w.nets a)
+lower_node rs w net (And a b) = with_net w (and w.aig (net_literal w.nets a) (net_literal w.nets b))
+lower_node rs w net (Or a b) = with_net w (or w.aig (net_literal w.nets a) (net_literal w.nets b))
+lower_node rs w net (Xor a b) = with_net w (xor w.aig (net_literal w.nets a) (net_literal w.nets b))
+lower_node rs w net (Mux c a b) = with_net w (mux w.aig (net_literal w.nets c) (net_literal w.nets a) (net_literal w.nets b))
 
 -- the nodes from a net's number on
-unfoldable pub lower_nodes : List Cell → List Register → Lowering → ℕ → List Node → Lowering
-lower_nodes cs rs w net [] = w
-lower_nodes cs rs w net (n ∷ ns) = lower_nodes cs rs (lower_node cs rs w net n) (suc net) ns
+unfoldable pub lower_nodes : List Register → Lowering → ℕ → List Node → Lowering
+lower_nodes rs w net [] = w
+lower_nodes rs w net (n ∷ ns) = lower_nodes rs (lower_node rs w net n) (suc net) ns
 
 -- the walk before the first node
 unfoldable pub no_nodes : Lowering
-no_nodes = record { aig = new; nets = []; inputs = []; outputs = []; state_variables = []; lowered = [] }
+no_nodes = record { aig = new; nets = []; inputs = []; outputs = []; state_variables = [] }
 
 -- the data, or the state where an enable is not asserted
 unfoldable pub enabled : Aig → List Literal → Option Enable → Literal → Literal → Built
@@ -221,9 +175,9 @@ with_registers w rs = system_of w (lower_registers w (record { aig = w.aig; stat
 
 -- the transition system of a design
 unfoldable pub from_netlist : Design → TransitionSystem
-from_netlist d = with_registers (lower_nodes d.cells d.registers no_nodes 0 d.nodes) d.registers
+from_netlist d = with_registers (lower_nodes d.registers no_nodes 0 d.nodes) d.registers
 
 -- naming this in an `unfolding` line opens the definitions of this file and those it uses
 unfoldable pub all : Unit {0}
-unfolding asserted_literal net_literal driver_reset with_net with_literal lower_input lower_output reset_mux shown lower_shown lower_register_output lowered_cell carry_literal lower_cell with_cell lower_bit lower_result lower_node lower_nodes no_nodes enabled reset_next with_state lower_register lower_registers system_of with_registers from_netlist driver driver_from Graph.all Names.all Adder.all Cells.all
+unfolding asserted_literal net_literal driver_reset with_net with_literal lower_input lower_output reset_mux shown lower_shown lower_register_output lower_node lower_nodes no_nodes enabled reset_next with_state lower_register lower_registers system_of with_registers from_netlist driver driver_from Graph.all Names.all
 all = tt

@@ -1,4 +1,4 @@
--- The checks of one design, refusals 7 to 15, 26 to 28 and 30, in order. Definitions only.
+-- The checks of one design, refusals 7 to 15 and 30, in order. Definitions only.
 use Rattle.std.specs.Prelude.{ℕ, suc, Bool, true, false, not, cond, ◌&&◌, ◌||◌, List, [], ◌∷◌, ◌++◌, length, eqb, leb, ltb}
 use Rattle.std.proofs.Math.Option.{Option, none, some}
 use Rattle.std.proofs.Math.ListN.{get_elem?}
@@ -7,10 +7,8 @@ use Rattle.model.specs.Answers as Answers
 use Rattle.model.specs.Names.{Name, member_name}
 use Rattle.model.specs.Lists.{member}
 use Rattle.model.specs.Names as Names
-use Rattle.model.specs.Netlist.{Node, Input, Constant, RegisterOutput, ArithmeticOutput, Not, Output, And, Or, Xor, Mux, Enable, Reset, Register, Cell, Design, input_name, is_register_output, is_arithmetic_output, input_numbers}
+use Rattle.model.specs.Netlist.{Node, Input, Constant, RegisterOutput, Not, Output, And, Or, Xor, Mux, Enable, Reset, Register, Design, input_name, is_register_output, input_numbers}
 use Rattle.model.specs.Netlist as Netlist
-use Rattle.model.specs.Cells.{results, operands, lowest, CellBit, cell_bit}
-use Rattle.model.specs.Cells as Cells
 use Rattle.model.specs.Record.{Read, parsed, refused_record, parse}
 use Rattle.model.specs.Record as Record
 
@@ -40,7 +38,6 @@ unfoldable pub port_name : Node → Option Name
 port_name (Input n) = some n
 port_name (Constant b) = none
 port_name RegisterOutput = none
-port_name ArithmeticOutput = none
 port_name (Not a) = none
 port_name (Output n a) = some n
 port_name (And a b) = none
@@ -137,45 +134,6 @@ connection_fault rs i (n ∷ ns) =
     let rest = connection_fault rs (suc i) ns in
     refuse_if 13 0 i (is_register_output n && undriven (driver rs i)) otherwise rest
 
--- the node of a number is an ArithmeticOutput
-unfoldable pub is_arithmetic_output_at : Option Node → Bool
-is_arithmetic_output_at none = false
-is_arithmetic_output_at (some n) = is_arithmetic_output n
-
--- one of the results, after those taken, is no ArithmeticOutput or is taken
-unfoldable pub bad_results : List Node → List ℕ → List ℕ → Bool
-bad_results nodes taken [] = false
-bad_results nodes taken (o ∷ os) =
-    let rest = bad_results nodes (o ∷ taken) os in
-    not (is_arithmetic_output_at (get_elem? nodes o)) || member o taken || rest
-
--- cell i after those with these names and results: 26 a name a second time, 27 a result that is no ArithmeticOutput or is taken,
--- 28 a number read that is not below the lowest result
-unfoldable pub cell_fault : List Node → ℕ → List Name → List ℕ → Cell → Option Refusal
-cell_fault nodes i names taken c =
-    refuse_if 26 0 i (member_name c.name names)
-    otherwise refuse_if 27 0 i (bad_results nodes taken (results c))
-    otherwise refuse_if 28 0 i (not (all_below (lowest (results c)) (operands c)))
-
--- the cells from number i on
-unfoldable pub cells_fault : List Node → ℕ → List Name → List ℕ → List Cell → Option Refusal
-cells_fault nodes i names taken [] = none
-cells_fault nodes i names taken (c ∷ cs) =
-    let rest = cells_fault nodes (suc i) (c.name ∷ names) (results c ++ taken) cs in
-    cell_fault nodes i names taken c otherwise rest
-
--- no cell drives the node
-unfoldable pub cellless : Option CellBit → Bool
-cellless none = true
-cellless (some b) = false
-
--- 27: the lowest ArithmeticOutput from number i on that has no cell
-unfoldable pub result_fault : List Cell → ℕ → List Node → Option Refusal
-result_fault cs i [] = none
-result_fault cs i (n ∷ ns) =
-    let rest = result_fault cs (suc i) ns in
-    refuse_if 27 0 i (is_arithmetic_output n && cellless (cell_bit cs i)) otherwise rest
-
 -- an asynchronous reset whose signal is not below node i
 unfoldable pub late_reset : ℕ → Option Reset → Bool
 late_reset i none = false
@@ -219,28 +177,21 @@ unfoldable pub registers_read : ℕ → List Register → Bool
 registers_read k [] = false
 registers_read k (r ∷ rs) = let rest = registers_read k rs in member k (data_numbers r) || rest
 
--- one of the cells reads node k
-unfoldable pub cells_read : ℕ → List Cell → Bool
-cells_read k [] = false
-cells_read k (c ∷ cs) = let rest = cells_read k cs in member k (operands c) || rest
-
 -- node k clocks a register and is read
 unfoldable pub clock_read : Design → ℕ → Bool
-clock_read d k = clocks k d.registers && (nodes_read k d.nodes || (registers_read k d.registers || cells_read k d.cells))
+clock_read d k = clocks k d.registers && (nodes_read k d.nodes || registers_read k d.registers)
 
 -- 30: the lowest node from number i on that clocks a register and is read; after 15 it is an Input
 unfoldable pub clock_read_fault : Design → ℕ → List Node → Option Refusal
 clock_read_fault d i [] = none
 clock_read_fault d i (n ∷ ns) = let rest = clock_read_fault d (suc i) ns in refuse_if 30 0 i (clock_read d i) otherwise rest
 
--- the first refusal of 7 to 13, 26 to 28, 14, 15 and 30
+-- the first refusal of 7 to 15 and 30
 unfoldable pub validate : Design → Option Refusal
 validate d =
     nodes_fault 0 [] d.nodes
     otherwise registers_fault d.nodes 0 [] [] d.registers
     otherwise connection_fault d.registers 0 d.nodes
-    otherwise cells_fault d.nodes 0 [] [] d.cells
-    otherwise result_fault d.cells 0 d.nodes
     otherwise reset_fault d.registers 0 d.nodes
     otherwise clock_fault d.nodes 0 d.registers
     otherwise clock_read_fault d 0 d.nodes
@@ -255,7 +206,7 @@ unfoldable pub validated : Read → Read
 validated (parsed d) = judged d (validate d)
 validated (refused_record r) = refused_record r
 
--- the design of a record that is accepted, or the first refusal of 1 to 15, 26 to 28 and 30
+-- the design of a record that is accepted, or the first refusal of 1 to 15 and 30
 unfoldable pub read_record : List ℕ → Read
 read_record s = validated (parse s)
 
@@ -270,5 +221,5 @@ read s = answer_of (read_record s)
 
 -- naming this opens them all
 unfoldable pub all : Unit {0}
-unfolding ◌otherwise◌ refuse_if all_below add_name port_name repeats node_fault nodes_fault is_register_output_at is_input is_input_at enable_numbers reset_numbers register_numbers register_fault registers_fault driver_from driver undriven connection_fault is_arithmetic_output_at bad_results cell_fault cells_fault cellless result_fault late_reset late_driver reset_fault clock_fault clocks nodes_read data_numbers registers_read cells_read clock_read clock_read_fault validate judged validated read_record answer_of read Names.all Netlist.all Cells.all Record.all Answers.all
+unfolding ◌otherwise◌ refuse_if all_below add_name port_name repeats node_fault nodes_fault is_register_output_at is_input is_input_at enable_numbers reset_numbers register_numbers register_fault registers_fault driver_from driver undriven connection_fault late_reset late_driver reset_fault clock_fault clocks nodes_read data_numbers registers_read clock_read clock_read_fault validate judged validated read_record answer_of read Names.all Netlist.all Record.all Answers.all
 all = tt

@@ -3,23 +3,15 @@ use Rattle.std.specs.Prelude.{[]}
 use Rattle.std.proofs.Math.Option.{Option}
 use Rattle.model.specs.Answers.{Refusal}
 use Rattle.model.specs.Netlist.{Design}
-use Rattle.model.specs.Validate.{◌otherwise◌, registers_fault, connection_fault, cells_fault, result_fault, reset_fault, clock_fault, clock_read_fault}
+use Rattle.model.specs.Validate.{◌otherwise◌, registers_fault, connection_fault, reset_fault, clock_fault, clock_read_fault}
 
 -- 15, then 30
 unfoldable pub after_resets : Design → Option Refusal
 after_resets d = clock_fault d.nodes 0 d.registers otherwise clock_read_fault d 0 d.nodes
 
 -- 14, then the checks after it
-unfoldable pub after_results : Design → Option Refusal
-after_results d = reset_fault d.registers 0 d.nodes otherwise after_resets d
-
--- 27 of a node left without a cell, then the checks after it
-unfoldable pub after_cells : Design → Option Refusal
-after_cells d = result_fault d.cells 0 d.nodes otherwise after_results d
-
--- 26 to 28 by cell, then the checks after them
 unfoldable pub after_connections : Design → Option Refusal
-after_connections d = cells_fault d.nodes 0 [] [] d.cells otherwise after_cells d
+after_connections d = reset_fault d.registers 0 d.nodes otherwise after_resets d
 
 -- 13, then the checks after it
 unfoldable pub after_registers : Design → Option Refusal

@@ -78,37 +78,37 @@ nodes_unchecked s netlist = record { bound = omega arith; few = omega arith; siz
 module _ (s : List ℕ) (netlist : Netlist) (ports : List ℕ) (found i : ℕ) (so : NodesChecked s netlist ports found i) (pad : Padded netlist) where
   module _ (l : i < netlist.node_count) where
     -- the node in hand
-    node : Node
-    node = get_or netlist.nodes i no_node
+    cell : Node
+    cell = get_or netlist.nodes i no_node
 
-    fault : node_fault i (names_before s ports found) (decoded_node s node) ≡ (refuse_if 7 0 i (not (all_below i (take (inputs_per_kind node.kind) (node.first ∷ node.second ∷ node.third ∷ [])))) otherwise refuse_if 8 0 i (cond (has_name node.kind) (member_name (name_at s node.detail) (names_before s ports found)) false))
-    unfolding node_fault node
+    fault : node_fault i (names_before s ports found) (decoded_node s cell) ≡ (refuse_if 7 0 i (not (all_below i (take (inputs_per_kind cell.kind) (cell.first ∷ cell.second ∷ cell.third ∷ [])))) otherwise refuse_if 8 0 i (cond (has_name cell.kind) (member_name (name_at s cell.detail) (names_before s ports found)) false))
+    unfolding node_fault cell
     fault = rw (numbers_are s (get_or netlist.nodes i no_node) (pad.nodes_padded.listed i), port_is s (get_or netlist.nodes i no_node) (pad.nodes_padded.listed i), repeats_if (has_name (get_or netlist.nodes i no_node).kind) (name_at s (get_or netlist.nodes i no_node).detail) (names_before s ports found))
 
-    whole : (node_fault i (names_before s ports found) (decoded_node s node) otherwise nodes_fault (i + 1) (add_name (port_name (decoded_node s node)) (names_before s ports found)) (drop (i + 1) (decoded s netlist).nodes)) ≡ nodes_fault 0 [] (decoded s netlist).nodes
-    unfolding node nodes_fault
+    whole : (node_fault i (names_before s ports found) (decoded_node s cell) otherwise nodes_fault (i + 1) (add_name (port_name (decoded_node s cell)) (names_before s ports found)) (drop (i + 1) (decoded s netlist).nodes)) ≡ nodes_fault 0 [] (decoded s netlist).nodes
+    unfolding cell nodes_fault
     whole = opened ∙ so.rest
       where
-        opened : (node_fault i (names_before s ports found) (decoded_node s node) otherwise nodes_fault (i + 1) (add_name (port_name (decoded_node s node)) (names_before s ports found)) (drop (i + 1) (decoded s netlist).nodes)) ≡ nodes_fault i (names_before s ports found) (drop i (decoded s netlist).nodes)
+        opened : (node_fault i (names_before s ports found) (decoded_node s cell) otherwise nodes_fault (i + 1) (add_name (port_name (decoded_node s cell)) (names_before s ports found)) (drop (i + 1) (decoded s netlist).nodes)) ≡ nodes_fault i (names_before s ports found) (drop i (decoded s netlist).nodes)
         opened = rw (node-here s netlist pad i l, add-one i)
 
     pub node_undefined : false ≡ all_below i (take (inputs_per_kind (get_or netlist.nodes i no_node).kind) ((get_or netlist.nodes i no_node).first ∷ (get_or netlist.nodes i no_node).second ∷ (get_or netlist.nodes i no_node).third ∷ [])) → some (refusal 7 0 i) ≡ nodes_fault 0 [] (decoded s netlist).nodes
-    unfolding node refusal refuse_if ◌otherwise◌
+    unfolding cell refusal refuse_if ◌otherwise◌
     node_undefined e = first ∙ whole
       where
-        first : some (refusal 7 0 i) ≡ (node_fault i (names_before s ports found) (decoded_node s node) otherwise nodes_fault (i + 1) (add_name (port_name (decoded_node s node)) (names_before s ports found)) (drop (i + 1) (decoded s netlist).nodes))
+        first : some (refusal 7 0 i) ≡ (node_fault i (names_before s ports found) (decoded_node s cell) otherwise nodes_fault (i + 1) (add_name (port_name (decoded_node s cell)) (names_before s ports found)) (drop (i + 1) (decoded s netlist).nodes))
         first = rw (fault, ← e)
 
     module _ (e : true ≡ all_below i (take (inputs_per_kind (get_or netlist.nodes i no_node).kind) ((get_or netlist.nodes i no_node).first ∷ (get_or netlist.nodes i no_node).second ∷ (get_or netlist.nodes i no_node).third ∷ []))) where
       pub node_repeated : true ≡ cond (has_name (get_or netlist.nodes i no_node).kind) (member_name (name_at s (get_or netlist.nodes i no_node).detail) (names_before s ports found)) false → some (refusal 8 0 i) ≡ nodes_fault 0 [] (decoded s netlist).nodes
-      unfolding node refusal refuse_if ◌otherwise◌
+      unfolding cell refusal refuse_if ◌otherwise◌
       node_repeated f = first ∙ whole
         where
-          first : some (refusal 8 0 i) ≡ (node_fault i (names_before s ports found) (decoded_node s node) otherwise nodes_fault (i + 1) (add_name (port_name (decoded_node s node)) (names_before s ports found)) (drop (i + 1) (decoded s netlist).nodes))
+          first : some (refusal 8 0 i) ≡ (node_fault i (names_before s ports found) (decoded_node s cell) otherwise nodes_fault (i + 1) (add_name (port_name (decoded_node s cell)) (names_before s ports found)) (drop (i + 1) (decoded s netlist).nodes))
           first = rw (fault, ← e, ← f)
 
       pub node-checked : false ≡ cond (has_name (get_or netlist.nodes i no_node).kind) (member_name (name_at s (get_or netlist.nodes i no_node).detail) (names_before s ports found)) false → NodesChecked s netlist (set ports found (get_or netlist.nodes i no_node).detail) (found + cond (has_name (get_or netlist.nodes i no_node).kind) 1 0) (i + 1)
-      unfolding node refusal refuse_if ◌otherwise◌
+      unfolding cell refusal refuse_if ◌otherwise◌
       node-checked f =
           record {
             bound = omega arith;
@@ -117,7 +117,7 @@ module _ (s : List ℕ) (netlist : Netlist) (ports : List ℕ) (found i : ℕ) (
             rest = next ∙ whole;
           }
         where
-          next : nodes_fault (i + 1) (names_before s (set ports found (get_or netlist.nodes i no_node).detail) (found + cond (has_name (get_or netlist.nodes i no_node).kind) 1 0)) (drop (i + 1) (decoded s netlist).nodes) ≡ (node_fault i (names_before s ports found) (decoded_node s node) otherwise nodes_fault (i + 1) (add_name (port_name (decoded_node s node)) (names_before s ports found)) (drop (i + 1) (decoded s netlist).nodes))
+          next : nodes_fault (i + 1) (names_before s (set ports found (get_or netlist.nodes i no_node).detail) (found + cond (has_name (get_or netlist.nodes i no_node).kind) 1 0)) (drop (i + 1) (decoded s netlist).nodes) ≡ (node_fault i (names_before s ports found) (decoded_node s cell) otherwise nodes_fault (i + 1) (add_name (port_name (decoded_node s cell)) (names_before s ports found)) (drop (i + 1) (decoded s netlist).nodes))
           next = rw (fault, ← e, ← f, port_is s (get_or netlist.nodes i no_node) (pad.nodes_padded.listed i), names_if s ports found (get_or netlist.nodes i no_node).detail (has_name (get_or netlist.nodes i no_node).kind) (omega (arith, so.size, so.few, so.bound, pad.nodes_padded.fits)))
 
   pub nodes-all-checked : netlist.node_count ≤ i → none ≡ nodes_fault 0 [] (decoded s netlist).nodes

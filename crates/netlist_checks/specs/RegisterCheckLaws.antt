@@ -95,49 +95,49 @@ module _ (i : ℕ) (m o t b : Bool) (after : Option Refusal) (f : false ≡ m) (
 module _ (s : List ℕ) (netlist : Netlist) (names outputs : List ℕ) (i : ℕ) (so : RegistersChecked s netlist names outputs i) (pad : Padded netlist) where
   module _ (l : i < netlist.register_count) where
     -- the register in hand, and what is found of it
-    register : RegisterCell
-    register = get_or netlist.registers i no_register
+    cell : RegisterCell
+    cell = get_or netlist.registers i no_register
 
     after : Option Refusal
-    after = registers_fault (decoded s netlist).nodes (i + 1) (name_at s register.name ∷ names_before s names i) (register.output ∷ numbers_before outputs i) (drop (i + 1) (decoded s netlist).registers)
+    after = registers_fault (decoded s netlist).nodes (i + 1) (name_at s cell.name ∷ names_before s names i) (cell.output ∷ numbers_before outputs i) (drop (i + 1) (decoded s netlist).registers)
 
-    whole : (register_fault (decoded s netlist).nodes i (names_before s names i) (numbers_before outputs i) (decoded_register s register) otherwise after) ≡ registers_fault (decoded s netlist).nodes 0 [] [] (decoded s netlist).registers
-    unfolding after register registers_fault decoded_register
+    whole : (register_fault (decoded s netlist).nodes i (names_before s names i) (numbers_before outputs i) (decoded_register s cell) otherwise after) ≡ registers_fault (decoded s netlist).nodes 0 [] [] (decoded s netlist).registers
+    unfolding after cell registers_fault decoded_register
     whole = opened ∙ so.rest
       where
-        opened : (register_fault (decoded s netlist).nodes i (names_before s names i) (numbers_before outputs i) (decoded_register s register) otherwise after) ≡ registers_fault (decoded s netlist).nodes i (names_before s names i) (numbers_before outputs i) (drop i (decoded s netlist).registers)
+        opened : (register_fault (decoded s netlist).nodes i (names_before s names i) (numbers_before outputs i) (decoded_register s cell) otherwise after) ≡ registers_fault (decoded s netlist).nodes i (names_before s names i) (numbers_before outputs i) (drop i (decoded s netlist).registers)
         opened = rw (register-here s netlist pad i l, add-one i)
 
     pub name-repeats : true ≡ member_name (name_at s (get_or netlist.registers i no_register).name) (names_before s names i) → some (refusal 9 0 i) ≡ registers_fault (decoded s netlist).nodes 0 [] [] (decoded s netlist).registers
-    unfolding register register_fault decoded_register refusal refuse_if ◌otherwise◌
+    unfolding cell register_fault decoded_register refusal refuse_if ◌otherwise◌
     name-repeats e = first ∙ whole
       where
-        first : some (refusal 9 0 i) ≡ (register_fault (decoded s netlist).nodes i (names_before s names i) (numbers_before outputs i) (decoded_register s register) otherwise after)
+        first : some (refusal 9 0 i) ≡ (register_fault (decoded s netlist).nodes i (names_before s names i) (numbers_before outputs i) (decoded_register s cell) otherwise after)
         first = rw (← e)
 
     module _ (n : false ≡ member_name (name_at s (get_or netlist.registers i no_register).name) (names_before s names i)) where
       pub no_output : is_register_output_at (get_elem? (decoded s netlist).nodes (get_or netlist.registers i no_register).output) ≡ false → some (refusal 10 0 i) ≡ registers_fault (decoded s netlist).nodes 0 [] [] (decoded s netlist).registers
-      unfolding register register_fault decoded_register refusal refuse_if ◌otherwise◌
+      unfolding cell register_fault decoded_register refusal refuse_if ◌otherwise◌
       no_output e = first ∙ whole
         where
-          first : some (refusal 10 0 i) ≡ (register_fault (decoded s netlist).nodes i (names_before s names i) (numbers_before outputs i) (decoded_register s register) otherwise after)
+          first : some (refusal 10 0 i) ≡ (register_fault (decoded s netlist).nodes i (names_before s names i) (numbers_before outputs i) (decoded_register s cell) otherwise after)
           first = rw (← n, e)
 
       module _ (o : is_register_output_at (get_elem? (decoded s netlist).nodes (get_or netlist.registers i no_register).output) ≡ true) where
         pub output-taken : true ≡ member (get_or netlist.registers i no_register).output (numbers_before outputs i) → some (refusal 11 0 i) ≡ registers_fault (decoded s netlist).nodes 0 [] [] (decoded s netlist).registers
-        unfolding register register_fault decoded_register refusal refuse_if ◌otherwise◌
+        unfolding cell register_fault decoded_register refusal refuse_if ◌otherwise◌
         output-taken e = first ∙ whole
           where
-            first : some (refusal 11 0 i) ≡ (register_fault (decoded s netlist).nodes i (names_before s names i) (numbers_before outputs i) (decoded_register s register) otherwise after)
+            first : some (refusal 11 0 i) ≡ (register_fault (decoded s netlist).nodes i (names_before s names i) (numbers_before outputs i) (decoded_register s cell) otherwise after)
             first = rw (← n, o, ← e)
 
         module _ (t : false ≡ member (get_or netlist.registers i no_register).output (numbers_before outputs i)) where
           pub nets_undefined : false ≡ all_below netlist.node_count (register_numbers (decoded_register s (get_or netlist.registers i no_register))) → some (refusal 12 0 i) ≡ registers_fault (decoded s netlist).nodes 0 [] [] (decoded s netlist).registers
-          unfolding register register_fault decoded_register
+          unfolding cell register_fault decoded_register
           nets_undefined e = twelve i _ _ _ _ after n o t (e ∙ ap (λ (k : ℕ). all_below k (register_numbers (decoded_register s (get_or netlist.registers i no_register)))) (sym (node-total s netlist pad))) ∙ whole
 
           pub register-checked : true ≡ all_below netlist.node_count (register_numbers (decoded_register s (get_or netlist.registers i no_register))) → RegistersChecked s netlist (set names i (get_or netlist.registers i no_register).name) (set outputs i (get_or netlist.registers i no_register).output) (i + 1)
-          unfolding register after register_fault decoded_register
+          unfolding cell after register_fault decoded_register
           register-checked e =
               record {
                 bound = omega arith;
@@ -149,7 +149,7 @@ module _ (s : List ℕ) (netlist : Netlist) (names outputs : List ℕ) (i : ℕ)
               kept : registers_fault (decoded s netlist).nodes (i + 1) (names_before s (set names i (get_or netlist.registers i no_register).name) (i + 1)) (numbers_before (set outputs i (get_or netlist.registers i no_register).output) (i + 1)) (drop (i + 1) (decoded s netlist).registers) ≡ after
               kept = refold
                 where
-                  refold : registers_fault (decoded s netlist).nodes (i + 1) (names_before s (set names i (get_or netlist.registers i no_register).name) (i + 1)) (numbers_before (set outputs i (get_or netlist.registers i no_register).output) (i + 1)) (drop (i + 1) (decoded s netlist).registers) ≡ registers_fault (decoded s netlist).nodes (i + 1) (name_at s register.name ∷ names_before s names i) (register.output ∷ numbers_before outputs i) (drop (i + 1) (decoded s netlist).registers)
+                  refold : registers_fault (decoded s netlist).nodes (i + 1) (names_before s (set names i (get_or netlist.registers i no_register).name) (i + 1)) (numbers_before (set outputs i (get_or netlist.registers i no_register).output) (i + 1)) (drop (i + 1) (decoded s netlist).registers) ≡ registers_fault (decoded s netlist).nodes (i + 1) (name_at s cell.name ∷ names_before s names i) (cell.output ∷ numbers_before outputs i) (drop (i + 1) (decoded s netlist).registers)
                   refold = rw (names_more s names i (get_or netlist.registers i no_register).name (omega (arith, so.names_size, pad.registers_padded.fits)), numbers_more outputs i (get_or netlist.registers i no_register).output (omega (arith, so.outputs_size, pad.registers_padded.fits)))
 
   pub registers-all-checked : netlist.register_count ≤ i → none ≡ registers_fault (decoded s netlist).nodes 0 [] [] (decoded s netlist).registers

@@ -5,6 +5,6 @@ use Rattle.struo_ir.specs.declared.netlist.RegisterCell.{RegisterCell}
 use Rattle.struo_ir.specs.Decoded.{cell_reset}
 
 -- a driver, by its number plus one, with an asynchronous reset whose signal is not below i
-unfoldable pub late_register : ℕ → RegisterCell → ℕ → Bool
-late_register zero r i = false
-late_register (suc k) r i = late_reset i (cell_reset r)
+unfoldable pub late_cell : ℕ → RegisterCell → ℕ → Bool
+late_cell zero r i = false
+late_cell (suc k) r i = late_reset i (cell_reset r)

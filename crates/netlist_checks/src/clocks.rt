@@ -18,8 +18,8 @@ pub fn clock_fault(netlist: Netlist) -> Fault
     let total = netlist.register_count;
     let mut i: usize = 0;
     while i < total {
-        let register = netlist.registers[i];
-        let clock = register.clock as usize;
+        let cell = netlist.registers[i];
+        let clock = cell.clock as usize;
         if count <= clock {
             return Fault::Refused(15, 0, i as u32);
         }

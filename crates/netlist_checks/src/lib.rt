@@ -1,4 +1,4 @@
-// The checks of one netlist, refusals 7 to 15, 26 to 28 and 30, and a record read and checked.
+// The checks of one netlist, refusals 7 to 15 and 30, and a record read and checked.
 pub mod clocks;
 pub mod connections;
 pub mod names;

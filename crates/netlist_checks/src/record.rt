@@ -1,4 +1,4 @@
-// A record read and checked: the netlist of an accepted record, or the first refusal of 1 to 15, 26 to 28 and 30.
+// A record read and checked: the netlist of an accepted record, or the first refusal of 1 to 15 and 30.
 ghost use Rattle.std.specs.Prelude.{◌≡◌};
 ghost use Rattle.model.specs.Validate.{read_record};
 ghost use Rattle.struo_ir.specs.Designs.{Padded};

@@ -12,17 +12,17 @@ use fields::kinds::REGISTER_OUTPUT;
 use struo_ir::netlist::{Netlist, RegisterCell};
 
 // The data, clock, enable and reset numbers of the register are below the count.
-fn nets_below(register: RegisterCell, count: usize) -> bool
-    ensures { (s : List ℕ) → result ≡ all_below count (register_numbers (decoded_register s register)) }
+fn nets_below(cell: RegisterCell, count: usize) -> bool
+    ensures { (s : List ℕ) → result ≡ all_below count (register_numbers (decoded_register s cell)) }
 {
-    if count <= register.data as usize {
+    if count <= cell.data as usize {
         return false;
     }
-    if count <= register.clock as usize {
+    if count <= cell.clock as usize {
         return false;
     }
-    if signal_below(register.enable, register.enable_signal, count) {
-        return signal_below(register.reset, register.reset_signal, count);
+    if signal_below(cell.enable, cell.enable_signal, count) {
+        return signal_below(cell.reset, cell.reset_signal, count);
     }
     false
 }
@@ -48,11 +48,11 @@ pub fn registers_fault(bytes: &[u8], netlist: Netlist) -> Fault
     let mut outputs = [0u16; 1024];
     let mut i: usize = 0;
     while i < total {
-        let register = netlist.registers[i];
-        if repeated(bytes, &names, i, register.name) {
+        let cell = netlist.registers[i];
+        if repeated(bytes, &names, i, cell.name) {
             return Fault::Refused(9, 0, i as u32);
         }
-        let o = register.output as usize;
+        let o = cell.output as usize;
         if count <= o {
             return Fault::Refused(10, 0, i as u32);
         }
@@ -60,12 +60,12 @@ pub fn registers_fault(bytes: &[u8], netlist: Netlist) -> Fault
         if node.kind != REGISTER_OUTPUT {
             return Fault::Refused(10, 0, i as u32);
         }
-        if taken(&outputs, i, register.output) {
+        if taken(&outputs, i, cell.output) {
             return Fault::Refused(11, 0, i as u32);
         }
-        if nets_below(register, count) {
-            names[i] = register.name;
-            outputs[i] = register.output;
+        if nets_below(cell, count) {
+            names[i] = cell.name;
+            outputs[i] = cell.output;
         } else {
             return Fault::Refused(12, 0, i as u32);
         }

@@ -6,7 +6,7 @@ ghost use Rattle.calls.specs.Faults.{fault_of};
 ghost use Rattle.struo_ir.specs.Decoded.{decoded};
 ghost use Rattle.struo_ir.specs.Designs.{Padded};
 ghost use Rattle.drivers.specs.Drivers.{Drivers};
-ghost use Rattle.netlist_checks.specs.ResetChecks.{late_register};
+ghost use Rattle.netlist_checks.specs.ResetChecks.{late_cell};
 
 use calls::fault::Fault;
 use drivers::register_of;
@@ -14,8 +14,8 @@ use fields::kinds::REGISTER_OUTPUT;
 use struo_ir::netlist::{Netlist, RegisterCell};
 
 // A RegisterOutput i with a driver whose reset is asynchronous and has a signal not below i.
-fn is_late(kind: u8, driver: u16, register: RegisterCell, i: usize) -> bool
-    ensures { result ≡ (eqb kind register_output_kind && late_register driver register i) }
+fn is_late(kind: u8, driver: u16, cell: RegisterCell, i: usize) -> bool
+    ensures { result ≡ (eqb kind register_output_kind && late_cell driver cell i) }
 {
     if kind != REGISTER_OUTPUT {
         return false;
@@ -23,13 +23,13 @@ fn is_late(kind: u8, driver: u16, register: RegisterCell, i: usize) -> bool
     if driver == 0 {
         return false;
     }
-    if register.reset == 0 {
+    if cell.reset == 0 {
         return false;
     }
-    if register.reset_kind != 1 {
+    if cell.reset_kind != 1 {
         return false;
     }
-    i <= register.reset_signal as usize
+    i <= cell.reset_signal as usize
 }
 
 // 14: the lowest RegisterOutput with such a driver, by the table of drivers.
@@ -42,8 +42,8 @@ pub fn reset_fault(netlist: Netlist, table: [u16; 1024]) -> Fault
     while i < count {
         let node = netlist.nodes[i];
         let driver = table[i];
-        let register = netlist.registers[register_of(driver)];
-        if is_late(node.kind, driver, register, i) {
+        let cell = netlist.registers[register_of(driver)];
+        if is_late(node.kind, driver, cell, i) {
             return Fault::Refused(14, 0, i as u32);
         }
         i += 1;

@@ -1,12 +1,11 @@
-// The checks of one netlist in order: nodes, registers, connections, cells, resets, clocks, what reads a clock. The first that refuses is the answer.
+// The checks of one netlist in order: nodes, registers, connections, resets, clocks, what reads a clock. The first that refuses is the answer.
 ghost use Rattle.std.specs.Prelude.{◌≡◌, ℕ, List};
 ghost use Rattle.model.specs.Validate as Validate;
 ghost use Rattle.calls.specs.Faults.{fault_of};
 ghost use Rattle.struo_ir.specs.Decoded.{decoded};
 ghost use Rattle.struo_ir.specs.Designs.{Padded};
-ghost use Rattle.cells.specs.CellTable.{CellTable};
 ghost use Rattle.drivers.specs.Drivers.{Drivers};
-ghost use Rattle.netlist_checks.specs.Chain.{after_nodes, after_registers, after_connections, after_cells, after_results, after_resets};
+ghost use Rattle.netlist_checks.specs.Chain.{after_nodes, after_registers, after_connections, after_resets};
 
 use crate::clocks::clock_fault;
 use crate::connections::connection_fault;
@@ -14,9 +13,6 @@ use crate::nodes::nodes_fault;
 use crate::registers::registers_fault;
 use crate::resets::reset_fault;
 use calls::fault::Fault;
-use cell_checks::connections::result_fault;
-use cell_checks::walk::cells_fault;
-use cells::table::cell_table;
 use clock_reads::clock_read_fault;
 use drivers::drivers;
 use struo_ir::netlist::Netlist;
@@ -35,9 +31,9 @@ fn after_resets(netlist: Netlist) -> Fault
 }
 
 // 14, then the checks after it.
-fn after_results(netlist: Netlist, table: [u16; 1024]) -> Fault
+fn after_connections(netlist: Netlist, table: [u16; 1024]) -> Fault
     requires { Padded netlist × Drivers netlist table }
-    ensures { (s : List ℕ) → fault_of result ≡ after_results (decoded s netlist) }
+    ensures { (s : List ℕ) → fault_of result ≡ after_connections (decoded s netlist) }
 {
     let fault = reset_fault(netlist, table);
     match fault {
@@ -46,41 +42,16 @@ fn after_results(netlist: Netlist, table: [u16; 1024]) -> Fault
     }
 }
 
-// 27 of a node left without a cell, then the checks after it.
-fn after_cells(netlist: Netlist, table: [u16; 1024], bits: [u16; 1024]) -> Fault
-    requires { Padded netlist × (Drivers netlist table × CellTable netlist bits) }
-    ensures { (s : List ℕ) → fault_of result ≡ after_cells (decoded s netlist) }
-{
-    let fault = result_fault(netlist, bits);
-    match fault {
-        Fault::Refused(_, _, _) => fault,
-        Fault::Nothing => after_results(netlist, table),
-    }
-}
-
-// 26 to 28 by cell, then the checks after them; one table of the cells' bits for all.
-fn after_connections(bytes: &[u8], netlist: Netlist, table: [u16; 1024]) -> Fault
-    requires { Padded netlist × Drivers netlist table }
-    ensures { fault_of result ≡ after_connections (decoded bytes.now netlist) }
-{
-    let bits = cell_table(netlist);
-    let fault = cells_fault(bytes, netlist, bits);
-    match fault {
-        Fault::Refused(_, _, _) => fault,
-        Fault::Nothing => after_cells(netlist, table, bits),
-    }
-}
-
-// 13, then the checks after it; one table of drivers for all.
-fn after_registers(bytes: &[u8], netlist: Netlist) -> Fault
+// 13, then the checks after it; one table of drivers for both.
+fn after_registers(netlist: Netlist) -> Fault
     requires { Padded netlist }
-    ensures { fault_of result ≡ after_registers (decoded bytes.now netlist) }
+    ensures { (s : List ℕ) → fault_of result ≡ after_registers (decoded s netlist) }
 {
     let table = drivers(netlist);
     let fault = connection_fault(netlist, table);
     match fault {
         Fault::Refused(_, _, _) => fault,
-        Fault::Nothing => after_connections(bytes, netlist, table),
+        Fault::Nothing => after_connections(netlist, table),
     }
 }
 
@@ -92,11 +63,11 @@ fn after_nodes(bytes: &[u8], netlist: Netlist) -> Fault
     let fault = registers_fault(bytes, netlist);
     match fault {
         Fault::Refused(_, _, _) => fault,
-        Fault::Nothing => after_registers(bytes, netlist),
+        Fault::Nothing => after_registers(netlist),
     }
 }
 
-// The first refusal of 7 to 15, 26 to 28 and 30.
+// The first refusal of 7 to 15 and 30.
 pub fn validate(bytes: &[u8], netlist: Netlist) -> Fault
     requires { Padded netlist }
     ensures { fault_of result ≡ Validate.validate (decoded bytes.now netlist) }

@@ -22,7 +22,7 @@ unfolding input_count output_count inputs outputs
 read-within s n p e =
     let l : Limits (decoded s n) = parse_limits s (decoded s n) (accepted-parsed s (decoded s n) e).0 in
     record {
-      sized = record { nodes = p.nodes_padded.fits; registers = p.registers_padded.fits; cells = p.cells_padded.fits; shaped = p.cells_padded.shaped };
+      sized = record { nodes = p.nodes_padded.fits; registers = p.registers_padded.fits };
       inputs = omega (arith, l.inputs, sort-length (λ (p : Place). p.name) (ports_from input_name 0 (decoded s n).nodes));
       outputs = omega (arith, l.outputs, sort-length (λ (p : Place). p.name) (ports_from output_name 0 (decoded s n).nodes));
     }

@@ -1,4 +1,4 @@
-// Both records of a pair read, gold's refusals 1 to 15, 26 to 28 and 30 before gate's; both designs with their orders by name.
+// Both records of a pair read, gold's refusals 1 to 15 and 30 before gate's; both designs with their orders by name.
 ghost use Rattle.std.specs.Prelude.{◌≡◌};
 ghost use Rattle.model.specs.Validate.{read_record};
 ghost use Rattle.calls.specs.declared.fault.Fault.TheVariants as Fault;
@@ -61,7 +61,7 @@ fn design_of(bytes: &[u8], reading: Reading) -> Design
     }
 }
 
-// Two records of any content and length: the first refusal of 1 to 15, 26 to 28 and 30, gold wholly before gate, or both designs.
+// Two records of any content and length: the first refusal of 1 to 15 and 30, gold wholly before gate, or both designs.
 pub fn read_pair(gold: &[u8], gate: &[u8]) -> PairReading
     ensures { PairRead gold.now gate.now result }
 {

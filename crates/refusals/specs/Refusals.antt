@@ -13,9 +13,9 @@ use Rattle.model.specs.Pair.{interface_fault, initial_fault, proof_nodes, too_sh
 unfoldable pub frames_by : (inputs outputs nodes registers : ℕ) → ℕ
 frames_by inputs outputs nodes registers = inputs + 3 * nodes + 10 * registers + 4 * outputs + 1
 
--- (D + 1) × (F + S) + R, S by itself
-unfoldable pub nodes_by : (inputs outputs nodes registers cells depth : ℕ) → ℕ
-nodes_by inputs outputs nodes registers cells depth = suc depth * (frames_by inputs outputs nodes registers + cells) + registers
+-- (D + 1) × F + R
+unfoldable pub nodes_by : (inputs outputs nodes registers depth : ℕ) → ℕ
+nodes_by inputs outputs nodes registers depth = suc depth * frames_by inputs outputs nodes registers + registers
 
 -- a lent buffer is too short
 unfoldable pub short_by : (inputs outputs depth : ℕ) → Pair.Lent → Bool
@@ -25,10 +25,10 @@ short_by inputs outputs depth lent = ltb lent.trace (suc depth * inputs + output
 unfoldable pub options_fault : Options → Option Refusal
 options_fault o = refuse_if 16 0 0 (eqb o.depth 0) otherwise refuse_if 17 0 0 (ltb 64 o.depth) otherwise refuse_if 36 0 0 (ltb learned_limit o.limit)
 
--- 23 and 24, from the counts and the cells' nodes
-unfoldable pub size_fault : (inputs outputs nodes registers cells depth : ℕ) → Pair.Lent → Option Refusal
-size_fault inputs outputs nodes registers cells depth lent =
-    refuse_if 23 0 0 (ltb 65535 (nodes_by inputs outputs nodes registers cells depth))
+-- 23 and 24, from the counts
+unfoldable pub size_fault : (inputs outputs nodes registers depth : ℕ) → Pair.Lent → Option Refusal
+size_fault inputs outputs nodes registers depth lent =
+    refuse_if 23 0 0 (ltb 65535 (nodes_by inputs outputs nodes registers depth))
     otherwise refuse_if 24 0 0 (short_by inputs outputs depth lent)
 
 -- 22 to 24

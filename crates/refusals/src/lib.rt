@@ -1,6 +1,4 @@
 // The refusals 16, 17, 36 and 18 to 24 of a check, in the specification's order. Nothing lent is written before all of them are tested.
-pub mod sums;
-
 ghost use Rattle.std.specs.Prelude.{◌≡◌, List, ℕ, ◌≤◌, ltb};
 ghost use Rattle.model.specs.Pair.{check_fault};
 ghost use Rattle.calls.specs.Faults.{fault_of};
@@ -10,7 +8,6 @@ ghost use Rattle.struo_ir.specs.Designs.{Sized, Sided};
 ghost use Rattle.struo_ir.specs.Orders.{Formed};
 ghost use Rattle.refusals.specs.Refusals.{frames_by, nodes_by, short_by, options_fault, size_fault, initial_and_size_fault, pair_fault};
 
-use crate::sums::cell_nodes;
 use calls::fault::Fault;
 use calls::options::{LIMIT, Lent, Options};
 use pair::checks::{initial_fault, interface_fault};
@@ -41,19 +38,12 @@ fn nodes_per_cycle(inputs: usize, outputs: usize, nodes: usize, registers: usize
     inputs + 3 * nodes + 10 * registers + 4 * outputs + 1
 }
 
-// 23: (D + 1) × (F + S) + R is over 65,535.
-fn too_large(
-    inputs: usize,
-    outputs: usize,
-    nodes: usize,
-    registers: usize,
-    cells: usize,
-    depth: usize,
-) -> bool
-    requires { (inputs ≤ 128) × (outputs ≤ 128) × (nodes ≤ 2048) × (registers ≤ 256) × (cells ≤ 393216) × (depth ≤ 64) }
-    ensures { result ≡ ltb 65535 (nodes_by inputs outputs nodes registers cells depth) }
+// 23: (D + 1) × F + R is over 65,535.
+fn too_large(inputs: usize, outputs: usize, nodes: usize, registers: usize, depth: usize) -> bool
+    requires { (inputs ≤ 128) × (outputs ≤ 128) × (nodes ≤ 2048) × (registers ≤ 256) × (depth ≤ 64) }
+    ensures { result ≡ ltb 65535 (nodes_by inputs outputs nodes registers depth) }
 {
-    let frame = nodes_per_cycle(inputs, outputs, nodes, registers) + cells;
+    let frame = nodes_per_cycle(inputs, outputs, nodes, registers);
     let frames = depth + 1;
     frames * frame + registers > 65535
 }
@@ -73,20 +63,19 @@ fn too_short(inputs: usize, outputs: usize, depth: usize, lent: Lent) -> bool
     lent.scores < MOST_NODES
 }
 
-// 23 and 24, from the counts and the cells' nodes.
+// 23 and 24, from the counts.
 fn size_fault(
     inputs: usize,
     outputs: usize,
     nodes: usize,
     registers: usize,
-    cells: usize,
     depth: usize,
     lent: Lent,
 ) -> Fault
-    requires { (inputs ≤ 128) × (outputs ≤ 128) × (nodes ≤ 2048) × (registers ≤ 256) × (cells ≤ 393216) × (depth ≤ 64) }
-    ensures { fault_of result ≡ size_fault inputs outputs nodes registers cells depth (lent_of lent) }
+    requires { (inputs ≤ 128) × (outputs ≤ 128) × (nodes ≤ 2048) × (registers ≤ 256) × (depth ≤ 64) }
+    ensures { fault_of result ≡ size_fault inputs outputs nodes registers depth (lent_of lent) }
 {
-    if too_large(inputs, outputs, nodes, registers, cells, depth) {
+    if too_large(inputs, outputs, nodes, registers, depth) {
         return Fault::Refused(23, 0, 0);
     }
     if too_short(inputs, outputs, depth, lent) {
@@ -117,18 +106,7 @@ fn initial_and_size_fault(
             let gate = gate_design.netlist;
             let nodes = gold.node_count + gate.node_count;
             let registers = gold.register_count + gate.register_count;
-            let gold_cells = cell_nodes(gold);
-            let gate_cells = cell_nodes(gate);
-            let cells = gold_cells + gate_cells;
-            size_fault(
-                inputs.count,
-                outputs.count,
-                nodes,
-                registers,
-                cells,
-                depth,
-                lent,
-            )
+            size_fault(inputs.count, outputs.count, nodes, registers, depth, lent)
         }
     }
 }

@@ -92,9 +92,9 @@ stored_at : (old : List Bool) (m k : ℕ) → k < m → bit_at (take m old) k �
 unfolding bit_at
 stored_at old m k h = get_or-take m old k false h
 
-next_of_lem : (s : List ℕ) (values : List Bool) (b : Bool) (register : RegisterCell) → next_bit values b (decoded_register s register) ≡ next_of values b register
+next_of_lem : (s : List ℕ) (values : List Bool) (b : Bool) (cell : RegisterCell) → next_bit values b (decoded_register s cell) ≡ next_of values b cell
 unfolding next_bit decoded_register next_of cell_enable cell_reset
-next_of_lem s values b register = refl
+next_of_lem s values b cell = refl
 
 next_cons : (values st : List Bool) (k : ℕ) (r : Register) (rs : List Register) (front : List Bool) (x : Bool) → next_bit values (bit_at st k) r ≡ x
     → front ++ next_from values st k (r ∷ rs) ≡ front ++ (x ∷ next_from values st (suc k) rs)
@@ -107,11 +107,11 @@ pub next_more : (s : List ℕ) (n : Netlist) (values old new : List Bool) (k : �
     → take k new ++ next_from values (take n.register_count old) k (drop k (decoded s n).registers)
     ≡ take (k + 1) (set new k x) ++ next_from values (take n.register_count old) (k + 1) (drop (k + 1) (decoded s n).registers)
 next_more s n values old new k x h l w e =
-    let register = get_or n.registers k no_register in
+    let cell = get_or n.registers k no_register in
     let st = take n.register_count old in
-    let d : drop k (decoded s n).registers ≡ decoded_register s register ∷ drop (suc k) (decoded s n).registers = register-at s n k h l in
-    let g : next_bit values (bit_at st k) (decoded_register s register) ≡ x = ap (λ (b : Bool). next_bit values b (decoded_register s register)) (stored_at old n.register_count k h) ∙ next_of_lem s values (get_or old k false) register ∙ sym e in
-    ap (λ (rs : List Register). take k new ++ next_from values st k rs) d ∙ next_cons values st k (decoded_register s register) (drop (suc k) (decoded s n).registers) (take k new) x g
+    let d : drop k (decoded s n).registers ≡ decoded_register s cell ∷ drop (suc k) (decoded s n).registers = register-at s n k h l in
+    let g : next_bit values (bit_at st k) (decoded_register s cell) ≡ x = ap (λ (b : Bool). next_bit values b (decoded_register s cell)) (stored_at old n.register_count k h) ∙ next_of_lem s values (get_or old k false) cell ∙ sym e in
+    ap (λ (rs : List Register). take k new ++ next_from values st k rs) d ∙ next_cons values st k (decoded_register s cell) (drop (suc k) (decoded s n).registers) (take k new) x g
     ∙ sym (written-more new k x (next_from values st (suc k) (drop (suc k) (decoded s n).registers)) w)
     ∙ rw add-one
 

@@ -1,6 +1,6 @@
 -- Laws of one cycle of the run on rows by value. Assumes nothing.
 use Rattle.std.specs.Prelude.{ℕ, zero, suc, ◌+◌, ◌-◌, ◌<◌, ◌≤◌, ◌%◌, ◌≡◌, refl, Bool, true, false, cond, not, List, [], ◌∷◌, ◌++◌, map, eqb, length, take, drop, get_or, set, replicate}
-use Rattle.std.proofs.Common.{sym, ap, ap₂, ◌∙◌, arith, add-one, length-take, take-append-drop, drop_of_length-le, drop-cons, take-suc-set, drop-set-lt, get_or-take, length-take-le}
+use Rattle.std.proofs.Common.{sym, ap, ◌∙◌, arith, add-one, length-take, take-append-drop, drop_of_length-le, drop-cons, take-suc-set, drop-set-lt, get_or-take, length-take-le}
 use Rattle.std.proofs.Math.Bool.{xor}
 use Rattle.std.proofs.Math.Option.{Option, none, some}
 use borrow.Author.Tests.{eq-eqb, ne_eqb, eqb-true}
@@ -8,12 +8,11 @@ use Rattle.std.proofs.lemmas.List.{length-map}
 use Rattle.std.proofs.Math.Seq.{append_snoc}
 use Rattle.model.specs.Kinds.{input_kind, by_kind}
 use Rattle.model.specs.Names.{Place}
-use Rattle.model.specs.Cells.{cell_bit}
-use Rattle.model.specs.Netlist.{Reset, Register, Cell}
+use Rattle.model.specs.Netlist.{Reset, Register}
 use Rattle.model.specs.Record.{bit, level_of, node_of}
 use Rattle.model.specs.Validate.{driver}
 use Rattle.model.specs.Replay.{claim_bit}
-use Rattle.model.specs.Run.{InputBits, StoredBits, bit_at, asserted, shown_bit, shown, result_bit, node_value, values_from}
+use Rattle.model.specs.Run.{InputBits, StoredBits, bit_at, asserted, shown_bit, shown, node_value, values_from}
 use Rattle.drivers.specs.Drivers.{driver_by, Drivers}
 use Rattle.struo_ir.specs.Decoded.{name_at, decoded_reset, cell_reset, decoded_node, decoded_register, decoded}
 use Rattle.struo_ir.specs.Nodes.{no_node}
@@ -104,25 +103,25 @@ alike-taken row i m e k =
 
 -- ---- the value of a node
 
-module _ (cs : List Cell) (rs : List Register) (inp : InputBits) (stored : StoredBits) (values : List Bool) (i : ℕ) (s : List ℕ) (n : Node) where
+module _ (rs : List Register) (inp : InputBits) (stored : StoredBits) (values : List Bool) (i : ℕ) (s : List ℕ) (n : Node) where
   -- a decoded node's value goes by its kind byte
-  node_by_lem : node_value cs rs inp stored values i (decoded_node s n) ≡ node_by values n (inp (name_at s n.detail)) (shown values stored (driver rs i)) (result_bit values (cell_bit cs i))
+  node_by_lem : node_value rs inp stored values i (decoded_node s n) ≡ node_by values n (inp (name_at s n.detail)) (shown values stored (driver rs i))
   unfolding decoded_node node_of node_by value_of node_value
-  node_by_lem = by_kind_lem (node_value cs rs inp stored values i) n.kind _ _ _ _ _ _ _ _ _ _ _
+  node_by_lem = by_kind_lem (node_value rs inp stored values i) n.kind _ _ _ _ _ _ _ _ _ _
 
 -- the input bit counts for an Input alone
-input-alike : (values : List Bool) (n : Node) (x y sh re : Bool) → (n.kind ≡ input_kind → x ≡ y) → node_by values n x sh re ≡ node_by values n y sh re
+input-alike : (values : List Bool) (n : Node) (x y sh : Bool) → (n.kind ≡ input_kind → x ≡ y) → node_by values n x sh ≡ node_by values n y sh
 unfolding node_by value_of by_kind
-input-alike values n x y sh re h = go (eqb n.kind input_kind) _ refl
+input-alike values n x y sh h = go (eqb n.kind input_kind) _ refl
   where
     go : (b z : Bool) → eqb n.kind input_kind ≡ b → cond b x z ≡ cond b y z
     go true z e = h (eqb-true n.kind input_kind e)
     go false z e = refl
 
 -- a node reads rows that read alike the same way
-node_alike : (u v : List Bool) (n : Node) (x sh re : Bool) → Alike u v → node_by u n x sh re ≡ node_by v n x sh re
+node_alike : (u v : List Bool) (n : Node) (x sh : Bool) → Alike u v → node_by u n x sh ≡ node_by v n x sh
 unfolding node_by
-node_alike u v n x sh re h = rw (h n.first, h n.second, h n.third)
+node_alike u v n x sh h = rw (h n.first, h n.second, h n.third)
 
 shown-alike : (u v : List Bool) (b : Bool) (r : Option Reset) → Alike u v → shown_bit u b r ≡ shown_bit v b r
 unfolding shown_bit
@@ -132,18 +131,18 @@ shown-alike u v b (some r) h = rw (h r.signal)
 -- ---- the driver of a node
 
 -- what a RegisterOutput shows is what the register that the table names shows
-shown-driver : (values : List Bool) (row : StoredBits) (s : List ℕ) (registers : List RegisterCell) (n k : ℕ) (register : RegisterCell) → k ≤ n → k ≤ 128
-    → register ≡ get_or registers ((k + 127) % 128) no_register → shown_by values row k register ≡ shown values (take n row) (driver_by s registers k)
+shown-driver : (values : List Bool) (row : StoredBits) (s : List ℕ) (registers : List RegisterCell) (n k : ℕ) (cell : RegisterCell) → k ≤ n → k ≤ 128
+    → cell ≡ get_or registers ((k + 127) % 128) no_register → shown_by values row k cell ≡ shown values (take n row) (driver_by s registers k)
 unfolding shown_by shown driver_by cell_reset decoded_register
-shown-driver values row s registers n zero register h l q = refl
-shown-driver values row s registers n (suc k) register h l q =
+shown-driver values row s registers n zero cell h l q = refl
+shown-driver values row s registers n (suc k) cell h l q =
     let e : (suc k + 127) % 128 ≡ k = omega arith in
     rw (q, e, bit_at-taken row n k (omega arith))
 
-shown_by_alike : (u v : List Bool) (row : StoredBits) (k : ℕ) (register : RegisterCell) → Alike u v → shown_by u row k register ≡ shown_by v row k register
+shown_by_alike : (u v : List Bool) (row : StoredBits) (k : ℕ) (cell : RegisterCell) → Alike u v → shown_by u row k cell ≡ shown_by v row k cell
 unfolding shown_by
-shown_by_alike u v row zero register h = refl
-shown_by_alike u v row (suc k) register h = shown-alike u v (bit_at row k) (cell_reset register) h
+shown_by_alike u v row zero cell h = refl
+shown_by_alike u v row (suc k) cell h = shown-alike u v (bit_at row k) (cell_reset cell) h
 
 -- the bit of an Input by its rank
 input-right : (s : List ℕ) (ins : List Place) (claim : List ℕ) (at : ℕ) (nd : Node) (k : ℕ) → k ≡ input_rank s ins nd → nd.kind ≡ input_kind → claim_bit claim (at + k) ≡ row_inputs claim at ins (name_at s nd.detail)
@@ -155,31 +154,28 @@ input-right s ins claim at nd k e h = ap (λ (j : ℕ). claim_bit claim (at + j)
 -- the value that the tables give a node is the one that the run gives it
 pub value-right : (s : List ℕ) (ins : List Place) (n : Netlist) (ranks drivers claim : List ℕ) (at : ℕ) (row : List Bool) (values : List Bool) (i m : ℕ)
     → i < n.node_count → i < 1024 → Ranked s ins n ranks → Drivers n drivers
-    → drop i values ≡ replicate m false → (register : RegisterCell) → register ≡ get_or n.registers ((get_or drivers i 0 + 127) % 128) no_register
-    → (result : Bool) → result ≡ result_bit (take i values) (cell_bit (decoded s n).cells i)
-    → node_by values (get_or n.nodes i no_node) (claim_bit claim (at + get_or ranks i 0)) (shown_by values row (get_or drivers i 0) register) result
-    ≡ node_value (decoded s n).cells (decoded s n).registers (row_inputs claim at ins) (take n.register_count row) (take i values) i (decoded_node s (get_or n.nodes i no_node))
-value-right s ins n ranks drivers claim at row values i m h b r d e register q result x =
+    → drop i values ≡ replicate m false → (cell : RegisterCell) → cell ≡ get_or n.registers ((get_or drivers i 0 + 127) % 128) no_register
+    → node_by values (get_or n.nodes i no_node) (claim_bit claim (at + get_or ranks i 0)) (shown_by values row (get_or drivers i 0) cell)
+    ≡ node_value (decoded s n).registers (row_inputs claim at ins) (take n.register_count row) (take i values) i (decoded_node s (get_or n.nodes i no_node))
+value-right s ins n ranks drivers claim at row values i m h b r d e cell q =
     let nd = get_or n.nodes i no_node in
     let rs = (decoded s n).registers in
     let st = take n.register_count row in
-    let v = take i values in
-    let inp = row_inputs claim at ins (name_at s nd.detail) in
-    let a : Alike values v = alike-taken values i m e in
+    let a : Alike values (take i values) = alike-taken values i m e in
     let k = get_or drivers i 0 in
-    let y : shown_by values row k register ≡ shown v st (driver rs i) =
-    shown_by_alike values v row k register a ∙ shown-driver v row s n.registers n.register_count k register (d.below i) (d.small i) q
-    ∙ ap (shown v st) (d.drives s i b) in
-    node_alike values v nd _ _ _ a
-    ∙ input-alike v nd _ inp _ _ (input-right s ins claim at nd (get_or ranks i 0) (r i h))
-    ∙ ap₂ (node_by v nd inp) y x
-    ∙ sym (node_by_lem (decoded s n).cells rs (row_inputs claim at ins) st v i s nd)
+    let y : shown_by values row k cell ≡ shown (take i values) st (driver rs i) =
+    shown_by_alike values (take i values) row k cell a ∙ shown-driver (take i values) row s n.registers n.register_count k cell (d.below i) (d.small i) q
+    ∙ ap (shown (take i values) st) (d.drives s i b) in
+    node_alike values (take i values) nd _ _ a
+    ∙ input-alike (take i values) nd _ (row_inputs claim at ins (name_at s nd.detail)) _ (input-right s ins claim at nd (get_or ranks i 0) (r i h))
+    ∙ ap (node_by (take i values) nd (row_inputs claim at ins (name_at s nd.detail))) y
+    ∙ sym (node_by_lem rs (row_inputs claim at ins) st (take i values) i s nd)
 
 -- one more value
 pub values-more : (s : List ℕ) (n : Netlist) (inp : InputBits) (stored : StoredBits) (values : List Bool) (i : ℕ) (x : Bool) → i < n.node_count → n.node_count ≤ length n.nodes → i < length values
-    → x ≡ node_value (decoded s n).cells (decoded s n).registers inp stored (take i values) i (decoded_node s (get_or n.nodes i no_node))
-    → values_from (decoded s n).cells (decoded s n).registers inp stored i (drop i (decoded s n).nodes) (take i values)
-    ≡ values_from (decoded s n).cells (decoded s n).registers inp stored (i + 1) (drop (i + 1) (decoded s n).nodes) (take (i + 1) (set values i x))
+    → x ≡ node_value (decoded s n).registers inp stored (take i values) i (decoded_node s (get_or n.nodes i no_node))
+    → values_from (decoded s n).registers inp stored i (drop i (decoded s n).nodes) (take i values)
+    ≡ values_from (decoded s n).registers inp stored (i + 1) (drop (i + 1) (decoded s n).nodes) (take (i + 1) (set values i x))
 unfolding values_from decoded
 values-more s n inp stored values i x h l k e =
     rw (add-one, take-suc-set, drop-map_cons (decoded_node s) n.nodes n.node_count i no_node h l, e)
@@ -193,7 +189,7 @@ padded-row row bits n m h l e b =
 
 -- no node is left
 pub values-done : (s : List ℕ) (n : Netlist) (inp : InputBits) (stored : StoredBits) (values : List Bool) (i : ℕ) → n.node_count ≤ i
-    → values_from (decoded s n).cells (decoded s n).registers inp stored i (drop i (decoded s n).nodes) values ≡ values
+    → values_from (decoded s n).registers inp stored i (drop i (decoded s n).nodes) values ≡ values
 unfolding decoded values_from
 values-done s n inp stored values i h =
     let l : length (map (decoded_node s) (take n.node_count n.nodes)) ≤ i = simp (length-map, length-take) (omega arith) in

@@ -15,14 +15,14 @@ use Rattle.struo_ir.specs.declared.netlist.Netlist.{Netlist}
 unfoldable pub next_of : List Bool → Bool → RegisterCell → Bool
 next_of values stored r = reset_bit values (enabled_bit values stored (bit_at values r.«data») (cell_enable r)) (cell_reset r)
 
--- the value of a node by its kind byte, from its detail, the input bit of its name, what its register and its arithmetic cell show, and the values of its inputs
-unfoldable pub value_of : ℕ → ℕ → Bool → Bool → Bool → Bool → Bool → Bool → Bool
-value_of kind detail input shown result a b c = by_kind kind input (eqb detail 1) shown result (not a) a (a && b) (a || b) (xor a b) (cond a b c) false
+-- the value of a node by its kind byte, from its detail, the input bit of its name, what its register shows, and the values of its inputs
+unfoldable pub value_of : ℕ → ℕ → Bool → Bool → Bool → Bool → Bool → Bool
+value_of kind detail input shown a b c = by_kind kind input (eqb detail 1) shown (not a) a (a && b) (a || b) (xor a b) (cond a b c) false
 
 -- the value of a node from the values of the nodes before it
-unfoldable pub node_by : List Bool → Node → Bool → Bool → Bool → Bool
-node_by values n input shown result =
-    value_of n.kind n.detail input shown result (bit_at values n.first) (bit_at values n.second) (bit_at values n.third)
+unfoldable pub node_by : List Bool → Node → Bool → Bool → Bool
+node_by values n input shown =
+    value_of n.kind n.detail input shown (bit_at values n.first) (bit_at values n.second) (bit_at values n.third)
 
 -- what the register of a number shows, the number given plus one, from its fields; false for 0, where there is no register
 unfoldable pub shown_by : List Bool → StoredBits → ℕ → RegisterCell → Bool

@@ -1,14 +1,6 @@
-// Bits: one of a row, and two joined.
+// Two bits joined.
 ghost use Rattle.std.specs.Prelude.{◌≡◌, ◌&&◌, ◌||◌};
 ghost use Rattle.std.specs.Bool.{xor};
-ghost use Rattle.model.specs.Run.{bit_at};
-
-// The bit at a number; false past the end.
-pub fn bit_at(bits: &[bool], k: usize) -> bool
-    ensures { result ≡ bit_at bits.now k }
-{
-    if k < bits.len() { bits[k] } else { false }
-}
 
 // Both bits are set.
 pub fn both(a: bool, b: bool) -> bool

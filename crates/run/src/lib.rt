@@ -1,5 +1,4 @@
-// The plain run of a decoded design by rows of bits, with the results of arithmetic cells, and the table of ranks that it reads.
-pub mod arithmetic;
+// The plain run of a decoded design by rows of bits, and the table of ranks that it reads.
 pub mod bits;
 pub mod run;
 pub mod tables;

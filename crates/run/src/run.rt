@@ -5,23 +5,25 @@ ghost use Rattle.model.specs.Record.{level_of};
 ghost use Rattle.model.specs.Run.{bit_at, shown_bit, enabled_bit, reset_bit, node_values, next_stored, initial_bits, initial_bit};
 ghost use Rattle.model.specs.Run as Run;
 ghost use Rattle.model.specs.Replay.{claim_bit};
-ghost use Rattle.cells.specs.CellTable.{CellTable};
 ghost use Rattle.drivers.specs.Drivers.{Drivers};
 ghost use Rattle.struo_ir.specs.Decoded.{cell_enable, cell_reset, decoded};
 ghost use Rattle.struo_ir.specs.Designs.{Sized};
 ghost use Rattle.struo_ir.specs.Orders.{Formed, places};
 ghost use Rattle.run.specs.RunTables.{next_of, value_of, node_by, shown_by, Ranked, row_inputs, padded};
 
-use crate::arithmetic::result_by;
-use crate::bits::{bit_at, both, differ, either};
-use cells::table::cell_of;
+use crate::bits::{both, differ, either};
 use drivers::register_of;
-use fields::kinds::{
-    AND, ARITHMETIC_OUTPUT, CONSTANT, INPUT, MUX, NOT, OR, OUTPUT, REGISTER_OUTPUT, XOR,
-};
+use fields::kinds::{AND, CONSTANT, INPUT, MUX, NOT, OR, OUTPUT, REGISTER_OUTPUT, XOR};
 use name_order::names::wide;
 use struo_ir::design::Order;
 use struo_ir::netlist::{Netlist, Node, RegisterCell};
+
+// The bit at a number; false past the end.
+pub fn bit_at(bits: &[bool], k: usize) -> bool
+    ensures { result ≡ bit_at bits.now k }
+{
+    if k < bits.len() { bits[k] } else { false }
+}
 
 // The byte at a place of the claim, as a bit; false past the end.
 pub fn claim_bit(claim: &[u8], k: usize) -> bool
@@ -42,36 +44,36 @@ fn asserted(level: u8, signal: bool) -> bool
 }
 
 // What a register shows: the reset value while an asynchronous reset is asserted, else the stored bit.
-fn shown_bit(values: &[bool], stored: bool, register: RegisterCell) -> bool
-    ensures { result ≡ shown_bit values.now stored (cell_reset register) }
+fn shown_bit(values: &[bool], stored: bool, cell: RegisterCell) -> bool
+    ensures { result ≡ shown_bit values.now stored (cell_reset cell) }
 {
-    if register.reset == 0 {
+    if cell.reset == 0 {
         return stored;
     }
-    if register.reset_kind != 1 {
+    if cell.reset_kind != 1 {
         return stored;
     }
-    if asserted(register.reset, bit_at(values, wide(register.reset_signal))) {
-        register.reset_value == 1
+    if asserted(cell.reset, bit_at(values, wide(cell.reset_signal))) {
+        cell.reset_value == 1
     } else {
         stored
     }
 }
 
 // What the register of a number shows, the number given plus one; false for 0, where there is no register.
-fn shown_by(values: &[bool], stored: &[bool], driver: usize, register: RegisterCell) -> bool
-    ensures { result ≡ shown_by values.now stored.now driver register }
+fn shown_by(values: &[bool], stored: &[bool], driver: usize, cell: RegisterCell) -> bool
+    ensures { result ≡ shown_by values.now stored.now driver cell }
 {
     if driver == 0 {
         false
     } else {
-        shown_bit(values, bit_at(stored, driver - 1), register)
+        shown_bit(values, bit_at(stored, driver - 1), cell)
     }
 }
 
 // The value of a node by its kind byte, from what it reads; false for a byte that is no kind.
-fn value_of(node: Node, input: bool, shown: bool, res: bool, a: bool, b: bool, c: bool) -> bool
-    ensures { result ≡ value_of node.kind node.detail input shown res a b c }
+fn value_of(node: Node, input: bool, shown: bool, a: bool, b: bool, c: bool) -> bool
+    ensures { result ≡ value_of node.kind node.detail input shown a b c }
 {
     let kind = node.kind;
     if kind == INPUT {
@@ -82,9 +84,6 @@ fn value_of(node: Node, input: bool, shown: bool, res: bool, a: bool, b: bool, c
     }
     if kind == REGISTER_OUTPUT {
         return shown;
-    }
-    if kind == ARITHMETIC_OUTPUT {
-        return res;
     }
     if kind == NOT {
         return !a;
@@ -108,13 +107,13 @@ fn value_of(node: Node, input: bool, shown: bool, res: bool, a: bool, b: bool, c
 }
 
 // The value of a node from the values of the nodes before it.
-fn node_value(values: &[bool], node: Node, input: bool, shown: bool, res: bool) -> bool
-    ensures { result ≡ node_by values.now node input shown res }
+fn node_value(values: &[bool], node: Node, input: bool, shown: bool) -> bool
+    ensures { result ≡ node_by values.now node input shown }
 {
     let a = bit_at(values, wide(node.first));
     let b = bit_at(values, wide(node.second));
     let c = bit_at(values, wide(node.third));
-    value_of(node, input, shown, res, a, b, c)
+    value_of(node, input, shown, a, b, c)
 }
 
 // The bit of a rank in the row of the claim from `at` on.
@@ -130,13 +129,12 @@ pub fn node_values(
     netlist: Netlist,
     ranks: [u16; 1024],
     drivers: [u16; 1024],
-    cells: [u16; 1024],
     claim: &[u8],
     at: usize,
     stored: [bool; 128],
 ) -> [bool; 1024]
     requires { (Sized netlist) × (at ≤ 65536) }
-    ensures { (s : List ℕ) (ins : List Place) → Ranked s ins netlist ranks → Drivers netlist drivers → CellTable netlist cells
+    ensures { (s : List ℕ) (ins : List Place) → Ranked s ins netlist ranks → Drivers netlist drivers
         → result ≡ padded 1024 (node_values (decoded s netlist) (row_inputs claim.now at ins) (take netlist.register_count stored)) }
 {
     let count = netlist.node_count;
@@ -146,12 +144,9 @@ pub fn node_values(
         let node = netlist.nodes[i];
         let input = input_bit(claim, at, ranks[i]);
         let driver = drivers[i];
-        let register = netlist.registers[register_of(driver)];
-        let shown = shown_by(&values, &stored, wide(driver), register);
-        let entry = cells[i];
-        let cell = netlist.cells[cell_of(entry)];
-        let result = result_by(&values, entry, cell);
-        let value = node_value(&values, node, input, shown, result);
+        let cell = netlist.registers[register_of(driver)];
+        let shown = shown_by(&values, &stored, wide(driver), cell);
+        let value = node_value(&values, node, input, shown);
         values[i] = value;
         i += 1;
     }
@@ -159,16 +154,13 @@ pub fn node_values(
 }
 
 // The data bit, or the stored bit where an enable exists and is not asserted.
-fn enabled_bit(values: &[bool], stored: bool, next: bool, register: RegisterCell) -> bool
-    ensures { result ≡ enabled_bit values.now stored next (cell_enable register) }
+fn enabled_bit(values: &[bool], stored: bool, next: bool, cell: RegisterCell) -> bool
+    ensures { result ≡ enabled_bit values.now stored next (cell_enable cell) }
 {
-    if register.enable == 0 {
+    if cell.enable == 0 {
         return next;
     }
-    if asserted(
-        register.enable,
-        bit_at(values, wide(register.enable_signal)),
-    ) {
+    if asserted(cell.enable, bit_at(values, wide(cell.enable_signal))) {
         next
     } else {
         stored
@@ -176,26 +168,26 @@ fn enabled_bit(values: &[bool], stored: bool, next: bool, register: RegisterCell
 }
 
 // The reset value where a reset is asserted, else the bit given.
-fn reset_bit(values: &[bool], bit: bool, register: RegisterCell) -> bool
-    ensures { result ≡ reset_bit values.now bit (cell_reset register) }
+fn reset_bit(values: &[bool], bit: bool, cell: RegisterCell) -> bool
+    ensures { result ≡ reset_bit values.now bit (cell_reset cell) }
 {
-    if register.reset == 0 {
+    if cell.reset == 0 {
         return bit;
     }
-    if asserted(register.reset, bit_at(values, wide(register.reset_signal))) {
-        register.reset_value == 1
+    if asserted(cell.reset, bit_at(values, wide(cell.reset_signal))) {
+        cell.reset_value == 1
     } else {
         bit
     }
 }
 
 // The next stored bit of a register: a reset that is asserted comes before the enable.
-fn next_bit(values: &[bool], stored: bool, register: RegisterCell) -> bool
-    ensures { result ≡ next_of values.now stored register }
+fn next_bit(values: &[bool], stored: bool, cell: RegisterCell) -> bool
+    ensures { result ≡ next_of values.now stored cell }
 {
-    let input = bit_at(values, wide(register.data));
-    let enabled = enabled_bit(values, stored, input, register);
-    reset_bit(values, enabled, register)
+    let input = bit_at(values, wide(cell.data));
+    let enabled = enabled_bit(values, stored, input, cell);
+    reset_bit(values, enabled, cell)
 }
 
 // The two rows of stored bits of a side: the old one has the bits before a cycle, the new one is written in it.
@@ -216,8 +208,8 @@ pub fn next_stored(netlist: Netlist, values: &[bool], rows: Rows) -> Rows
     let mut new = rows.new;
     let mut k: usize = 0;
     while k < count {
-        let register = netlist.registers[k];
-        let bit = next_bit(values, old[k], register);
+        let cell = netlist.registers[k];
+        let bit = next_bit(values, old[k], cell);
         new[k] = bit;
         k += 1;
     }
@@ -234,13 +226,13 @@ pub fn exchange(rows: Rows) -> Rows
 }
 
 // The initial bit of a register: its reset value, or false where it has no reset.
-pub fn initial_bit(register: RegisterCell) -> bool
-    ensures { result ≡ initial_bit (cell_reset register) }
+pub fn initial_bit(cell: RegisterCell) -> bool
+    ensures { result ≡ initial_bit (cell_reset cell) }
 {
-    if register.reset == 0 {
+    if cell.reset == 0 {
         false
     } else {
-        register.reset_value == 1
+        cell.reset_value == 1
     }
 }
 
@@ -253,8 +245,8 @@ pub fn initial_row(netlist: Netlist) -> [bool; 128]
     let mut row = [false; 128];
     let mut k: usize = 0;
     while k < count {
-        let register = netlist.registers[k];
-        let bit = initial_bit(register);
+        let cell = netlist.registers[k];
+        let bit = initial_bit(cell);
         row[k] = bit;
         k += 1;
     }

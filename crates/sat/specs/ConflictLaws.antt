@@ -32,9 +32,9 @@ use Rattle.sat.specs.declared.state.Step.{Step}
 use Rattle.sat.specs.declared.state.Step.TheVariants as Steps
 
 -- a result after other words and scores of the search were written
-pub results-after : {limit n : ℕ} {w w₁ : List ℕ} {x x₁ : List Float} {goal goal₁ : Sat.Search} {r : Step} {w' : List ℕ} {x' : List Float}
+pub results_after : {limit n : ℕ} {w w₁ : List ℕ} {x x₁ : List Float} {goal goal₁ : Sat.Search} {r : Step} {w' : List ℕ} {x' : List Float}
     → Unchanged solve_regions w w₁ → Others n x x₁ → goal₁ ≡ goal → Results limit n w₁ x₁ goal₁ r w' x' → Results limit n w x goal r w' x'
-results-after f o e r =
+results_after f o e r =
     record { is = r.is ∙ e; next = r.next; others = others-both _ o r.others; frame = unchanged_both solve_regions f r.frame }
 
 -- the answer does not go on, and nothing is written
@@ -229,4 +229,4 @@ module _ (limit : ℕ) (s : State) (w : List ℕ) (x : List Float) (id : ℕ) (h
         pub conflict_learns : (q : Step) (w' : List ℕ) (x' : List Float)
             → Results limit s.trail.variables w₁ x₁ (Sat.assert_learned s.store.clauses (negate r.pivot.0) (Sat.learn (state_of decayed w₁ x₁) (state_of decayed w₁ x₁).scores (negate r.pivot.0) (column count LEARNED w₁))) q w' x'
             → Results limit s.trail.variables w x (Sat.after_conflict limit S id (Sat.decision_level S.assignment)) q w' x'
-        conflict_learns q w' x' y = results-after frame₁ z.others goal-same y
+        conflict_learns q w' x' y = results_after frame₁ z.others goal-same y

@@ -22,7 +22,7 @@ use Rattle.watches.specs.State.{trail_of, propagation_of, Propagates}
 use Rattle.assignment.specs.ScoreLaws.{others-none}
 use Rattle.sat.specs.DecideLaws.{Decides}
 use Rattle.sat.specs.State.{base_of, state_of, Fits, Marks, Going, Stopped, solve_regions, Results}
-use Rattle.sat.specs.ConflictLaws.{results-after}
+use Rattle.sat.specs.ConflictLaws.{results_after}
 use Rattle.sat.specs.declared.state.Decided.TheVariants as Outcomes
 use Rattle.sat.specs.declared.state.State.{State}
 use Rattle.sat.specs.declared.state.Step.{Step}
@@ -117,7 +117,7 @@ module _ (limit : ℕ) (s : State) (w : List ℕ) (x : List Float) (g : Going li
         → Results limit t.variables w₁ x (Sat.after_conflict limit (state_of (moved s t) w₁ x) id (Sat.decision_level (state_of (moved s t) w₁ x).assignment)) r w' x'
         → Results limit s.trail.variables w x (Sat.step limit S) r w' x'
     step-conflict r w' x' y =
-        results-after frame₁ (others-none s.trail.variables x) conflict-goal
+        results_after frame₁ (others-none s.trail.variables x) conflict-goal
         (subst (λ (n : ℕ). Results limit n w₁ x (Sat.after_conflict limit (state_of (moved s t) w₁ x) id (Sat.decision_level (state_of (moved s t) w₁ x).assignment)) r w' x') (same-variables t trail-conflict) y)
 
   -- ---- a decision

@@ -1,12 +1,11 @@
 -- The transition graph of a record, by its size. Assumes nothing.
-use Rattle.std.specs.Prelude.{◌≡◌, cond, List, [], ℕ, ◌+◌, ◌≤◌, ◌<◌, length, leb}
+use Rattle.std.specs.Prelude.{◌≡◌, cond, List, ℕ, ◌+◌, ◌≤◌, ◌<◌, length, leb}
 use Rattle.std.proofs.Math.Path.{ap, sym}
 use Rattle.std.proofs.Common.{◌∙◌, arith, le-leb}
 use Rattle.std.proofs.lemmas.Bool.{lt-leb}
 use Rattle.words.specs.Layout.{LENT, SMALL, MOST-NODES, GOLD-LHS}
 use Rattle.words.specs.Region.{region}
 use Rattle.model.specs.Aig.{Aig}
-use Rattle.model.specs.Pair.{cell_nodes}
 use Rattle.model.specs.Record.{Read, parsed, refused_record}
 use Rattle.model.specs.Transition.{from_netlist}
 use Rattle.struo_ir.specs.Decoded.{decoded}
@@ -15,12 +14,11 @@ use Rattle.calls.specs.declared.fault.Fault.TheVariants as Fault
 use Rattle.struo_ir.specs.Reading.{read_by}
 use Rattle.struo_ir.specs.declared.netlist.Netlist.{Netlist}
 use Rattle.aig.specs.Graph.{graph_at, length-nodes}
-use Rattle.lowering.specs.Cells.{MOST-CELL-NODES}
 use Rattle.lowering.specs.System.{Lowered}
 
--- how many nodes the transition graph of a reading has; a refused one has none, and neither has one whose cells come to over 60,000 nodes
+-- how many nodes the transition graph of a reading has; a refused one has none
 abbrev pub nodes_read : Read → ℕ
-nodes_read (parsed d) = cond (leb (cell_nodes d.cells) MOST-CELL-NODES) (length (from_netlist d).aig) 0
+nodes_read (parsed d) = length (from_netlist d).aig
 nodes_read (refused_record r) = 0
 
 -- and there is none where the words are too few
@@ -33,10 +31,9 @@ pub record Built (n : Netlist) (count : ℕ) (w : List ℕ) : Type 0 where
   pub small : count ≤ MOST-NODES
   pub graph : (s : List ℕ) → graph_at GOLD-LHS count w ≡ (from_netlist (decoded s n)).aig
 
--- it lies there once it is lowered
-pub built : (n : Netlist) → cell_nodes (decoded [] n).cells ≤ MOST-CELL-NODES → (w₀ : List ℕ) (count : ℕ) (next variable w : List ℕ) → Lowered n GOLD-LHS w₀ count next variable w → Built n count w
-built n few w₀ count next variable w l =
-    record { long = l.ready.long; small = omega (arith, few, l.small); graph = l.graph }
+pub built : (n : Netlist) (w₀ : List ℕ) (count : ℕ) (next variable w : List ℕ) → Lowered n GOLD-LHS w₀ count next variable w → Built n count w
+built n w₀ count next variable w l =
+    record { long = l.ready.long; small = omega (arith, l.small); graph = l.graph }
 
 length_at : (base n : ℕ) (w : List ℕ) → length (graph_at base n w) ≡ n
 unfolding graph_at
@@ -62,15 +59,7 @@ module _ (words : ℕ) (r : Read) where
     unfolding read_by
     read-refused number side place q = sym (ap nodes_read (e ∙ ap (read_by s n) q)) ∙ long_enough h
 
-    module _ (q : f ≡ Fault.Nothing) where
-      accepted : cond (leb (cell_nodes (decoded s n).cells) MOST-CELL-NODES) (length (from_netlist (decoded s n)).aig) 0 ≡ size_read words r
-      unfolding read_by
-      accepted = sym (ap nodes_read (e ∙ ap (read_by s n) q)) ∙ long_enough h
-
-      -- an accepted one with too many cells
-      pub read_many : MOST-CELL-NODES < cell_nodes (decoded s n).cells → 0 ≡ size_read words r
-      read_many l = rw (lt-leb (cell_nodes (decoded s n).cells) MOST-CELL-NODES l) at accepted
-
-      -- an accepted one
-      pub read-accepted : cell_nodes (decoded s n).cells ≤ MOST-CELL-NODES → (count : ℕ) (w : List ℕ) → Built n count w → count ≡ size_read words r
-      read-accepted l count w b = size-built n count w s b ∙ (rw (le-leb (cell_nodes (decoded s n).cells) MOST-CELL-NODES l) at accepted)
+    -- an accepted one
+    pub read-accepted : f ≡ Fault.Nothing → (count : ℕ) (w : List ℕ) → Built n count w → count ≡ size_read words r
+    unfolding read_by
+    read-accepted q count w b = size-built n count w s b ∙ sym (ap nodes_read (e ∙ ap (read_by s n) q)) ∙ long_enough h

@@ -1,26 +1,19 @@
 // The transition graph of a record, built any number of times: for measuring what building costs.
-ghost use Rattle.std.specs.Prelude.{◌≡◌, [], ◌≤◌, length};
+ghost use Rattle.std.specs.Prelude.{◌≡◌, ◌≤◌, length};
 ghost use Rattle.words.specs.Layout.{LENT};
-ghost use Rattle.model.specs.Pair.{cell_nodes};
 ghost use Rattle.model.specs.Validate.{read_record};
-ghost use Rattle.struo_ir.specs.Decoded.{decoded};
 ghost use Rattle.struo_ir.specs.Designs.{Sized};
-ghost use Rattle.lowering.specs.Cells.{MOST-CELL-NODES};
 ghost use Rattle.solver.specs.Built.{Built, size_read};
 
 use calls::fault::Fault;
 use lowering::lowering::from_netlist;
 use netlist_checks::record::read_record;
-use refusals::sums::cell_nodes;
 use struo_ir::netlist::Netlist;
 use words::{GOLD_LHS, LENT};
 
-// How many nodes the arithmetic cells of a design may come to in a cycle.
-const MOST_CELL_NODES: usize = 60000;
-
 // The nodes of a design's transition graph, built once and `again` times more.
 fn build(words: &mut [u32], netlist: Netlist, again: u32) -> u32
-    requires { (LENT ≤ length words.old) × Sized netlist × (cell_nodes (decoded [] netlist).cells ≤ MOST-CELL-NODES) }
+    requires { (LENT ≤ length words.old) × Sized netlist }
     ensures { Built netlist result words.new }
 {
     let first = from_netlist(words, netlist, GOLD_LHS);
@@ -34,9 +27,8 @@ fn build(words: &mut [u32], netlist: Netlist, again: u32) -> u32
     count
 }
 
-// The nodes of a record's transition graph, node 0 among them, built once and `again` times more; 0 where the record is refused, its
-// cells come to over 60,000 nodes, or the words are too few. Nothing is asked of any argument. Left open: `words`, of a refused call too,
-// and that the graph is built so often.
+// The nodes of a record's transition graph, node 0 among them, built once and `again` times more; 0 where the record is refused or the
+// words are too few. Nothing is asked of any argument. Left open: `words`, of a refused call too, and that the graph is built so often.
 #[unsafe(no_mangle)]
 pub extern "C" fn struo_build(record: &[u8], again: u32, words: &mut [u32]) -> u32
     ensures { result ≡ size_read (length words.old) (read_record «record».now) }
@@ -49,11 +41,6 @@ pub extern "C" fn struo_build(record: &[u8], again: u32, words: &mut [u32]) -> u
     let netlist = reading.netlist;
     match fault {
         Fault::Refused(_, _, _) => 0,
-        Fault::Nothing => {
-            if cell_nodes(netlist) > MOST_CELL_NODES {
-                return 0;
-            }
-            build(words, netlist, again)
-        }
+        Fault::Nothing => build(words, netlist, again),
     }
 }

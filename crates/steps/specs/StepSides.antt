@@ -4,7 +4,6 @@ use Rattle.model.specs.Names.{Place}
 use Rattle.model.specs.Netlist.{inputs, outputs, input_count}
 use Rattle.model.specs.Run.{node_values, next_stored, output_bits}
 use Rattle.model.specs.Replay as Replay
-use Rattle.cells.specs.CellTable.{CellTable}
 use Rattle.drivers.specs.Drivers.{Drivers}
 use Rattle.struo_ir.specs.Decoded.{decoded}
 use Rattle.struo_ir.specs.Designs.{Sized}
@@ -24,7 +23,6 @@ pub record SizedSide (side : Side) : Type 0 where
 pub record Prepared (s : List ℕ) (ins : List Place) (side : Side) : Type 0 where
   pub ranked : Ranked s ins side.netlist side.ranks
   pub driven : Drivers side.netlist side.drivers
-  pub celled : CellTable side.netlist side.cells
 
 -- what a cycle of a side gives: outputs by name, and the rows exchanged: the one written has the next stored bits, and past the register count it is as it was
 pub record Cycled (s : List ℕ) (ins : List Place) (side : Side) (claim : List ℕ) (at : ℕ) (rows : Rows) (out : List Bool) (after : Rows) : Type 0 where

@@ -7,7 +7,6 @@ ghost use Rattle.struo_ir.specs.Designs.{Sized};
 ghost use Rattle.struo_ir.specs.Orders.{Formed, places};
 ghost use Rattle.steps.specs.StepSides.{SizedSide, Prepared, Cycled, outcome_of, Paired, Advanced, StepTaken};
 
-use cells::table::cell_table;
 use drivers::drivers;
 use run::bits::{both, differ};
 use run::run::{Rows, claim_bit, exchange, next_stored, node_values, output_row};
@@ -15,13 +14,12 @@ use run::tables::input_ranks;
 use struo_ir::design::{Design, Order};
 use struo_ir::netlist::Netlist;
 
-// A side of a replay, ready to run: its netlist, the rank of each Input among gold's inputs, the register and the cell's bit of each node, and its outputs by name.
+// A side of a replay, ready to run: its netlist, the rank of each Input among gold's inputs, the register of each node, and its outputs by name.
 #[derive(Drop)]
 pub struct Side {
     pub netlist: Netlist,
     pub ranks: [u16; 1024],
     pub drivers: [u16; 1024],
-    pub cells: [u16; 1024],
     pub outputs: Order,
 }
 
@@ -63,13 +61,11 @@ pub fn side_of(bytes: &[u8], design: Design, gold: &[u8], inputs: Order) -> Side
     let netlist = design.netlist;
     let outputs = design.outputs;
     let ranks = input_ranks(bytes, netlist, gold, inputs);
-    let driver_table = drivers(netlist);
-    let cells = cell_table(netlist);
+    let table = drivers(netlist);
     Side {
         netlist,
         ranks,
-        drivers: driver_table,
-        cells,
+        drivers: table,
         outputs,
     }
 }
@@ -81,11 +77,10 @@ fn cycle_of(side: Side, claim: &[u8], at: usize, rows: Rows) -> Cycle
 {
     let netlist = side.netlist;
     let ranks = side.ranks;
-    let driver_table = side.drivers;
-    let cells = side.cells;
+    let table = side.drivers;
     let order = side.outputs;
     let old = rows.old;
-    let values = node_values(netlist, ranks, driver_table, cells, claim, at, old);
+    let values = node_values(netlist, ranks, table, claim, at, old);
     let outputs = output_row(&values, order);
     let written = next_stored(netlist, &values, rows);
     let rows = exchange(written);

@@ -3,11 +3,10 @@ use Rattle.std.specs.Prelude.{ℕ, zero, suc, List, [], ◌∷◌, map, get_or, 
 use Rattle.std.proofs.Math.Option.{Option, none, some}
 use Rattle.model.specs.Names.{Name}
 use Rattle.model.specs.Netlist as Model
-use Rattle.model.specs.Netlist.{Enable, Reset, Register, Cell, Design}
-use Rattle.model.specs.Record.{node_of, edge_of, level_of, bit, operation_of, columns_of}
+use Rattle.model.specs.Netlist.{Enable, Reset, Register, Design}
+use Rattle.model.specs.Record.{node_of, edge_of, level_of, bit}
 use Rattle.struo_ir.specs.declared.netlist.Node.{Node}
 use Rattle.struo_ir.specs.declared.netlist.RegisterCell.{RegisterCell}
-use Rattle.struo_ir.specs.declared.netlist.ArithmeticCell.{ArithmeticCell}
 use Rattle.struo_ir.specs.declared.netlist.Netlist.{Netlist}
 
 -- the name whose length byte stands at a place of the record
@@ -50,33 +49,6 @@ decoded_register s r =
       reset = decoded_reset r.reset r.reset_signal r.reset_kind r.reset_value;
     }
 
--- a carry by its code: none for 0
-unfoldable pub decoded_carry : ℕ → ℕ → Option ℕ
-decoded_carry zero k = none
-decoded_carry (suc c) k = some k
-
--- the left numbers of a cell, lowest bit first
-unfoldable pub left_numbers : ArithmeticCell → List ℕ
-left_numbers c = take c.width c.left
-
--- its right numbers
-unfoldable pub right_numbers : ArithmeticCell → List ℕ
-right_numbers c = take c.width c.right
-
--- its result numbers
-unfoldable pub result_numbers : ArithmeticCell → List ℕ
-result_numbers c = take c.width c.results
-
--- the cell that the fields say
-unfoldable pub decoded_cell : List ℕ → ArithmeticCell → Cell
-decoded_cell s c =
-    record {
-      name = name_at s c.name;
-      operation = operation_of c.kind;
-      columns = columns_of (left_numbers c) (right_numbers c) (result_numbers c);
-      carry = decoded_carry c.carry c.carry_number;
-    }
-
 -- the design that a netlist stands for; its own name begins at offset 5
 unfoldable pub decoded : List ℕ → Netlist → Design
 decoded s n =
@@ -84,5 +56,4 @@ decoded s n =
       name = name_at s 5;
       nodes = map (decoded_node s) (take n.node_count n.nodes);
       registers = map (decoded_register s) (take n.register_count n.registers);
-      cells = map (decoded_cell s) (take n.cell_count n.cells);
     }

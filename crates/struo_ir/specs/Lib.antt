@@ -3,9 +3,6 @@ pub mod Nodes
 pub mod Registers
 pub mod Orders
 pub mod Designs
-pub mod Cells
-pub mod CellLaws
-pub mod CellsLaws
 pub mod Reading
 pub mod ListLaws
 pub mod NodeDecoding

@@ -60,10 +60,10 @@ module _ (s : List ℕ) where
     from_detail false false j e f = from-inputs k 0 [] 0 j (λ ins. name_unused k (name_at s 0) [] 0 ins e)
 
   -- the whole node
-  pub node-decoded : (version : ℕ) (ns : List Model.Node) (i : ℕ) → map_step (decoded_node s) (cell_at version (length (ports_from input_name 0 ns)) (length (ports_from output_name 0 ns)) s i) ≡ node (listed_kind version) ns s i
+  pub node-decoded : (ns : List Model.Node) (i : ℕ) → map_step (decoded_node s) (cell_at (length (ports_from input_name 0 ns)) (length (ports_from output_name 0 ns)) s i) ≡ node listed_kind ns s i
   unfolding cell_at node ◌>>=◌ kind_at room_for room cell_detail detail_at rest
-  node-decoded version ns i =
-      bind_last (decoded_node s) cell_detail (λ k. ◌>>=◌ (name_if (has_name k)) (λ n. ◌>>=◌ (value_if (has_value k)) (rest k n))) s (guard 6 (room ns) (code (listed_kind version)) s i)
+  node-decoded ns i =
+      bind_last (decoded_node s) cell_detail (λ k. ◌>>=◌ (name_if (has_name k)) (λ n. ◌>>=◌ (value_if (has_value k)) (rest k n))) s (guard 6 (room ns) (code listed_kind) s i)
       (λ k j e. from_detail k (has_name k) (has_value k) j refl refl)
 
 -- ---- the ports among the nodes

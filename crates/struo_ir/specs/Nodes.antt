@@ -63,9 +63,9 @@ cell_inputs k d = do
 unfoldable pub cell_detail : ℕ → Reader Node
 cell_detail k = ◌>>=◌ (detail_at k) (cell_inputs k)
 
--- a node in a version, after so many Inputs and Outputs
-unfoldable pub cell_at : ℕ → ℕ → ℕ → Reader Node
-cell_at version inputs outputs = ◌>>=◌ (kind_at version inputs outputs) cell_detail
+-- a node, after so many Inputs and Outputs
+unfoldable pub cell_at : ℕ → ℕ → Reader Node
+cell_at inputs outputs = ◌>>=◌ (kind_at inputs outputs) cell_detail
 
 -- a node of zeros
 abbrev pub no_node : Node
@@ -81,26 +81,26 @@ unfoldable pub count_of : Number → ℕ → ℕ
 count_of (Number.Got n next) count = n
 count_of (Number.Refused n place) count = count
 
--- what was read after the count: the definition's nodes, of kinds that version 2 lists, and zeros past the count
-pub record NodesRead (version : ℕ) (s : List ℕ) (count at : ℕ) (field : Number) (nodes : List Node) : Type 0 where
-  pub step : nodes_of s nodes field ≡ nodes_from (listed_kind version) count [] s at
+-- what was read after the count: the definition's nodes, of listed kinds, and zeros past the count
+pub record NodesRead (s : List ℕ) (count at : ℕ) (field : Number) (nodes : List Node) : Type 0 where
+  pub step : nodes_of s nodes field ≡ nodes_from listed_kind count [] s at
   pub fits : count_of field count ≡ count
   pub size : length nodes ≡ 1024
   pub past : (k : ℕ) → count ≤ k → get_or nodes k no_node ≡ no_node
-  pub listed : (k : ℕ) → listed_kind 2 (get_or nodes k no_node).kind ≡ true
+  pub listed : (k : ℕ) → listed_kind (get_or nodes k no_node).kind ≡ true
 
 -- the definition's nodes among the first i
 unfoldable pub nodes_to : List ℕ → List Node → ℕ → List Model.Node
 nodes_to s nodes i = map (decoded_node s) (take i nodes)
 
 -- the reader's state after i nodes: what is left to read gives the whole, and the ports are counted
-pub record NodesSoFar (version : ℕ) (s : List ℕ) (count at : ℕ) (nodes : List Node) (inputs outputs next i : ℕ) : Type 0 where
+pub record NodesSoFar (s : List ℕ) (count at : ℕ) (nodes : List Node) (inputs outputs next i : ℕ) : Type 0 where
   pub bound : i ≤ count
   pub few_inputs : inputs ≤ i
   pub few_outputs : outputs ≤ i
   pub size : length nodes ≡ 1024
   pub inputs_are : inputs ≡ length (ports_from input_name 0 (nodes_to s nodes i))
   pub outputs_are : outputs ≡ length (ports_from output_name 0 (nodes_to s nodes i))
-  pub rest : nodes_from (listed_kind version) (count - i) (nodes_to s nodes i) s next ≡ nodes_from (listed_kind version) count [] s at
+  pub rest : nodes_from listed_kind (count - i) (nodes_to s nodes i) s next ≡ nodes_from listed_kind count [] s at
   pub past : (k : ℕ) → i ≤ k → get_or nodes k no_node ≡ no_node
-  pub listed : (k : ℕ) → listed_kind 2 (get_or nodes k no_node).kind ≡ true
+  pub listed : (k : ℕ) → listed_kind (get_or nodes k no_node).kind ≡ true

@@ -21,9 +21,9 @@ use Rattle.struo_ir.specs.NodeDecoding.{node-decoded, inputs-more, outputs-more}
 use Rattle.struo_ir.specs.ListLaws.{map-take-set}
 use Rattle.struo_ir.specs.StepLaws.{cell-listed}
 
-pub nodes-start : (version : ℕ) (s : List ℕ) (count at : ℕ) → NodesSoFar version s count at (replicate 1024 no_node) 0 0 at 0
+pub nodes-start : (s : List ℕ) (count at : ℕ) → NodesSoFar s count at (replicate 1024 no_node) 0 0 at 0
 unfolding nodes_to ports_from listed_kind kinds member
-nodes-start version s count at =
+nodes-start s count at =
     record {
       bound = omega arith;
       few_inputs = omega arith;
@@ -36,36 +36,36 @@ nodes-start version s count at =
       listed = λ k. rw (get_or-replicate 1024 k no_node);
     }
 
-module _ (version : ℕ) (s : List ℕ) (count at : ℕ) (nodes : List Node) (inputs outputs next i : ℕ) (so : NodesSoFar version s count at nodes inputs outputs next i) where
+module _ (s : List ℕ) (count at : ℕ) (nodes : List Node) (inputs outputs next i : ℕ) (so : NodesSoFar s count at nodes inputs outputs next i) where
   -- the node that the definition reads here
-  here : map_step (decoded_node s) (cell_at version inputs outputs s next) ≡ node (listed_kind version) (nodes_to s nodes i) s next
-  here = rw (so.inputs_are, so.outputs_are) (node-decoded s version (nodes_to s nodes i) next)
+  here : map_step (decoded_node s) (cell_at inputs outputs s next) ≡ node listed_kind (nodes_to s nodes i) s next
+  here = rw (so.inputs_are, so.outputs_are) (node-decoded s (nodes_to s nodes i) next)
 
-  here-got : (n : Node) (end : ℕ) → got n end ≡ cell_at version inputs outputs s next → got (decoded_node s n) end ≡ node (listed_kind version) (nodes_to s nodes i) s next
+  here-got : (n : Node) (end : ℕ) → got n end ≡ cell_at inputs outputs s next → got (decoded_node s n) end ≡ node listed_kind (nodes_to s nodes i) s next
   unfolding map_step
   here-got n end e = ap (map_step (decoded_node s)) e ∙ here
 
-  here-refused : (r : Refusal) → refused r ≡ cell_at version inputs outputs s next → refused r ≡ node (listed_kind version) (nodes_to s nodes i) s next
+  here-refused : (r : Refusal) → refused r ≡ cell_at inputs outputs s next → refused r ≡ node listed_kind (nodes_to s nodes i) s next
   unfolding map_step
   here-refused r e = ap (map_step (decoded_node s)) e ∙ here
 
   -- one more node
-  module _ (n : Node) (end : ℕ) (l : i < count) (room : count ≤ 1024) (e : got n end ≡ cell_at version inputs outputs s next) where
+  module _ (n : Node) (end : ℕ) (l : i < count) (room : count ≤ 1024) (e : got n end ≡ cell_at inputs outputs s next) where
     stored : nodes_to s (set nodes i n) (i + 1) ≡ nodes_to s nodes i ++ (decoded_node s n ∷ [])
     unfolding nodes_to
     stored = map-take-set (decoded_node s) nodes i n (omega (arith, so.size))
 
-    rest_more : nodes_from (listed_kind version) (count - (i + 1)) (nodes_to s (set nodes i n) (i + 1)) s end ≡ nodes_from (listed_kind version) count [] s at
+    rest_more : nodes_from listed_kind (count - (i + 1)) (nodes_to s (set nodes i n) (i + 1)) s end ≡ nodes_from listed_kind count [] s at
     unfolding nodes_from ◌>>=◌ go_on
     rest_more =
         let d : count - i ≡ suc (count - (i + 1)) = omega arith in
         rw stored
         (goal d ∙ so.rest)
       where
-        goal : count - i ≡ suc (count - (i + 1)) → nodes_from (listed_kind version) (count - (i + 1)) (nodes_to s nodes i ++ (decoded_node s n ∷ [])) s end ≡ nodes_from (listed_kind version) (count - i) (nodes_to s nodes i) s next
+        goal : count - i ≡ suc (count - (i + 1)) → nodes_from listed_kind (count - (i + 1)) (nodes_to s nodes i ++ (decoded_node s n ∷ [])) s end ≡ nodes_from listed_kind (count - i) (nodes_to s nodes i) s next
         goal d = rw (d, ← here-got n end e)
 
-    pub nodes-more : NodesSoFar version s count at (set nodes i n) (inputs + cond (eqb n.kind input_kind) 1 0) (outputs + cond (eqb n.kind output_kind) 1 0) end (i + 1)
+    pub nodes-more : NodesSoFar s count at (set nodes i n) (inputs + cond (eqb n.kind input_kind) 1 0) (outputs + cond (eqb n.kind output_kind) 1 0) end (i + 1)
     nodes-more =
         record {
           bound = omega arith;
@@ -76,11 +76,11 @@ module _ (version : ℕ) (s : List ℕ) (count at : ℕ) (nodes : List Node) (in
           outputs_are = rw (stored, outputs-more s (nodes_to s nodes i) n, ← so.outputs_are);
           rest = rest_more;
           past = λ k h. get_or-set_other nodes i k n no_node (λ f. omega arith) ∙ so.past k (omega arith);
-          listed = λ k. set_any (λ (m : Node). listed_kind 2 m.kind ≡ true) nodes i k n no_node (so.listed k) (cell-listed version inputs outputs s next n end e);
+          listed = λ k. set_any (λ (m : Node). listed_kind m.kind ≡ true) nodes i k n no_node (so.listed k) (cell-listed inputs outputs s next n end e);
         }
 
   -- a node is refused
-  pub nodes-refused : (number place : ℕ) → i < count → refuse number place ≡ cell_at version inputs outputs s next → NodesRead version s count at (Number.Refused number place) nodes
+  pub nodes-refused : (number place : ℕ) → i < count → refuse number place ≡ cell_at inputs outputs s next → NodesRead s count at (Number.Refused number place) nodes
   unfolding nodes_of count_of refuse nodes_from ◌>>=◌ go_on
   nodes-refused number place l e =
       let d : count - i ≡ suc (count - (i + 1)) = omega arith in
@@ -92,11 +92,11 @@ module _ (version : ℕ) (s : List ℕ) (count at : ℕ) (nodes : List Node) (in
         listed = so.listed;
       }
     where
-      goal : count - i ≡ suc (count - (i + 1)) → refuse number place ≡ nodes_from (listed_kind version) (count - i) (nodes_to s nodes i) s next
+      goal : count - i ≡ suc (count - (i + 1)) → refuse number place ≡ nodes_from listed_kind (count - i) (nodes_to s nodes i) s next
       goal d = rw (d, ← here-refused _ e)
 
   -- all nodes are read
-  pub nodes-done : count ≤ i → NodesRead version s count at (Number.Got count next) nodes
+  pub nodes-done : count ≤ i → NodesRead s count at (Number.Got count next) nodes
   unfolding nodes_of count_of nodes_from pure nodes_to
   nodes-done l =
       let d : count - i ≡ 0 = omega arith in
@@ -109,5 +109,5 @@ module _ (version : ℕ) (s : List ℕ) (count at : ℕ) (nodes : List Node) (in
         listed = so.listed;
       }
     where
-      goal : count - i ≡ 0 → got (nodes_to s nodes i) next ≡ nodes_from (listed_kind version) (count - i) (nodes_to s nodes i) s next
+      goal : count - i ≡ 0 → got (nodes_to s nodes i) next ≡ nodes_from listed_kind (count - i) (nodes_to s nodes i) s next
       goal d = rw d

@@ -1,7 +1,7 @@
 -- What a reading stands for: the definition's outcome, the design by its decoded netlist. Definitions only.
-use Rattle.std.specs.Prelude.{ℕ, ◌≡◌, List, leb}
+use Rattle.std.specs.Prelude.{ℕ, ◌≡◌, List}
 use Rattle.model.specs.Netlist as Model
-use Rattle.model.specs.Record.{Reader, pure, ◌>>=◌, nodes, registers, register, cells_if, listed_kind, end, Read, parsed, refused_record, finished}
+use Rattle.model.specs.Record.{Reader, pure, ◌>>=◌, nodes, registers, register, listed_kind, end, Read, parsed, refused_record, finished}
 use Rattle.struo_ir.specs.declared.netlist.Node.{Node}
 use Rattle.struo_ir.specs.declared.netlist.RegisterCell.{RegisterCell}
 use Rattle.struo_ir.specs.declared.netlist.Netlist.{Netlist}
@@ -30,8 +30,8 @@ unfoldable pub read_of : List ℕ → Reading → Read
 read_of s r = read_by s r.netlist r.fault
 
 -- the nodes with their count, as the definition reads them
-pub record NodesCounted (version : ℕ) (s : List ℕ) (at : ℕ) (field : Number) (cells : List Node) : Type 0 where
-  pub step : nodes_of s cells field ≡ nodes (listed_kind version) s at
+pub record NodesCounted (s : List ℕ) (at : ℕ) (field : Number) (cells : List Node) : Type 0 where
+  pub step : nodes_of s cells field ≡ nodes listed_kind s at
   pub whole : (n next : ℕ) → field ≡ Number.Got n next → NodesPadded n cells
 
 -- the registers with their count, as the definition reads them
@@ -39,24 +39,16 @@ pub record RegistersCounted (s : List ℕ) (at : ℕ) (field : Number) (cells : 
   pub step : registers_of s cells field ≡ registers register s at
   pub whole : (n next : ℕ) → field ≡ Number.Got n next → RegistersPadded n cells
 
--- the design after its nodes, registers and cells
-unfoldable pub design_of : List ℕ → List Model.Node → List Model.Register → List Model.Cell → Reader Model.Design
-design_of s ns rs cs = do
+-- the design after its nodes and registers
+unfoldable pub design_of : List ℕ → List Model.Node → List Model.Register → Reader Model.Design
+design_of s ns rs = do
   e ← end
-  pure (record { name = name_at s 5; nodes = ns; registers = rs; cells = cs })
-
--- the cells of a version, and the design
-unfoldable pub cells_then : ℕ → List ℕ → List Model.Node → List Model.Register → Reader Model.Design
-cells_then version s ns rs = ◌>>=◌ (cells_if (leb 2 version)) (design_of s ns rs)
-
--- the outcome from the cells on
-unfoldable pub from_cells : ℕ → List Model.Node → List Model.Register → List ℕ → ℕ → Read
-from_cells version ns rs s i = finished (cells_then version s ns rs s i)
+  pure (record { name = name_at s 5; nodes = ns; registers = rs })
 
 -- the outcome from the registers on
-unfoldable pub from_registers : ℕ → List Model.Node → List ℕ → ℕ → Read
-from_registers version ns s i = finished (◌>>=◌ (registers register) (cells_then version s ns) s i)
+unfoldable pub from_registers : List Model.Node → List ℕ → ℕ → Read
+from_registers ns s i = finished (◌>>=◌ (registers register) (design_of s ns) s i)
 
 -- the outcome from the nodes on
-unfoldable pub from_nodes : ℕ → List ℕ → ℕ → Read
-from_nodes version s i = finished (◌>>=◌ (nodes (listed_kind version)) (λ ns. ◌>>=◌ (registers register) (cells_then version s ns)) s i)
+unfoldable pub from_nodes : List ℕ → ℕ → Read
+from_nodes s i = finished (◌>>=◌ (nodes listed_kind) (λ ns. ◌>>=◌ (registers register) (design_of s ns)) s i)

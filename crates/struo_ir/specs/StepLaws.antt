@@ -2,9 +2,7 @@
 use Rattle.std.specs.Prelude.{ℕ, suc, ◌+◌, ◌≡◌, refl, Bool, true, false, cond, List, length, get_or, take, drop, leb}
 use Rattle.std.proofs.Common.{sym, ap, ◌∙◌, subst, add-one}
 use Rattle.model.specs.Names.{Name}
-use Rattle.model.specs.Record.{Step, got, refused, Reader, refuse, pure, go_on, ◌>>=◌, tested, guard, bytes, byte, code, kinds, listed_kind, name_bytes, name}
-use Rattle.model.specs.Lists.{member}
-use Rattle.laws.specs.Record.Kinds.{of_listed}
+use Rattle.model.specs.Record.{Step, got, refused, Reader, refuse, pure, go_on, ◌>>=◌, tested, guard, bytes, byte, code, listed_kind, name_bytes, name}
 use Rattle.laws.specs.Record.Reader.{got≢refused}
 use Rattle.struo_ir.specs.declared.netlist.Node.{Node}
 use Rattle.fields.specs.Fields.{map_step, room_for, kind_at}
@@ -42,7 +40,7 @@ unfolding refuse
 cond-true true a b i j k n h = refl
 cond-true false a b i j k n h = absurd (got≢refused h)
 
-pub tested-true : {A : Type 0} (n : ℕ) (ok : A → Bool) (i : ℕ) (b : A) (k : ℕ) (r : Step A) → tested n ok i r ≡ got b k → ok b ≡ true
+tested-true : {A : Type 0} (n : ℕ) (ok : A → Bool) (i : ℕ) (b : A) (k : ℕ) (r : Step A) → tested n ok i r ≡ got b k → ok b ≡ true
 unfolding tested
 tested-true n ok i b k (got a j) h = subst (λ (x : _). ok x ≡ true) (cond-got (ok a) a b i j k n h).0 (cond-true (ok a) a b i j k n h)
 tested-true n ok i b k (refused r) h = absurd (got≢refused h)
@@ -63,26 +61,20 @@ name-at s i n k h =
     rw (a.0, c) b.0
 
 -- a kind that was read is listed
-pub kind_listed : (version inputs outputs : ℕ) (s : List ℕ) (i k j : ℕ) → got k j ≡ kind_at version inputs outputs s i → listed_kind version k ≡ true
+pub kind_listed : (inputs outputs : ℕ) (s : List ℕ) (i k j : ℕ) → got k j ≡ kind_at inputs outputs s i → listed_kind k ≡ true
 unfolding kind_at code guard
-kind_listed version inputs outputs s i k j h = tested-true 4 (listed_kind version) i k j (byte s i) (tested-got 6 (room_for inputs outputs) i k j _ (sym h))
-
--- every version's kinds are kinds of version 2
-listed-last : (version k : ℕ) → listed_kind version k ≡ true → listed_kind 2 k ≡ true
-unfolding listed_kind kinds member
-listed-last version k h =
-    of_listed (λ (j : ℕ). listed_kind 2 j ≡ true) version k h (refl, (refl, (refl, (refl, (refl, (refl, (refl, (refl, (refl, tt))))))))) refl
+kind_listed inputs outputs s i k j h = tested-true 4 listed_kind i k j (byte s i) (tested-got 6 (room_for inputs outputs) i k j _ (sym h))
 
 -- a node that was read has a listed kind
-pub cell-listed : (version inputs outputs : ℕ) (s : List ℕ) (i : ℕ) (n : Node) (end : ℕ) → got n end ≡ cell_at version inputs outputs s i → listed_kind 2 n.kind ≡ true
+pub cell-listed : (inputs outputs : ℕ) (s : List ℕ) (i : ℕ) (n : Node) (end : ℕ) → got n end ≡ cell_at inputs outputs s i → listed_kind n.kind ≡ true
 unfolding cell_at cell_detail cell_inputs ◌>>=◌ pure cell_of
-cell-listed version inputs outputs s i n end h =
+cell-listed inputs outputs s i n end h =
     let u = go_on-got cell_detail s n end _ (sym h) in
     let v = go_on-got (cell_inputs u.0) s n end _ u.1.1.1 in
     let w = go_on-got (λ ins. pure (cell_of u.0 v.0 ins)) s n end _ v.1.1.1 in
     let e : cell_of u.0 v.0 w.0 ≡ n = ended w.1.1.1 in
     let f : u.0 ≡ n.kind = ap (λ (x : Node). x.kind) e in
-    subst (λ (k : ℕ). listed_kind 2 k ≡ true) f (listed-last version u.0 (kind_listed version inputs outputs s i u.0 u.1.0 (sym u.1.1.0)))
+    subst (λ (k : ℕ). listed_kind k ≡ true) f (kind_listed inputs outputs s i u.0 u.1.0 (sym u.1.1.0))
   where
     ended : {a b : Node} {j k : ℕ} → got a j ≡ got b k → a ≡ b
     ended g = cc

@@ -1,11 +1,11 @@
--- The nodes, registers and cells of a decoded netlist, one after the other and by number. Assumes nothing.
+-- The nodes and registers of a decoded netlist, one after the other and by number. Assumes nothing.
 use Rattle.std.specs.Prelude.{ℕ, ◌+◌, ◌≤◌, ◌<◌, ◌≡◌, List, [], ◌∷◌, length, get_or, drop}
 use Rattle.std.proofs.Math.Option.{none, some}
 use Rattle.std.proofs.Common.{arith}
 use Rattle.std.proofs.Math.ListN.{get_elem?}
 use Rattle.struo_ir.specs.declared.netlist.Netlist.{Netlist}
-use Rattle.struo_ir.specs.Decoded.{decoded_node, decoded_register, decoded_cell, decoded}
-use Rattle.struo_ir.specs.Designs.{Sized, no_cell, Padded}
+use Rattle.struo_ir.specs.Decoded.{decoded_node, decoded_register, decoded}
+use Rattle.struo_ir.specs.Designs.{Padded}
 use Rattle.struo_ir.specs.Nodes.{no_node}
 use Rattle.struo_ir.specs.Registers.{no_register}
 use Rattle.struo_ir.specs.ListLaws.{drop-map-take, drop-map-all, element, no_element, length-map-take}
@@ -20,21 +20,6 @@ module _ (s : List ℕ) (netlist : Netlist) where
   pub no-registers : (i : ℕ) → netlist.register_count ≤ i → drop i (decoded s netlist).registers ≡ []
   unfolding decoded
   no-registers i h = drop-map-all (decoded_register s) netlist.registers netlist.register_count i h
-
-  -- no cell is left
-  pub no_cells : (i : ℕ) → netlist.cell_count ≤ i → drop i (decoded s netlist).cells ≡ []
-  unfolding decoded
-  no_cells i h = drop-map-all (decoded_cell s) netlist.cells netlist.cell_count i h
-
-  -- the cell in hand, and those after it
-  pub cell-here : length netlist.cells ≡ 64 → Sized netlist → (i : ℕ) → i < netlist.cell_count → drop i (decoded s netlist).cells ≡ decoded_cell s (get_or netlist.cells i no_cell) ∷ drop (i + 1) (decoded s netlist).cells
-  unfolding decoded
-  cell-here size sized i l = drop-map-take (decoded_cell s) netlist.cells netlist.cell_count i no_cell l (omega (arith, size, sized.cells))
-
-  -- the cell of a number
-  pub cell_at : length netlist.cells ≡ 64 → Sized netlist → (i : ℕ) → i < netlist.cell_count → get_elem? (decoded s netlist).cells i ≡ some (decoded_cell s (get_or netlist.cells i no_cell))
-  unfolding decoded
-  cell_at size sized i l = element (decoded_cell s) netlist.cells netlist.cell_count i no_cell l (omega (arith, size, sized.cells))
 
   -- a number past the nodes
   pub no-node : (i : ℕ) → netlist.node_count ≤ i → get_elem? (decoded s netlist).nodes i ≡ none

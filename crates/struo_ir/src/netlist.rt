@@ -54,40 +54,11 @@ impl RegisterCell {
     };
 }
 
-// An arithmetic cell: the place of its name's length byte, its codes as the record has them, and its numbers, lowest bit first. What it lacks is 0.
-#[derive(Drop)]
-pub struct ArithmeticCell {
-    pub name: u16,
-    pub kind: u8,
-    pub width: u8,
-    pub left: [u16; 16],
-    pub right: [u16; 16],
-    pub carry: u8,
-    pub carry_number: u16,
-    pub results: [u16; 16],
-}
-
-impl ArithmeticCell {
-    // A cell of zeros, as every place past the cell count holds.
-    pub const NONE: ArithmeticCell = ArithmeticCell {
-        name: 0,
-        kind: 0,
-        width: 0,
-        left: [0u16; 16],
-        right: [0u16; 16],
-        carry: 0,
-        carry_number: 0,
-        results: [0u16; 16],
-    };
-}
-
-// A design: its nodes, registers and cells by number, with zeros past the counts.
+// A design: its nodes and registers by number, with zeros past the counts.
 #[derive(Drop)]
 pub struct Netlist {
     pub node_count: usize,
     pub register_count: usize,
-    pub cell_count: usize,
     pub nodes: [Node; 1024],
     pub registers: [RegisterCell; 128],
-    pub cells: [ArithmeticCell; 64],
 }

@@ -93,12 +93,12 @@ fn read_detail(bytes: &[u8], kind: u8, at: u32) -> Number
     Number::Got(0, at)
 }
 
-// A node in a version, after so many Inputs and Outputs.
-fn read_node(bytes: &[u8], version: u8, inputs: u32, outputs: u32, at: u32) -> NodeField
+// A node, after so many Inputs and Outputs.
+fn read_node(bytes: &[u8], inputs: u32, outputs: u32, at: u32) -> NodeField
     requires { length bytes.now ≤ 65535 }
-    ensures { node_step result ≡ cell_at version inputs outputs bytes.now at }
+    ensures { node_step result ≡ cell_at inputs outputs bytes.now at }
 {
-    match read_kind(bytes, version, inputs, outputs, at) {
+    match read_kind(bytes, inputs, outputs, at) {
         Code::Refused(number, place) => NodeField::Refused(number, place),
         Code::Got(kind, next) => match read_detail(bytes, kind, next) {
             Number::Refused(number, place) => NodeField::Refused(number, place),
@@ -127,10 +127,10 @@ fn counted(count: u32, kind: u8, port: u8) -> u32
     if kind == port { count + 1 } else { count }
 }
 
-// The nodes of a version after their count.
-pub fn read_nodes(bytes: &[u8], version: u8, count: u16, at: u32) -> Nodes
+// The nodes after their count.
+pub fn read_nodes(bytes: &[u8], count: u16, at: u32) -> Nodes
     requires { (length bytes.now ≤ 65535) × (count ≤ 1024) }
-    ensures { NodesRead version bytes.now count at result.field result.nodes }
+    ensures { NodesRead bytes.now count at result.field result.nodes }
 {
     let none = Node::NONE;
     let mut nodes = [none; 1024];
@@ -139,7 +139,7 @@ pub fn read_nodes(bytes: &[u8], version: u8, count: u16, at: u32) -> Nodes
     let mut next = at;
     let mut i: u16 = 0;
     while i < count {
-        match read_node(bytes, version, inputs, outputs, next) {
+        match read_node(bytes, inputs, outputs, next) {
             NodeField::Refused(number, place) => {
                 return Nodes {
                     field: Number::Refused(number, place),

@@ -2,13 +2,11 @@
 ghost use Rattle.std.specs.Prelude.{◌≡◌, ◌+◌, ◌≤◌, length, take, drop};
 ghost use Rattle.model.specs.Record as Record;
 ghost use Rattle.calls.specs.declared.fault.Fault.TheVariants as Fault;
-ghost use Rattle.struo_ir.specs.Designs.{Padded, NodesPadded, RegistersPadded};
-ghost use Rattle.struo_ir.specs.Reading.{read_of, NodesCounted, RegistersCounted, from_cells, from_registers};
+ghost use Rattle.struo_ir.specs.Designs.{Padded, NodesPadded};
+ghost use Rattle.struo_ir.specs.Reading.{read_of, NodesCounted, RegistersCounted, from_registers};
 ghost use Rattle.struo_ir.specs.Nodes.{nodes_to};
-ghost use Rattle.struo_ir.specs.Registers.{registers_to};
 
-use crate::cells::read_version_cells;
-use crate::netlist::{ArithmeticCell, Netlist, Node, RegisterCell};
+use crate::netlist::{Netlist, Node, RegisterCell};
 use crate::nodes::{Nodes, read_nodes};
 use crate::registers::{Registers, read_registers};
 use calls::fault::Fault;
@@ -29,15 +27,11 @@ pub fn refusal(number: u8, place: u32) -> Reading
     let register = RegisterCell::NONE;
     let nodes = [node; 1024];
     let registers = [register; 128];
-    let cell = ArithmeticCell::NONE;
-    let cells = [cell; 64];
     let netlist = Netlist {
         node_count: 0,
         register_count: 0,
-        cell_count: 0,
         nodes,
         registers,
-        cells,
     };
     Reading {
         fault: Fault::Refused(number as u32, 0, place),
@@ -46,15 +40,15 @@ pub fn refusal(number: u8, place: u32) -> Reading
 }
 
 // The node count, at most 1,024, and the nodes.
-fn read_counted_nodes(bytes: &[u8], version: u8, at: u32) -> Nodes
+fn read_counted_nodes(bytes: &[u8], at: u32) -> Nodes
     requires { length bytes.now ≤ 65535 }
-    ensures { NodesCounted version bytes.now at result.field result.nodes }
+    ensures { NodesCounted bytes.now at result.field result.nodes }
 {
     match read_number(bytes, at) {
         Number::Refused(number, place) => no_nodes(number, place),
         Number::Got(count, next) => {
             if count <= 1024 {
-                read_nodes(bytes, version, count, next)
+                read_nodes(bytes, count, next)
             } else {
                 no_nodes(6, at)
             }
@@ -103,25 +97,17 @@ fn no_registers(number: u8, place: u32) -> Registers
     }
 }
 
-// The cells of a version after the registers; no byte may be left.
-fn read_end(
-    bytes: &[u8],
-    version: u8,
-    nodes: [Node; 1024],
-    count: u16,
-    registers: [RegisterCell; 128],
-    register_count: u16,
-    at: u32,
-) -> Reading
-    requires { (length bytes.now ≤ 65535) × NodesPadded count nodes × RegistersPadded register_count registers }
-    ensures { (read_of bytes.now result ≡ from_cells version (nodes_to bytes.now nodes count) (registers_to bytes.now registers register_count) bytes.now at) × Padded result.netlist }
+// The registers after the nodes; no byte may be left.
+fn read_rest(bytes: &[u8], nodes: [Node; 1024], count: u16, at: u32) -> Reading
+    requires { (length bytes.now ≤ 65535) × NodesPadded count nodes }
+    ensures { (read_of bytes.now result ≡ from_registers (nodes_to bytes.now nodes count) bytes.now at) × Padded result.netlist }
 {
-    let read = read_version_cells(bytes, version, at);
+    let read = read_counted_registers(bytes, at);
     let field = read.field;
-    let cells = read.cells;
+    let registers = read.registers;
     match field {
         Number::Refused(number, place) => refusal(number, place),
-        Number::Got(cell_count, end) => {
+        Number::Got(register_count, end) => {
             if (end as usize) < bytes.len() {
                 refusal(3, end)
             } else {
@@ -130,10 +116,8 @@ fn read_end(
                     netlist: Netlist {
                         node_count: count as usize,
                         register_count: register_count as usize,
-                        cell_count: cell_count as usize,
                         nodes,
                         registers,
-                        cells,
                     },
                 }
             }
@@ -141,42 +125,20 @@ fn read_end(
     }
 }
 
-// The registers after the nodes, and what follows them.
-fn read_rest(bytes: &[u8], version: u8, nodes: [Node; 1024], count: u16, at: u32) -> Reading
-    requires { (length bytes.now ≤ 65535) × NodesPadded count nodes }
-    ensures { (read_of bytes.now result ≡ from_registers version (nodes_to bytes.now nodes count) bytes.now at) × Padded result.netlist }
-{
-    let read = read_counted_registers(bytes, at);
-    let field = read.field;
-    let registers = read.registers;
-    match field {
-        Number::Refused(number, place) => refusal(number, place),
-        Number::Got(register_count, end) => read_end(
-            bytes,
-            version,
-            nodes,
-            count,
-            registers,
-            register_count,
-            end,
-        ),
-    }
-}
-
-// A version after the length: design name, nodes, registers, and from version 2 on cells.
-fn read_fields(bytes: &[u8], version: u8) -> Reading
+// Version 1 after the length: design name, nodes, registers.
+fn read_fields(bytes: &[u8]) -> Reading
     requires { length bytes.now ≤ 65535 }
-    ensures { (read_of bytes.now result ≡ Record.finished (Record.fields version bytes.now 5)) × Padded result.netlist }
+    ensures { (read_of bytes.now result ≡ Record.finished (Record.version1 bytes.now 5)) × Padded result.netlist }
 {
     match read_name(bytes, 5) {
         Number::Refused(number, place) => refusal(number, place),
         Number::Got(_, next) => {
-            let read = read_counted_nodes(bytes, version, next);
+            let read = read_counted_nodes(bytes, next);
             let field = read.field;
             let nodes = read.nodes;
             match field {
                 Number::Refused(number, place) => refusal(number, place),
-                Number::Got(count, after) => read_rest(bytes, version, nodes, count, after),
+                Number::Got(count, after) => read_rest(bytes, nodes, count, after),
             }
         }
     }
@@ -216,14 +178,11 @@ pub fn read_design(bytes: &[u8]) -> Reading
     ensures { (read_of bytes.now result ≡ Record.parse bytes.now) × Padded result.netlist }
 {
     if length_fits(bytes) {
-        let version = bytes[0];
-        if version < 1 {
-            return refusal(2, 0);
+        if bytes[0] == 1 {
+            read_fields(bytes)
+        } else {
+            refusal(2, 0)
         }
-        if 2 < version {
-            return refusal(2, 0);
-        }
-        read_fields(bytes, version)
     } else {
         refusal(1, 0)
     }

@@ -100,10 +100,10 @@ same_first f g x [] (b ∷ ys) k h = absurd h
 same_first f g x (a ∷ xs) [] k h = absurd h
 same_first f g x (a ∷ xs) (b ∷ ys) k h = rw (h.0, same_first f g x xs ys (suc k) h.1)
 
-first-entries : (x : Name) (t : List ℕ) (es : List Entry) (k : ℕ) → first_from (λ (p : Place). same_name x p.name) k (map (place_of t) es) ≡ first_from (named x t) k es
+first_entries : (x : Name) (t : List ℕ) (es : List Entry) (k : ℕ) → first_from (λ (p : Place). same_name x p.name) k (map (place_of t) es) ≡ first_from (named x t) k es
 unfolding first_from place_of entry_name
-first-entries x t [] k = refl
-first-entries x t (e ∷ es) k = rw (first-entries x t es (suc k))
+first_entries x t [] k = refl
+first_entries x t (e ∷ es) k = rw (first_entries x t es (suc k))
 
 module _ (s : List ℕ) (a : Design) (t : List ℕ) (b : Design) (ms : List ℕ) (fa : Orders.Formed a.registers) (fb : Orders.Formed b.registers)
     (g : Gathered (λ (e : Entry). match_at s e.name t b.registers) a.registers.entries a.registers.count ms) where
@@ -115,7 +115,7 @@ module _ (s : List ℕ) (a : Design) (t : List ℕ) (b : Design) (ms : List ℕ)
       let one : (x : Name) → match_of (position (λ (y : StateBit). same_name x y.name) ts) ≡ first_from (named x t) 0 (held b.registers) =
       λ x. sym (first_match (λ (y : StateBit). same_name x y.name) ts)
       ∙ same_first (λ (y : StateBit). y.name) (λ (z : Place). z.name) x ts (registers_by_name (decoded t b.netlist)) 0 (states-named (decoded t b.netlist) w.valid.valid)
-      ∙ ap (first_from (λ (z : Place). same_name x z.name) 0) (sym w.ordered.registers_are) ∙ first-entries x t (held b.registers) 0 in
+      ∙ ap (first_from (λ (z : Place). same_name x z.name) 0) (sym w.ordered.registers_are) ∙ first_entries x t (held b.registers) 0 in
       gathered_list F s a.registers ms fa g ∙ ap (map F) v.ordered.registers_are
       ∙ sym
       (pairs-map (λ (y : StateBit) (z : Place). y.name ≡ z.name) (match_in ts) F (λ y z e. one y.name ∙ ap (λ (x : Name). first_from (named x t) 0 (held b.registers)) e)

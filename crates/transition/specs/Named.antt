@@ -1,10 +1,9 @@
 -- What is asked and promised of a transition system whose ports and states are in byte order of names. Definitions only.
-use Rattle.std.specs.Prelude.{◌≡◌, Bool, ◌&&◌, List, [], map, ℕ, ◌+◌, ◌≤◌, length}
+use Rattle.std.specs.Prelude.{◌≡◌, Bool, ◌&&◌, List, map, ℕ, ◌+◌, ◌≤◌, length}
 use Rattle.words.specs.Layout.{LENT, GOLD-LHS, GATE-LHS}
 use Rattle.model.specs.Literal.{constant_literal}
 use Rattle.model.specs.Run.{by_name}
 use Rattle.model.specs.Transition.{from_netlist}
-use Rattle.model.specs.Pair.{cell_nodes}
 use Rattle.struo_ir.specs.Decoded.{decoded}
 use Rattle.struo_ir.specs.Orders as Orders
 use Rattle.struo_ir.specs.Designs.{Sized, Sided}
@@ -13,7 +12,6 @@ use Rattle.aig.specs.Made.{Ready, Same}
 use Rattle.lowering.specs.Firsts.{firsts, Below}
 use Rattle.transition.specs.Side.{Formed, Stands}
 use Rattle.transition.specs.Namesakes.{namesakes}
-use Rattle.lowering.specs.Cells.{MOST-CELL-NODES}
 use Rattle.lowering.specs.Walk.{elsewhere}
 use Rattle.lowering.specs.System.{off_side}
 use Rattle.transition.specs.declared.system.System.{System}
@@ -24,7 +22,6 @@ pub record Lowerable (d : Design) (base : ℕ) (w : List ℕ) : Type 0 where
   pub low : GOLD-LHS ≤ base
   pub high : base ≤ GATE-LHS
   pub sized : Sized d.netlist
-  pub cells : cell_nodes (decoded [] d.netlist).cells ≤ MOST-CELL-NODES
   pub formed_inputs : Orders.Formed d.inputs
   pub formed_outputs : Orders.Formed d.outputs
   pub formed_registers : Orders.Formed d.registers
@@ -36,7 +33,7 @@ pub record SystemMade (d : Design) (base : ℕ) (w : List ℕ) (y : System) (w' 
   pub output_count_lem : y.output_count ≡ d.outputs.count
   pub state_count : y.state_count ≡ d.registers.count
   pub ready : Ready y.count w'
-  pub small : y.count ≤ 4865 + cell_nodes (decoded [] d.netlist).cells
+  pub small : y.count ≤ 4865
   pub same : Same (λ b. elsewhere b && off_side base b) w w'
   pub formed : (s : List ℕ) → Sided s d → Formed y w'
   pub stands : (s : List ℕ) → Sided s d → Stands y w' (from_netlist (decoded s d.netlist))

@@ -108,13 +108,13 @@ module _ (d : Design) (base : ℕ) (w₀ w : List ℕ) (count : ℕ) (next varia
   module _ (s : List ℕ) (o : Sided s d) where
     -- the literals of ports beside their places
     ports_are : (order : Order) (ps : List Port) (qs : List Place) (xs : List ℕ) → Orders.Formed order → places s order ≡ qs
-        → Gathered (by_number (net_literal (region NETS w))) order.entries order.count xs → Pairwise (PortAt (decoded s d.netlist).cells (decoded s d.netlist).registers (walk_of s d.netlist).nets) ps qs
+        → Gathered (by_number (net_literal (region NETS w))) order.entries order.count xs → Pairwise (PortAt (decoded s d.netlist).registers (walk_of s d.netlist).nets) ps qs
         → firsts order.count xs ≡ map (λ (p : Port). p.literal) ps
     unfolding place_of
     ports_are order ps qs xs f e g h =
         let F : Place → ℕ = λ p. net_literal (region NETS w) p.number in
         gathered_list F s order xs f g ∙ ap (map F) e
-        ∙ sym (pairs-map (PortAt (decoded s d.netlist).cells (decoded s d.netlist).registers (walk_of s d.netlist).nets) (λ (p : Port). p.literal) F (λ p q r. r.literal ∙ sym ((low.nets s).at q.number)) ps qs h)
+        ∙ sym (pairs-map (PortAt (decoded s d.netlist).registers (walk_of s d.netlist).nets) (λ (p : Port). p.literal) F (λ p q r. r.literal ∙ sym ((low.nets s).at q.number)) ps qs h)
 
     states_are : (f : StateBit → ℕ) (xs ys : List ℕ) → f no_state ≡ 0 → take d.netlist.register_count xs ≡ map f (registers_lowered s d.netlist).states
         → Gathered (by_number (net_literal xs)) d.registers.entries d.registers.count ys → firsts d.registers.count ys ≡ map f (from_netlist (decoded s d.netlist)).states
@@ -143,7 +143,7 @@ module _ (d : Design) (base : ℕ) (w₀ w : List ℕ) (count : ℕ) (next varia
           low = rw base_is ask.low;
           high = rw base_is ask.high;
           some = rw count-is low.ready.positive;
-          small = omega (arith, low.small, ask.cells, count-is);
+          small = omega (arith, low.small, count-is);
           ordered = rw (base_is, count-is) low.ordered;
           input_count_lem = omega (arith, input_count_lem, ask.formed_inputs.fits);
           output_count_lem = omega (arith, output_count_lem, ask.formed_outputs.fits);

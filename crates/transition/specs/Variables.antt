@@ -7,15 +7,13 @@ use mathlib.Core.List.{List, [], ◌∷◌, ◌++◌, map, append_assoc}
 use Rattle.std.proofs.Math.Option.{Option, none, some}
 use Rattle.std.proofs.Math.ListN.{length}
 use Rattle.std.proofs.lemmas.Bool.{eqb-false}
-use Rattle.model.specs.Literal.{Literal, FALSE, TRUE, node, negate}
-use Rattle.model.specs.Adder.{cons_word, add_bit, add_words, and_word, shift_up, add_rows, lower_arithmetic}
-use Rattle.model.specs.Cells.{CellBit, cell_bit}
+use Rattle.model.specs.Literal.{Literal, FALSE, node, negate}
 use Rattle.model.specs.Lists.{snoc, member, lookup, position}
 use Rattle.model.specs.Aig.{Node, Constant, Variable, And, Aig, Built, new, variable, is_and, and_found, and_shortcut, and_unless, and, or, xor_shortcut, xor_unless, xor, mux_shortcut, mux_unless, mux}
 use Rattle.model.specs.Netlist as Netlist
-use Rattle.model.specs.Netlist.{Enable, Reset, Register, Arithmetic, Add, Subtract, Multiply, Cell, Design, is_register_output}
+use Rattle.model.specs.Netlist.{Enable, Reset, Register, Design, is_register_output}
 use Rattle.model.specs.Validate.{driver, refuse_if, undriven, validate, nodes_fault, registers_fault, connection_fault}
-use Rattle.model.specs.Transition.{Port, StateBit, Lowering, Registers, net_literal, with_net, with_literal, lower_input, lower_output, reset_mux, shown, lower_shown, lower_register_output, lowered_cell, lower_cell, with_cell, lower_bit, lower_result, lower_node, lower_nodes, no_nodes, enabled, reset_next, with_state, lower_register, lower_registers, system_of, with_registers, from_netlist}
+use Rattle.model.specs.Transition.{Port, StateBit, Lowering, Registers, net_literal, with_net, with_literal, lower_input, lower_output, reset_mux, shown, lower_shown, lower_register_output, lower_node, lower_nodes, no_nodes, enabled, reset_next, with_state, lower_register, lower_registers, system_of, with_registers, from_netlist}
 use Rattle.facts.specs.Bools.{or-true}
 use Rattle.laws.specs.Graph.Values.{node-even}
 use Rattle.facts.specs.Lists.{In, All, in_cases}
@@ -92,45 +90,6 @@ mux-none : (g : Aig) (c a b : Literal) → variables_of (mux g c a b).aig ≡ va
 unfolding mux
 mux-none g c a b = mux_unless_none g c a b (mux_shortcut c a b)
 
-bit-none : (g : Aig) (l r c : Literal) → variables_of (add_bit g l r c).aig ≡ variables_of g
-unfolding add_bit
-bit-none g l r c = or-none _ _ _ ∙ or-none _ _ _ ∙ and_none _ r c ∙ and_none _ l c ∙ and_none _ l r ∙ xor-none _ _ c ∙ xor-none g l r
-
-add_none : (g : Aig) (c : Literal) (ls rs : List Literal) → variables_of (add_words g c ls rs).aig ≡ variables_of g
-unfolding add_words cons_word
-add_none g c [] rs = refl
-add_none g c (l ∷ ls) [] = refl
-add_none g c (l ∷ ls) (r ∷ rs) = add_none (add_bit g l r c).aig (add_bit g l r c).carry ls rs ∙ bit-none g l r c
-
-and_word_none : (g : Aig) (b : Literal) (ls : List Literal) → variables_of (and_word g b ls).aig ≡ variables_of g
-unfolding and_word cons_word
-and_word_none g b [] = refl
-and_word_none g b (l ∷ ls) = and_word_none (and g l b).aig b ls ∙ and_none g l b
-
-rows_none : (g : Aig) (ps ls rs : List Literal) → variables_of (add_rows g ps ls rs).aig ≡ variables_of g
-unfolding add_rows
-rows_none g ps ls [] = refl
-rows_none g ps ls (r ∷ rs) =
-    let row = and_word g r ls in
-    let m = add_words row.aig FALSE ps row.literals in
-    rows_none m.aig m.literals (shift_up FALSE ls) rs ∙ add_none row.aig FALSE ps row.literals ∙ and_word_none g r ls
-
-arithmetic_none : (g : Aig) (o : Arithmetic) (ls rs : List Literal) (c : Literal) → variables_of (lower_arithmetic g o ls rs c).aig ≡ variables_of g
-unfolding lower_arithmetic
-arithmetic_none g Add ls rs c = add_none g c ls rs
-arithmetic_none g Subtract ls rs c = add_none g TRUE ls (map negate rs)
-arithmetic_none g Multiply ls rs c = rows_none g (map (λ l. FALSE) ls) ls rs
-
--- an arithmetic output makes none
-result-none : (w : Lowering) (o : Option CellBit) → variables_of (lower_result w o).aig ≡ variables_of w.aig
-unfolding lower_result with_literal with_net
-result-none w none = refl
-result-none w (some b) = go (lowered_cell w.lowered b.number)
-  where
-    go : (o : Option (List Literal)) → variables_of (lower_bit w b o).aig ≡ variables_of w.aig
-    go (some ls) = unfold lower_bit with_literal with_net in refl
-    go none = unfold lower_bit with_cell lower_cell in arithmetic_none w.aig b.cell.operation _ _ _
-
 shown-none : (g : Aig) (nets : List Literal) (o : Option Reset) (state : Literal) → variables_of (shown g nets o state).aig ≡ variables_of g
 unfolding shown reset_mux
 shown-none g nets none state = refl
@@ -163,26 +122,26 @@ registers-none w g (r ∷ rs) =
 
 -- ---- the walk
 
-module _ (cs : List Cell) (rs : List Register) (F : Lowering) where
+module _ (rs : List Register) (F : Lowering) where
   -- v is an input's variable, or that of a net that a register drives
   abbrev Claimed : ℕ → Type 0
   Claimed v = In v (map (λ (p : Port). node p.literal) F.inputs) ⊎ ((net : ℕ) × In net (map (λ (r : Register). r.output) rs) × (v ≡ node (lookup FALSE F.state_variables net)))
 
-  input_claimed : (w : Lowering) (net : ℕ) (n : List ℕ) (ns : List Netlist.Node) → F ≡ lower_nodes cs rs (lower_node cs rs w net (Netlist.Input n)) (suc net) ns → Claimed (length w.aig)
+  input_claimed : (w : Lowering) (net : ℕ) (n : List ℕ) (ns : List Netlist.Node) → F ≡ lower_nodes rs (lower_node rs w net (Netlist.Input n)) (suc net) ns → Claimed (length w.aig)
   unfolding lower_node lower_input variable snoc
   input_claimed w net n ns q =
       let k = length w.aig in
-      let r = walk-keeps cs rs (lower_node cs rs w net (Netlist.Input n)) (suc net) ns in
+      let r = walk-keeps rs (lower_node rs w net (Netlist.Input n)) (suc net) ns in
       let one : List Port = record { name = n; literal = k * 2 } ∷ [] in
       let x : F.inputs ≡ (w.inputs ++ one) ++ r.more-inputs = ap (λ (l : Lowering). l.inputs) q ∙ r.inputs in
       inl (rw x (in_map-left (λ (p : Port). node p.literal) k (w.inputs ++ one) r.more-inputs (in_map-right (λ (p : Port). node p.literal) k w.inputs one (inl (sym (node-even k))))))
 
-  register_claimed : (w : Lowering) (net : ℕ) (ns : List Netlist.Node) → F ≡ lower_nodes cs rs (lower_node cs rs w net Netlist.RegisterOutput) (suc net) ns
-      → All (KeyBelow cs rs net) w.state_variables → undriven (driver rs net) ≡ false → Claimed (length w.aig)
+  register_claimed : (w : Lowering) (net : ℕ) (ns : List Netlist.Node) → F ≡ lower_nodes rs (lower_node rs w net Netlist.RegisterOutput) (suc net) ns
+      → All (KeyBelow rs net) w.state_variables → undriven (driver rs net) ≡ false → Claimed (length w.aig)
   unfolding lower_node lower_register_output lower_shown variable snoc driver
   register_claimed w net ns q h u =
       let k = length w.aig in
-      let r = walk-keeps cs rs (lower_node cs rs w net Netlist.RegisterOutput) (suc net) ns in
+      let r = walk-keeps rs (lower_node rs w net Netlist.RegisterOutput) (suc net) ns in
       let x : F.state_variables ≡ w.state_variables ++ ((net, k * 2) ∷ r.more-states)
       = ap (λ (l : Lowering). l.state_variables) q ∙ r.states ∙ append_assoc w.state_variables ((net, k * 2) ∷ []) r.more-states in
       let y : lookup FALSE F.state_variables net ≡ k * 2
@@ -199,15 +158,14 @@ module _ (cs : List Cell) (rs : List Register) (F : Lowering) where
       go (inr (inl e)) = rw e c
       go (inr (inr j)) = absurd j
 
-  node_claims : (w : Lowering) (net : ℕ) (n : Netlist.Node) (ns : List Netlist.Node) → F ≡ lower_nodes cs rs (lower_node cs rs w net n) (suc net) ns
-      → All (KeyBelow cs rs net) w.state_variables → (is_register_output n && undriven (driver rs net)) ≡ false
-      → ((u : ℕ) → In u (variables_of w.aig) → Claimed u) → (u : ℕ) → In u (variables_of (lower_node cs rs w net n).aig) → Claimed u
+  node_claims : (w : Lowering) (net : ℕ) (n : Netlist.Node) (ns : List Netlist.Node) → F ≡ lower_nodes rs (lower_node rs w net n) (suc net) ns
+      → All (KeyBelow rs net) w.state_variables → (is_register_output n && undriven (driver rs net)) ≡ false
+      → ((u : ℕ) → In u (variables_of w.aig) → Claimed u) → (u : ℕ) → In u (variables_of (lower_node rs w net n).aig) → Claimed u
   unfolding is_register_output lower_node lower_input lower_output lower_shown lower_register_output with_net with_literal variable
   node_claims w net (Netlist.Input n) ns q k c h u i = one_more w.aig (length w.aig) h (input_claimed w net n ns q) u (rw more-variable at i)
   node_claims w net (Netlist.Constant b) ns q k c h u i = h u i
   node_claims w net Netlist.RegisterOutput ns q k c h u i =
       one_more w.aig (length w.aig) h (register_claimed w net ns q k c) u (rw (shown-none, more-variable) at i)
-  node_claims w net Netlist.ArithmeticOutput ns q k c h u i = h u (rw (result-none w (cell_bit cs net)) at i)
   node_claims w net (Netlist.Not a) ns q k c h u i = h u i
   node_claims w net (Netlist.Output n a) ns q k c h u i = h u i
   node_claims w net (Netlist.And a b) ns q k c h u i = h u (rw and_none at i)
@@ -215,13 +173,13 @@ module _ (cs : List Cell) (rs : List Register) (F : Lowering) where
   node_claims w net (Netlist.Xor a b) ns q k c h u i = h u (rw xor-none at i)
   node_claims w net (Netlist.Mux d a b) ns q k c h u i = h u (rw mux-none at i)
 
-  walk_claims : (w : Lowering) (net : ℕ) (ns : List Netlist.Node) → F ≡ lower_nodes cs rs w net ns → All (KeyBelow cs rs net) w.state_variables → connection_fault rs net ns ≡ none
+  walk_claims : (w : Lowering) (net : ℕ) (ns : List Netlist.Node) → F ≡ lower_nodes rs w net ns → All (KeyBelow rs net) w.state_variables → connection_fault rs net ns ≡ none
       → ((u : ℕ) → In u (variables_of w.aig) → Claimed u) → (u : ℕ) → In u (variables_of F.aig) → Claimed u
   unfolding connection_fault lower_nodes
   walk_claims w net [] q k c h u i = h u (rw q at i)
   walk_claims w net (n ∷ ns) q k c h u i =
       let o = otherwise_none (refuse_if 13 0 net _) _ c in
-      walk_claims (lower_node cs rs w net n) (suc net) ns q (node-keys cs rs w net n k) o.1 (node_claims w net n ns q k (refuse_if-none 13 0 net _ o.0) h) u i
+      walk_claims (lower_node rs w net n) (suc net) ns q (node-keys rs w net n k) o.1 (node_claims w net n ns q k (refuse_if-none 13 0 net _ o.0) h) u i
 
 -- ---- the whole
 
@@ -237,12 +195,12 @@ module _ (d : Design) (v : validate d ≡ none) where
   pub variables-listed : (u : ℕ) → In u (variables_of (from_netlist d).aig)
       → In u (map (λ (p : Port). node p.literal) (from_netlist d).inputs) ⊎ In u (map (λ (b : StateBit). b.variable) (from_netlist d).states)
   unfolding from_netlist with_registers system_of no_nodes new variables_of
-  variables-listed u i = go (walk_claims d.cells d.registers walk no_nodes 0 d.nodes refl tt connected (λ k j. absurd j) u (rw registers-none at i))
+  variables-listed u i = go (walk_claims d.registers walk no_nodes 0 d.nodes refl tt connected (λ k j. absurd j) u (rw registers-none at i))
     where
       walk : Lowering
-      walk = lower_nodes d.cells d.registers no_nodes 0 d.nodes
+      walk = lower_nodes d.registers no_nodes 0 d.nodes
 
-      go : Claimed d.cells d.registers walk u → In u (map (λ (p : Port). node p.literal) (from_netlist d).inputs) ⊎ In u (map (λ (b : StateBit). b.variable) (from_netlist d).states)
+      go : Claimed d.registers walk u → In u (map (λ (p : Port). node p.literal) (from_netlist d).inputs) ⊎ In u (map (λ (b : StateBit). b.variable) (from_netlist d).states)
       go (inl j) = inl (in_sort (λ (p : Port). p.name) (λ (p : Port). node p.literal) u walk.inputs j)
       go (inr (net, j, e)) =
           inr (rw e (in_sort (λ (b : StateBit). b.name) (λ (b : StateBit). b.variable) _ (lower_registers walk (record { aig = walk.aig; states = [] }) d.registers).states

@@ -10,7 +10,7 @@
 --     40 to 55   2621440 to 3670015      WATCHED, of CELLS words
 --     56 to 71   3670016 to 4718591      LINKS, of CELLS words
 --     72 to 83   4718592 to 5505023      LITERALS, of POOL words
---     84         5505024 to 5509119      NETS, STATES, RESULTS and LOWERED, of TABLE words each; the rest of the unit is free
+--     84         5505024 to 5507071      NETS and STATES, of TABLE words each; the rest of the unit is free
 --     85 to 127  5570560 to 8388607      free: 43 units
 --
 -- In FRAMES the rows of cycles 0 to 64 take 33,280 words; the other 32,256 are free, and so are words 385 to 511 of each row.
@@ -43,7 +43,7 @@ CELLS = 1048576
 abbrev pub POOL : ℕ
 POOL = 786432
 
--- a word for each net of a design, and for each bit of its cells
+-- a word for each net of a design
 abbrev pub TABLE : ℕ
 TABLE = 1024
 
@@ -198,11 +198,3 @@ NETS = 5505024
 -- the variable of each register output, by its net, while a design is lowered
 abbrev pub STATES : ℕ
 STATES = 5506048
-
--- the literal of each bit of a cell's result, 16 words a cell, while a design is lowered
-abbrev pub RESULTS : ℕ
-RESULTS = 5507072
-
--- 1 for each cell that was lowered, while a design is lowered
-abbrev pub LOWERED : ℕ
-LOWERED = 5508096

@@ -10,7 +10,7 @@
 //     40 to 55   2621440 to 3670015      WATCHED
 //     56 to 71   3670016 to 4718591      LINKS
 //     72 to 83   4718592 to 5505023      LITERALS
-//     84         5505024 to 5509119      the 4 regions of 1,024 words, from NETS to LOWERED; the rest of the unit is free
+//     84         5505024 to 5507071      the 2 regions of 1,024 words, NETS and STATES; the rest of the unit is free
 //     85 to 127  5570560 to 8388607      free: 43 units
 //
 // In FRAMES the rows of cycles 0 to 64 take 33,280 words; the other 32,256 are free, and so are words 385 to 511 of each row.
@@ -113,7 +113,7 @@ pub const LITERALS: usize = 4718592;
 
 pub const POOL: usize = 786432;
 
-// ---- regions of 1,024 words, one for each net of a design, or for each bit of its cells
+// ---- regions of 1,024 words, one for each net of a design
 
 pub const TABLE: usize = 1024;
 
@@ -121,10 +121,6 @@ pub const TABLE: usize = 1024;
 pub const NETS: usize = 5505024;
 // While a design is lowered, the variable of each register output by its net.
 pub const STATES: usize = 5506048;
-// While a design is lowered, the literal of each bit of a cell's result, 16 words a cell.
-pub const RESULTS: usize = 5507072;
-// While a design is lowered, 1 for each cell that was lowered.
-pub const LOWERED: usize = 5508096;
 
 // A word as an index.
 pub fn wide(x: u32) -> usize

@@ -23,7 +23,7 @@ small c = omega (arith, c.before.loop.invariant.bound, c.before.before.requires.
 
 -- the array has 128 registers
 long : (c : tie.Start invariant-loop decreases-loop) → length c.args.t1.registers ≡ 128
-long c = simp length-map at c.well-formed.0.1.1.1.1.1.1.0.1.0.1
+long c = simp length-map at c.well-formed.0.1.1.1.1.1.0.1.0.1
 
 loop-again : tie.Need-loop-preserved invariant-loop decreases-loop
 loop-again c =

@@ -1,5 +1,4 @@
--- `fields::is_listed` meets its contract: the ten kinds one by one. Assumes nothing.
-use mathlib.Core.Path.{◌∙◌}
+-- `fields::is_listed` meets its contract: the nine kinds one by one. Assumes nothing.
 use borrow.Author.Tests.{ne_eqb}
 use Rattle.model.specs.Record.{listed_kind, kinds}
 use Rattle.model.specs.Lists.{member}
@@ -41,12 +40,8 @@ returns-8 c = rw c.if8.true
 
 returns-9 : tie.Need-returns-9
 unfolding listed_kind kinds member
-returns-9 c = rw c.if9.true
-
-returns-10 : tie.Need-returns-10
-unfolding listed_kind kinds member
-returns-10 c =
-    rw (ne_eqb _ 3 c.before.before.before.before.before.before.before.before.if1.false, ne_eqb _ 0 c.before.before.before.before.before.before.before.if2.false, ne_eqb _ 1 c.before.before.before.before.before.before.if3.false, ne_eqb _ 2 c.before.before.before.before.before.if4.false, ne_eqb _ 16 c.before.before.before.before.if5.false, ne_eqb _ 17 c.before.before.before.if6.false, ne_eqb _ 32 c.before.before.if7.false, ne_eqb _ 33 c.before.if8.false, ne_eqb _ 34 c.if9.false) (or-false _ ∙ or-false _)
+returns-9 c =
+    rw (ne_eqb _ 0 c.before.before.before.before.before.before.before.if1.false, ne_eqb _ 1 c.before.before.before.before.before.before.if2.false, ne_eqb _ 2 c.before.before.before.before.before.if3.false, ne_eqb _ 16 c.before.before.before.before.if4.false, ne_eqb _ 17 c.before.before.before.if5.false, ne_eqb _ 32 c.before.before.if6.false, ne_eqb _ 33 c.before.if7.false, ne_eqb _ 34 c.if8.false) (or-false _)
 
 pub is-listed-spec : {M : Type 1} → statement M
-is-listed-spec = tie.close (tie.spec returns returns-2 returns-3 returns-4 returns-5 returns-6 returns-7 returns-8 returns-9 returns-10)
+is-listed-spec = tie.close (tie.spec returns returns-2 returns-3 returns-4 returns-5 returns-6 returns-7 returns-8 returns-9)

@@ -10,7 +10,7 @@ use Rattle.std.proofs.Math.ListN.{get_elem?}
 use Rattle.std.proofs.lemmas.Bool.{not-false}
 use Rattle.model.specs.Answers.{Refusal, accepted}
 use Rattle.model.specs.Names.{Name, same_name, member_name, names_of}
-use Rattle.model.specs.Netlist.{Node, Input, Constant, RegisterOutput, ArithmeticOutput, Not, Output, And, Or, Xor, Mux, Register, Design, input_name, place_if, ports_from, inputs, input_count}
+use Rattle.model.specs.Netlist.{Node, Input, Constant, RegisterOutput, Not, Output, And, Or, Xor, Mux, Register, Design, input_name, place_if, ports_from, inputs, input_count}
 use Rattle.model.specs.Validate.{refuse_if, is_input, is_input_at, clocks, validate}
 use Rattle.model.specs.Run.{InputBits, StoredBits, InputSequence, node_values, output_bits, initial_bits}
 use Rattle.model.specs.Pair.{inputs_differ, Domain, name_or, name_at, domain_of, same_domain, domain, domains_differ, interface_fault, bad_claim, replay_fault, Lent, both, read_pair, check_refusal}
@@ -67,7 +67,6 @@ input-at none h = absurd (contrary refl h)
 input-at (some (Input y)) h = refl
 input-at (some (Constant b)) h = absurd (contrary refl h)
 input-at (some RegisterOutput) h = absurd (contrary refl h)
-input-at (some ArithmeticOutput) h = absurd (contrary refl h)
 input-at (some (Not a)) h = absurd (contrary refl h)
 input-at (some (Output y a)) h = absurd (contrary refl h)
 input-at (some (And a b)) h = absurd (contrary refl h)

@@ -11,7 +11,7 @@ use Rattle.model.specs.Netlist.{Design}
 use Rattle.model.specs.Validate.{◌otherwise◌, refuse_if}
 use Rattle.model.specs.Pair.{Lent, interface_fault, initial_fault, check_fault, bad_claim, replay_fault, ReadPair, both, refused_pair, read_pair, check_refusal_of, check_refusal}
 use Rattle.model.specs.Check.{CheckOutcome, check_pair, check_read, check_outcome, lent_of}
-use Rattle.laws.specs.Terms.{of_fields, of_cells, of_clock, OfReplay, of_record, of_pair, of_claim, replay_refusal_of, replay_refusal, AsOutcome, fault_to, outcome_to_of, outcome_to, OverLimit}
+use Rattle.laws.specs.Terms.{of_fields, of_clock, OfReplay, of_record, of_pair, of_claim, replay_refusal_of, replay_refusal, AsOutcome, fault_to, outcome_to_of, outcome_to, OverLimit}
 use Rattle.laws.specs.Induction.Pairs.{Accepted, accepted-pair, limit_small}
 use Rattle.laws.specs.Check.Refusals.{replay-within}
 use Rattle.laws.specs.Check.Learned.{call_as_outcome}
@@ -25,7 +25,6 @@ limited = record { number = 36; side = 0; place = 0 }
 -- which is no refusal of a replay
 replay_other : (r : Refusal) → OfReplay r → r ≡ limited → ⊥
 replay_other r (of_record (of_fields h)) e = omega (arith, h.high, ap (λ (x : Refusal). x.number) e)
-replay_other r (of_record (of_cells h)) e = omega (arith, h.high, ap (λ (x : Refusal). x.number) e)
 replay_other r (of_record (of_clock h)) e = omega (arith, h, ap (λ (x : Refusal). x.number) e)
 replay_other r (of_pair h) e = omega (arith, h.high, ap (λ (x : Refusal). x.number) e)
 replay_other r (of_claim h) e = omega (arith, h, ap (λ (x : Refusal). x.number) e)

@@ -9,7 +9,7 @@ use Rattle.model.specs.Options.{Options}
 use Rattle.model.specs.Netlist.{Design, inputs, outputs, input_count, output_count, node_count, register_count}
 use Rattle.model.specs.Validate.{validate}
 use Rattle.model.specs.Run.{StoredBits}
-use Rattle.model.specs.Pair.{Lent, nodes_per_cycle, cell_nodes, proof_nodes, both, read_pair, check_refusal}
+use Rattle.model.specs.Pair.{Lent, nodes_per_cycle, proof_nodes, both, read_pair, check_refusal}
 use Rattle.model.specs.Transition.{from_netlist}
 use Rattle.model.specs.Literal.{Literal}
 use Rattle.model.specs.Aig.{evaluate, aig_node_values}
@@ -97,10 +97,9 @@ module _ (gold gate : Design) (valid : validate gold ≡ none) where
   bound-is : (d : ℕ) → node_bound gold gate d ≡ proof_nodes gold gate d
   unfolding proof_nodes nodes_per_cycle input_count output_count node_count register_count
   bound-is d =
-      let cells = cell_nodes gold.cells + cell_nodes gate.cells in
-      ap (λ i. suc d * (i + 3 * (length gold.nodes + length gate.nodes) + 10 * (length gold.registers + length gate.registers) + 4 * length (from_netlist gold).outputs + 1 + cells)
+      ap (λ i. suc d * (i + 3 * (length gold.nodes + length gate.nodes) + 10 * (length gold.registers + length gate.registers) + 4 * length (from_netlist gold).outputs + 1)
       + (length gold.registers + length gate.registers)) (inputs-count gold valid)
-      ∙ ap (λ o. suc d * (length (inputs gold) + 3 * (length gold.nodes + length gate.nodes) + 10 * (length gold.registers + length gate.registers) + 4 * o + 1 + cells)
+      ∙ ap (λ o. suc d * (length (inputs gold) + 3 * (length gold.nodes + length gate.nodes) + 10 * (length gold.registers + length gate.registers) + 4 * o + 1)
       + (length gold.registers + length gate.registers)) outputs_many
 
 query-bound : (gold gate : Design) (s t : StoredBits) (d k : ℕ) (q : Query) → QueryOf (problem_of gold gate s t) d k q → length q.aig ≤ node_bound gold gate d
@@ -112,7 +111,7 @@ query-bound gold gate s t d k q query_2 = query_2_bound gold gate s t d
 query-bound gold gate s t d k q query_3 = query_3_4_bound gold gate s t true d
 query-bound gold gate s t d k q query_4 = query_3_4_bound gold gate s t false d
 
--- the graph of a query of depth d, from any start bits, has at most (d + 1) × (F + S) + R nodes
+-- the graph of a query of depth d, from any start bits, has at most (d + 1) × F + R nodes
 pub query-size : (gold gate : Design) → Comparable gold gate → (s t : StoredBits) (d k : ℕ) (q : Query) → QueryOf (problem_of gold gate s t) d k q → length q.aig ≤ proof_nodes gold gate d
 query-size gold gate c s t d k q w = subst (λ (n : ℕ). length q.aig ≤ n) (bound-is gold gate c.gold_valid d) (query-bound gold gate s t d k q w)
 
@@ -123,5 +122,5 @@ unfolding proof_nodes
 query-fits a b o lent gold gate free r s t d k q w h =
     let f : Facts gold gate o lent = facts_of gold gate o lent (free_of a b o lent gold gate free r) in
     let small = ltb-false 65535 (proof_nodes gold gate o.depth) f.small in
-    let more = mul-le-mul_right {m = suc d} {n = suc o.depth} (nodes_per_cycle gold gate + (cell_nodes gold.cells + cell_nodes gate.cells)) (omega arith) in
+    let more = mul-le-mul_right {m = suc d} {n = suc o.depth} (nodes_per_cycle gold gate) (omega arith) in
     omega (arith, query-size gold gate (comparable a b o lent gold gate free r) s t d k q w, small, more)

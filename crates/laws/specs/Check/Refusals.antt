@@ -1,16 +1,16 @@
 -- The numbers of the refusals: of a record 1 to 15 and 30; with these of a check 16 to 24 and 36, of a replay 18 to 22 and 25, of a begin 18 to 22 and 24, of a step those of a replay and 24. Assumes nothing.
-use Rattle.std.specs.Prelude.{ℕ, zero, suc, ◌+◌, ◌≤◌, ◌<◌, ◌≡◌, refl, ◌≢◌, ◌⊎◌, Bool, true, false, cond, ◌&&◌, List, [], ◌∷◌, ◌++◌, length, get_or, leb}
-use Rattle.std.proofs.Common.{arith, ap, subst, inl, inr}
+use Rattle.std.specs.Prelude.{ℕ, zero, suc, ◌+◌, ◌≤◌, ◌≡◌, refl, ◌≢◌, Bool, true, false, cond, List, [], ◌∷◌, ◌++◌, length, get_or, leb, eqb}
+use Rattle.std.proofs.Common.{arith, ap, subst}
 use Rattle.std.proofs.Math.Option.{Option, none, some}
 use Rattle.model.specs.Answers.{Refusal}
 use Rattle.model.specs.Options.{Options}
 use Rattle.model.specs.Names.{Name, Place}
-use Rattle.model.specs.Netlist.{Node, Register, Cell, Design}
-use Rattle.model.specs.Record.{Step, got, refused, Reader, refuse, pure, go_on, ◌>>=◌, tested, guard, bytes, byte, number, code, code_below, name_bytes, name, name_if, value_if, numbers, node, nodes_from, nodes, enable_for, reset_for, register, registers_from, registers, carry_codes, carry_for, cell, cells_from, cells, cells_if, end, fields, version_of, Read, parsed, refused_record, length_fits, finished, parse_fields, parse_sized, parse}
-use Rattle.model.specs.Validate.{◌otherwise◌, refuse_if, node_fault, nodes_fault, register_fault, registers_fault, connection_fault, cell_fault, cells_fault, result_fault, reset_fault, clock_fault, clock_read_fault, validate, judged, validated, read_record}
+use Rattle.model.specs.Netlist.{Node, Register, Design}
+use Rattle.model.specs.Record.{Step, got, refused, Reader, refuse, pure, go_on, ◌>>=◌, tested, guard, bytes, byte, number, code, code_below, name_bytes, name, name_if, value_if, numbers, node, nodes_from, nodes, enable_for, reset_for, register, registers_from, registers, end, version1, version_of, Read, parsed, refused_record, length_fits, finished, parse_fields, parse_sized, parse}
+use Rattle.model.specs.Validate.{◌otherwise◌, refuse_if, node_fault, nodes_fault, register_fault, registers_fault, connection_fault, reset_fault, clock_fault, clock_read_fault, validate, judged, validated, read_record}
 use Rattle.model.specs.Pair.{Lent, interface_fault, resets_fault, initial_fault, check_fault, replay_fault, ReadPair, both, refused_pair, on_gate, with_gate, with_gold, read_pair, check_refusal_of, check_refusal}
 use Rattle.model.specs.Stepping.{bits_fault, begin_fault, step_fault}
-use Rattle.laws.specs.Terms.{Within, fault_before30, OfOne, of_fields, of_cells, of_clock, OfRecord, OfCheck, of_either, of_list, of_limit, OfReplay, of_record, of_pair, of_claim, replay_refusal_of, replay_refusal}
+use Rattle.laws.specs.Terms.{Within, fault_to15, OfOne, of_fields, of_clock, OfRecord, OfCheck, of_either, of_list, of_limit, OfReplay, of_record, of_pair, of_claim, replay_refusal_of, replay_refusal}
 use Rattle.laws.specs.StepTerms.{begin_refusal_of, begin_refusal, step_refusal_of, step_refusal, OfBegin, of_reading, of_comparing, of_length, OfStep, as_replay, of_bits_lem}
 
 -- 1 to 15, on side 0
@@ -149,47 +149,25 @@ registers_real : (one : Reader Register) → RealReader one → RealReader (regi
 unfolding registers
 registers_real one h = bind_real _ _ (guard_real 6 _ number (omega arith) (omega arith) number_real) (λ n. registers-from_real one h n [])
 
-carry_real : (c : ℕ) → RealReader (carry_for c)
-unfolding carry_for
-carry_real zero = pure_real none
-carry_real (suc c) = bind_real _ _ number_real (λ carry. pure_real _)
-
-cell_real : RealReader cell
-unfolding cell
-cell_real =
-    bind_real _ _ name_real (λ n. bind_real _ _ (below_real 3) (λ kind. bind_real _ _ (code_real _) (λ width. bind_real _ _ (numbers_real width) (λ left.
-    bind_real _ _ (numbers_real width) (λ right. bind_real _ _ (below_real (carry_codes kind)) (λ c. bind_real _ _ (carry_real c) (λ carry.
-    bind_real _ _ (numbers_real width) (λ results. pure_real _))))))))
-
-cells-from_real : (k : ℕ) (cs : List Cell) → RealReader (cells_from k cs)
-unfolding cells_from
-cells-from_real zero cs = pure_real cs
-cells-from_real (suc k) cs = bind_real _ _ cell_real (λ c. cells-from_real k (cs ++ (c ∷ [])))
-
-cells_real : (b : Bool) → RealReader (cells_if b)
-unfolding cells_if cells
-cells_real true = bind_real _ _ (guard_real 6 _ number (omega arith) (omega arith) number_real) (λ n. cells-from_real n [])
-cells_real false = pure_real []
-
-version_real : (v : ℕ) → RealReader (fields v)
-unfolding fields
-version_real v =
-    bind_real _ _ name_real (λ n. bind_real _ _ (nodes_real _) (λ ns. bind_real _ _ (registers_real register register_real) (λ rs. bind_real _ _ (cells_real _) (λ cs. bind_real _ _ end_real (λ e. pure_real _)))))
+version_real : RealReader version1
+unfolding version1
+version_real =
+    bind_real _ _ name_real (λ n. bind_real _ _ (nodes_real _) (λ ns. bind_real _ _ (registers_real register register_real) (λ rs. bind_real _ _ end_real (λ e. pure_real _))))
 
 finished_real : (r : Step Design) → RealStep r → RealRead (finished r)
 unfolding finished
 finished_real (got d i) h = tt
 finished_real (refused r) h = h
 
-fields_real : (s : List ℕ) (v : ℕ) (b : Bool) → RealRead (parse_fields s (cond b (some (fields v)) none))
+fields_real : (s : List ℕ) (v : ℕ) (b : Bool) → RealRead (parse_fields s (cond b (some version1) none))
 unfolding parse_fields
-fields_real s v true = finished_real (fields v s 5) (version_real v s 5)
+fields_real s v true = finished_real (version1 s 5) (version_real s 5)
 fields_real s v false = finished_real (refuse 2 0) (refuse_real Design 2 0 (omega arith) (omega arith))
 
 sized_real : (s : List ℕ) (b : Bool) → RealRead (parse_sized s b)
 unfolding parse_sized version_of
 sized_real s false = finished_real (refuse 1 0) (refuse_real Design 1 0 (omega arith) (omega arith))
-sized_real s true = fields_real s (get_or s 0 0) (leb 1 (get_or s 0 0) && leb (get_or s 0 0) 2)
+sized_real s true = fields_real s (get_or s 0 0) (eqb (get_or s 0 0) 1)
 
 -- a record that is not parsed is refused with 1 to 15
 pub parse_real : (s : List ℕ) → RealRead (parse s)
@@ -259,56 +237,13 @@ unfolding clock_fault
 real_clock nodes i [] = tt
 real_clock nodes i (r ∷ rs) = or_real _ _ (if_real 15 i _ (omega arith) (omega arith)) (real_clock nodes (suc i) rs)
 
--- a refusal of 1 to 15 or of 26 to 28, on side 0
-pub record Early (r : Refusal) : Type 0 where
-  pub own : Within 1 15 r ⊎ Within 26 28 r
-  pub side : r.side ≡ 0
+-- the checks before 30 refuse with 7 to 15
+pub early_real : (d : Design) → Every To15 (fault_to15 d)
+unfolding fault_to15
+early_real d = or_real _ _ (real_nodes 0 [] _) (or_real _ _ (real_registers _ 0 [] [] _) (or_real _ _ (real_connection _ 0 _) (or_real _ _ (real_reset _ 0 _) (real_clock _ 0 _))))
 
--- it is not 30
-pub early-below : (r : Refusal) → Early r → r.number < 30
-early-below r h = go h.own
-  where
-    go : Within 1 15 r ⊎ Within 26 28 r → r.number < 30
-    go (inl w) = omega (arith, w.high)
-    go (inr w) = omega (arith, w.high)
-
--- a refusal of 1 to 15 is one
-pub to_early : (r : Refusal) → To15 r → Early r
-to_early r h = record { own = inl (record { low = h.low; high = h.high }); side = h.side }
-
-if_cell : (n place : ℕ) (b : Bool) → 26 ≤ n → n ≤ 28 → Every Early (refuse_if n 0 place b)
-if_cell n place b l h = if_every Early n 0 place b (record { own = inr (record { low = l; high = h }); side = refl })
-
-real_cells : (nodes : List Node) (i : ℕ) (names : List Name) (taken : List ℕ) (cs : List Cell) → Every Early (cells_fault nodes i names taken cs)
-unfolding cells_fault cell_fault
-real_cells nodes i names taken [] = tt
-real_cells nodes i names taken (c ∷ cs) =
-    or_every Early _ _
-    (or_every Early _ _ (if_cell 26 i _ (omega arith) (omega arith)) (or_every Early _ _ (if_cell 27 i _ (omega arith) (omega arith)) (if_cell 28 i _ (omega arith) (omega arith))))
-    (real_cells nodes _ _ _ cs)
-
-real_results : (cs : List Cell) (i : ℕ) (ns : List Node) → Every Early (result_fault cs i ns)
-unfolding result_fault
-real_results cs i [] = tt
-real_results cs i (n ∷ ns) = or_every Early _ _ (if_cell 27 i _ (omega arith) (omega arith)) (real_results cs (suc i) ns)
-
--- the checks before 30 refuse with 7 to 15 or 26 to 28
-pub early_real : (d : Design) → Every Early (fault_before30 d)
-unfolding fault_before30
-early_real d =
-    let ns = d.nodes in
-    let rs = d.registers in
-    let early : (o : Option Refusal) → Every To15 o → Every Early o = every_so To15 Early to_early in
-    or_every Early _ _ (early (nodes_fault 0 [] ns) (real_nodes 0 [] ns)) (or_every Early _ _ (early (registers_fault ns 0 [] [] rs) (real_registers ns 0 [] [] rs))
-    (or_every Early _ _ (early (connection_fault rs 0 ns) (real_connection rs 0 ns)) (or_every Early _ _ (real_cells ns 0 [] [] d.cells) (or_every Early _ _ (real_results d.cells 0 ns)
-    (or_every Early _ _ (early (reset_fault rs 0 ns) (real_reset rs 0 ns)) (early (clock_fault ns 0 rs) (real_clock ns 0 rs)))))))
-
-of_early : (r : Refusal) → Early r → OfRecord r
-of_early r h = record { own = go h.own; side = h.side }
-  where
-    go : Within 1 15 r ⊎ Within 26 28 r → OfOne r
-    go (inl w) = of_fields w
-    go (inr w) = of_cells w
+of_early : (r : Refusal) → To15 r → OfRecord r
+of_early r h = record { own = of_fields (record { low = h.low; high = h.high }); side = h.side }
 
 real_clock-read : (d : Design) (i : ℕ) (ns : List Node) → Every OfRecord (clock_read_fault d i ns)
 unfolding clock_read_fault
@@ -316,25 +251,19 @@ real_clock-read d i [] = tt
 real_clock-read d i (n ∷ ns) = or_every OfRecord _ _ (if_every OfRecord 30 0 _ _ (record { own = of_clock refl; side = refl })) (real_clock-read d (suc i) ns)
 
 -- the checks of a design are those before 30, and then 30
-pub validate_splits : (d : Design) → validate d ≡ fault_before30 d otherwise clock_read_fault d 0 d.nodes
-unfolding validate fault_before30 ◌otherwise◌
-validate_splits d =
-    go (nodes_fault 0 [] d.nodes) (registers_fault d.nodes 0 [] [] d.registers) (connection_fault d.registers 0 d.nodes) (cells_fault d.nodes 0 [] [] d.cells)
-    (result_fault d.cells 0 d.nodes) (reset_fault d.registers 0 d.nodes) (clock_fault d.nodes 0 d.registers)
+pub validate_splits : (d : Design) → validate d ≡ fault_to15 d otherwise clock_read_fault d 0 d.nodes
+unfolding validate fault_to15 ◌otherwise◌
+validate_splits d = go (nodes_fault 0 [] d.nodes) (registers_fault d.nodes 0 [] [] d.registers) (connection_fault d.registers 0 d.nodes) (reset_fault d.registers 0 d.nodes) (clock_fault d.nodes 0 d.registers)
   where
-    go : (a b c x y e f : Option Refusal)
-        → a otherwise b otherwise c otherwise x otherwise y otherwise e otherwise f otherwise clock_read_fault d 0 d.nodes
-        ≡ (a otherwise b otherwise c otherwise x otherwise y otherwise e otherwise f) otherwise clock_read_fault d 0 d.nodes
-    go (some r) b c x y e f = refl
-    go none (some r) c x y e f = refl
-    go none none (some r) x y e f = refl
-    go none none none (some r) y e f = refl
-    go none none none none (some r) e f = refl
-    go none none none none none (some r) f = refl
-    go none none none none none none f = refl
+    go : (a b c e f : Option Refusal) → a otherwise b otherwise c otherwise e otherwise f otherwise clock_read_fault d 0 d.nodes ≡ (a otherwise b otherwise c otherwise e otherwise f) otherwise clock_read_fault d 0 d.nodes
+    go (some r) b c e f = refl
+    go none (some r) c e f = refl
+    go none none (some r) e f = refl
+    go none none none (some r) f = refl
+    go none none none none f = refl
 
 real_validate : (d : Design) → Every OfRecord (validate d)
-real_validate d = rw (validate_splits d) (or_every OfRecord _ _ (every_so Early OfRecord of_early (fault_before30 d) (early_real d)) (real_clock-read d 0 d.nodes))
+real_validate d = rw (validate_splits d) (or_every OfRecord _ _ (every_so To15 OfRecord of_early (fault_to15 d) (early_real d)) (real_clock-read d 0 d.nodes))
 
 -- a record that is read and checked, refused with a number of a record, if it is
 abbrev RealChecked : Read → Type 0
@@ -349,13 +278,13 @@ judged_real d (some r) h = h
 validated_real : (r : Read) → RealRead r → RealChecked (validated r)
 unfolding validated
 validated_real (parsed d) h = judged_real d (validate d) (real_validate d)
-validated_real (refused_record r) h = of_early r (to_early r h)
+validated_real (refused_record r) h = of_early r h
 
 read_real : (s : List ℕ) → RealChecked (read_record s)
 unfolding read_record
 read_real s = validated_real (parse s) (parse_real s)
 
--- every refusal of a record has a number from 1 to 15, from 26 to 28, or 30, on side 0
+-- every refusal of a record has a number from 1 to 15, or 30, on side 0
 pub record_within : (s : List ℕ) (r : Refusal) → read_record s ≡ refused_record r → OfRecord r
 record_within s r e = subst RealChecked e (read_real s)
 
@@ -410,7 +339,6 @@ gate_real gold (refused_record r) h = on-gate r h.own
   where
     on-gate : (r : Refusal) → OfOne r → OfOne (on_gate r)
     on-gate r (of_fields w) = of_fields (record { low = w.low; high = w.high })
-    on-gate r (of_cells w) = of_cells (record { low = w.low; high = w.high })
     on-gate r (of_clock e) = of_clock e
 
 gold_real : (r : Read) (b : List ℕ) → RealChecked r → RealPair (with_gold r b)
@@ -427,7 +355,7 @@ unfolding check_refusal_of
 of_real (refused_pair r) o lent h = of_either h
 of_real (both gold gate) o lent h = real_fault gold gate o lent
 
--- every refusal of a check has a number from 1 to 24, from 26 to 28, or 30, or is 36 with side and place 0
+-- every refusal of a check has a number from 1 to 24, or 30, or is 36 with side and place 0
 pub check-within : (a b : List ℕ) (o : Options) (lent : Lent) (r : Refusal) → check_refusal a b o lent ≡ some r → OfCheck r
 unfolding check_refusal
 check-within a b o lent r e = subst (Every OfCheck) e (of_real (read_pair a b) o lent (pair_real a b))
@@ -481,7 +409,6 @@ step-within a b cycle claim bits r e = subst (Every OfStep) e (of_step (read_pai
 -- of a record
 pub own-not-zero : (r : Refusal) → OfOne r → r.number ≢ 0
 own-not-zero r (of_fields h) e = omega (arith, h.low, e)
-own-not-zero r (of_cells h) e = omega (arith, h.low, e)
 own-not-zero r (of_clock h) e = omega (arith, h, e)
 
 -- of a check

@@ -36,8 +36,7 @@ pub record Within (k : ℕ) (g h : Aig) : Type 0 where
   pub nodes : length h ≤ length g + k
   pub conjunctions : ands h ≤ ands g + k
 
--- a graph is within any number of itself
-pub within-refl : (k : ℕ) (g : Aig) → Within k g g
+within-refl : (k : ℕ) (g : Aig) → Within k g g
 within-refl k g = record { nodes = omega arith; conjunctions = omega arith }
 
 found_within : (g : Aig) (a b : Literal) (o : Option ℕ) → Within 1 g (and_found g a b o).aig
@@ -60,8 +59,7 @@ pub or-within : (g : Aig) (a b : Literal) → Within 1 g (or g a b).aig
 unfolding or
 or-within g a b = and-within g (negate a) (negate b)
 
--- additions follow one another
-pub within_trans : (j k n : ℕ) {g h i : Aig} → j + k ≤ n → Within j g h → Within k h i → Within n g i
+within_trans : (j k n : ℕ) {g h i : Aig} → j + k ≤ n → Within j g h → Within k h i → Within n g i
 within_trans j k n e a b = record { nodes = omega (arith, a.nodes, b.nodes); conjunctions = omega (arith, a.conjunctions, b.conjunctions) }
 
 three : (g : Aig) (a b c d : Literal) → (let m = and g a b in let n = and m.aig c d in Within 3 g (or n.aig m.literal n.literal).aig)

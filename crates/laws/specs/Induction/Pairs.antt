@@ -13,7 +13,7 @@ use Rattle.model.specs.Netlist.{Edge, Rising, Falling, Register, Design, inputs,
 use Rattle.model.specs.Record.{Read, parsed, refused_record}
 use Rattle.model.specs.Validate.{refuse_if, read_record}
 use Rattle.laws.specs.Record.Accepted.{otherwise_none, refuse_if-none, accepted-parsed, none_otherwise, pass}
-use Rattle.model.specs.Pair.{Domain, same_edge, same_domain, many_domains, domain, domains_differ, inputs_differ, outputs_differ, interface_fault, resets_fault, initial_fault, nodes_per_cycle, cell_nodes, proof_nodes, Lent, trace_length, too_short, check_fault, ReadPair, both, refused_pair, with_gate, with_gold, read_pair, check_refusal_of, check_refusal}
+use Rattle.model.specs.Pair.{Domain, same_edge, same_domain, many_domains, domain, domains_differ, inputs_differ, outputs_differ, interface_fault, resets_fault, initial_fault, nodes_per_cycle, proof_nodes, Lent, trace_length, too_short, check_fault, ReadPair, both, refused_pair, with_gate, with_gold, read_pair, check_refusal_of, check_refusal}
 
 -- ---- both records read
 
@@ -192,7 +192,7 @@ resets_side a b rs (p ∷ ps) h =
 
 proof_nodes_swap : (gold gate : Design) (D : ℕ) → input_count gold ≡ input_count gate → output_count gold ≡ output_count gate → proof_nodes gold gate D ≡ proof_nodes gate gold D
 unfolding proof_nodes nodes_per_cycle
-proof_nodes_swap gold gate D i o = rw (i, o, add_comm (node_count gold) (node_count gate), add_comm (register_count gold) (register_count gate), add_comm (cell_nodes gold.cells) (cell_nodes gate.cells))
+proof_nodes_swap gold gate D i o = rw (i, o, add_comm (node_count gold) (node_count gate), add_comm (register_count gold) (register_count gate))
 
 too_short_swap : (gold gate : Design) (D : ℕ) (lent : Lent) → input_count gold ≡ input_count gate → output_count gold ≡ output_count gate → too_short gold D lent ≡ too_short gate D lent
 unfolding too_short trace_length

@@ -10,7 +10,7 @@ use Rattle.std.proofs.Math.ListN.{get_elem?}
 use Rattle.std.proofs.Math.Dec.{eqb}
 use Rattle.std.proofs.lemmas.Bool.{not-false, eqb-false}
 use Rattle.model.specs.Names.{Name, Place}
-use Rattle.model.specs.Netlist.{Node, Enable, Reset, Register, Cell, register_places}
+use Rattle.model.specs.Netlist.{Node, Enable, Reset, Register, register_places}
 use Rattle.model.specs.Validate.{Driver, driver, driver_from, refuse_if, is_register_output_at, register_fault, registers_fault}
 use Rattle.model.specs.Run.{InputBits, StoredBits, bit_at, enabled_bit, reset_bit, next_bit}
 use Rattle.model.specs.Literal.{Literal, FALSE, node}
@@ -101,14 +101,14 @@ module _ (e : ℕ → Bool) where
   -- ---- a register's state variable
 
   -- a key's literal has its driver's stored bit
-  pub lookup-has : (cs : List Cell) (rs : List Register) (inp : InputBits) (stored : StoredBits) (g : Aig) (ps : List (ℕ × Literal)) (k : ℕ)
-      → All (StateHas e cs rs inp stored g) ps → In k (map (λ (p : ℕ × Literal). p.0) ps) → StateHas e cs rs inp stored g (k, lookup FALSE ps k)
+  pub lookup-has : (rs : List Register) (inp : InputBits) (stored : StoredBits) (g : Aig) (ps : List (ℕ × Literal)) (k : ℕ)
+      → All (StateHas e rs inp stored g) ps → In k (map (λ (p : ℕ × Literal). p.0) ps) → StateHas e rs inp stored g (k, lookup FALSE ps k)
   unfolding lookup
-  lookup-has cs rs inp stored g [] k h i = absurd i
-  lookup-has cs rs inp stored g (p ∷ ps) k h i = go (eqb p.0 k) refl i (lookup-has cs rs inp stored g ps k h.1)
+  lookup-has rs inp stored g [] k h i = absurd i
+  lookup-has rs inp stored g (p ∷ ps) k h i = go (eqb p.0 k) refl i (lookup-has rs inp stored g ps k h.1)
     where
       go : (b : Bool) → eqb p.0 k ≡ b → (k ≡ p.0) ⊎ In k (map (λ (q : ℕ × Literal). q.0) ps)
-          → (In k (map (λ (q : ℕ × Literal). q.0) ps) → StateHas e cs rs inp stored g (k, lookup FALSE ps k)) → StateHas e cs rs inp stored g (k, cond b p.1 (lookup FALSE ps k))
+          → (In k (map (λ (q : ℕ × Literal). q.0) ps) → StateHas e rs inp stored g (k, lookup FALSE ps k)) → StateHas e rs inp stored g (k, cond b p.1 (lookup FALSE ps k))
       go true q i r = rw (← (eqb-true p.0 k q)) h.0
       go false q (inl d) r = absurd (eqb-false p.0 k q (sym d))
       go false q (inr m) r = r m

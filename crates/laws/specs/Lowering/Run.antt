@@ -22,7 +22,6 @@ use Rattle.laws.specs.Lowering.SystemRun.{cycle_values, system_outputs, system_n
 use Rattle.facts.specs.Lists.{In, All, all_append}
 use Rattle.laws.specs.Pairwise.{Pairwise, pairs_weaken, pairs-map, pairs-all}
 use Rattle.laws.specs.Record.Accepted.{otherwise_none}
-use Rattle.laws.specs.Record.Cells.{cells_settled}
 use Rattle.laws.specs.Queries.Frame.{Grown, grown-refl, has-later}
 use Rattle.laws.specs.Lowering.Lists.{sort-pairs, in_map-left, in_map-right, in_sort, Agree, bit-agree, zip-agree, zip_in}
 use Rattle.laws.specs.Lowering.Walk.{stored_bit, net_has, Fits, InputHas, WalkMeans, walk_means}
@@ -37,7 +36,7 @@ row_of d inp = map (λ (p : Place). inp p.name) (inputs d)
 module _ (d : Design) (v : validate d ≡ none) where
   -- the walk over all nodes
   abbrev walked : Lowering
-  walked = lower_nodes d.cells d.registers no_nodes 0 d.nodes
+  walked = lower_nodes d.registers no_nodes 0 d.nodes
 
   fine : OutputsFine d.nodes [] d.registers
   unfolding validate
@@ -61,33 +60,33 @@ module _ (d : Design) (v : validate d ≡ none) where
   lowered = lower_registers walked (record { aig = walked.aig; states = [] }) d.registers
 
   -- each output of the system stands beside the design's
-  pub outputs-at : Pairwise (PortAt d.cells d.registers walked.nets) (from_netlist d).outputs (outputs d)
+  pub outputs-at : Pairwise (PortAt d.registers walked.nets) (from_netlist d).outputs (outputs d)
   unfolding from_netlist with_registers system_of outputs no_nodes
   outputs-at =
-      sort-pairs (λ (p : Port). p.name) (PortAt d.cells d.registers walked.nets) (λ x p r. r.name) walked.outputs (ports_from output_name 0 d.nodes)
-      (outputs_beside d.cells d.registers walked.nets no_nodes 0 d.nodes [] refl refl tt)
+      sort-pairs (λ (p : Port). p.name) (PortAt d.registers walked.nets) (λ x p r. r.name) walked.outputs (ports_from output_name 0 d.nodes)
+      (outputs_beside d.registers walked.nets no_nodes 0 d.nodes [] refl refl tt)
 
-  inputs-at : Pairwise (PortAt d.cells d.registers walked.nets) walked.inputs (ports_from input_name 0 d.nodes)
+  inputs-at : Pairwise (PortAt d.registers walked.nets) walked.inputs (ports_from input_name 0 d.nodes)
   unfolding no_nodes
-  inputs-at = inputs_beside d.cells d.registers walked.nets no_nodes 0 d.nodes [] refl refl tt
+  inputs-at = inputs_beside d.registers walked.nets no_nodes 0 d.nodes [] refl refl tt
 
   -- the system's inputs have the design's names
-  pub inputs-named : Pairwise (PortAt d.cells d.registers walked.nets) (from_netlist d).inputs (inputs d)
+  pub inputs-named : Pairwise (PortAt d.registers walked.nets) (from_netlist d).inputs (inputs d)
   unfolding from_netlist with_registers system_of inputs
-  inputs-named = sort-pairs (λ (p : Port). p.name) (PortAt d.cells d.registers walked.nets) (λ x p r. r.name) walked.inputs (ports_from input_name 0 d.nodes) inputs-at
+  inputs-named = sort-pairs (λ (p : Port). p.name) (PortAt d.registers walked.nets) (λ x p r. r.name) walked.inputs (ports_from input_name 0 d.nodes) inputs-at
 
   module _ (inp : InputBits) (stored : StoredBits) where
     -- the plain run's node values in this cycle
     abbrev values : List Bool
-    values = values_from d.cells d.registers inp stored 0 d.nodes []
+    values = values_from d.registers inp stored 0 d.nodes []
 
     -- the stored bits after it
     abbrev next : List Bool
     next = next_from values stored 0 d.registers
 
-    module _ (e : ℕ → Bool) (fits : Fits e d.cells d.registers inp stored no_nodes 0 d.nodes) where
-      walk : WalkMeans e d.cells d.registers inp stored walked values
-      walk = walk_means e d.cells d.registers inp stored (cells_settled d v) no_nodes [] 0 d.nodes refl (no-nodes_mean e d.cells d.registers inp stored) fits
+    module _ (e : ℕ → Bool) (fits : Fits e d.registers inp stored no_nodes 0 d.nodes) where
+      walk : WalkMeans e d.registers inp stored walked values
+      walk = walk_means e d.registers inp stored no_nodes [] 0 d.nodes (no-nodes_mean e d.registers inp stored) fits
 
       known : (done : List Bool) (k : ℕ) (taken : List ℕ) (rs : List Register) → length done ≡ k → next ≡ done ++ next_from values stored k rs
           → OutputsFine d.nodes taken rs → Drives d.registers k rs
@@ -96,8 +95,8 @@ module _ (d : Design) (v : validate d ≡ none) where
       known done k taken [] a p f g = tt
       known done k taken (r ∷ rs) a p f g =
           let x = next_bit values (bit_at stored k) r in
-          let key = rw zero-add at (register_key d.cells d.registers no_nodes 0 d.nodes r.output f.0.register) in
-          let s = lookup-has e d.cells d.registers inp stored walked.aig walked.state_variables r.output walk.states key in
+          let key = rw zero-add at (register_key d.registers no_nodes 0 d.nodes r.output f.0.register) in
+          let s = lookup-has e d.registers inp stored walked.aig walked.state_variables r.output walk.states key in
           let t : stored_bit stored (driver d.registers r.output) ≡ bit_at stored k = ap (stored_bit stored) g.0 ∙ bit-known k r in (
             record {
               state = (s.0.0 ∙ t, s.0.1);
@@ -132,7 +131,7 @@ module _ (d : Design) (v : validate d ≡ none) where
       outputs_mean : map (λ (p : Port). evaluate (aig_node_values e (from_netlist d).aig) p.literal) (from_netlist d).outputs ≡ output_bits d (node_values d inp stored)
       unfolding output_bits node_values
       outputs_mean =
-          pairs-map (PortAt d.cells d.registers walked.nets) _ _
+          pairs-map (PortAt d.registers walked.nets) _ _
           (λ p q r. ap (evaluate (aig_node_values e (from_netlist d).aig)) r.literal
           ∙ (has-later e (grown-here) (net_literal walked.nets q.number) _ (net_has e walked.aig walk.formed walked.nets values walk.nets q.number)).0)
           (from_netlist d).outputs (outputs d) outputs-at
@@ -153,22 +152,22 @@ module _ (d : Design) (v : validate d ≡ none) where
 
     -- the environment that has the cycle's own bits
     abbrev own_env : ℕ → Bool
-    own_env = lookup false (walk_bits d.cells d.registers inp stored no_nodes 0 d.nodes)
+    own_env = lookup false (walk_bits d.registers inp stored no_nodes 0 d.nodes)
 
-    own : Fits own_env d.cells d.registers inp stored no_nodes 0 d.nodes
-    own = own-fits d.cells d.registers inp stored (walk_bits d.cells d.registers inp stored no_nodes 0 d.nodes) (cells_settled d v) [] no_nodes [] 0 d.nodes refl refl tt (no-nodes_mean own_env d.cells d.registers inp stored)
+    own : Fits own_env d.registers inp stored no_nodes 0 d.nodes
+    own = own-fits d.registers inp stored (walk_bits d.registers inp stored no_nodes 0 d.nodes) [] no_nodes [] 0 d.nodes refl tt (no-nodes_mean own_env d.registers inp stored)
 
     -- ---- the environment of a plain cycle
 
     -- an input's variable has its bit there
     abbrev InputAt : Port → Place → Type 0
-    InputAt p q = PortAt d.cells d.registers walked.nets p q × InputHas own_env d.cells d.registers inp stored p
+    InputAt p q = PortAt d.registers walked.nets p q × InputHas own_env d.registers inp stored p
 
     input-bits : Pairwise InputAt (from_netlist d).inputs (inputs d)
     unfolding from_netlist with_registers system_of inputs
     input-bits =
         sort-pairs (λ (p : Port). p.name) InputAt (λ x p r. r.0.name) walked.inputs (ports_from input_name 0 d.nodes)
-        (pairs-all (PortAt d.cells d.registers walked.nets) (InputHas own_env d.cells d.registers inp stored) walked.inputs (ports_from input_name 0 d.nodes) inputs-at (walk own_env own).inputs)
+        (pairs-all (PortAt d.registers walked.nets) (InputHas own_env d.registers inp stored) walked.inputs (ports_from input_name 0 d.nodes) inputs-at (walk own_env own).inputs)
 
     input-right : (p : Port) (q : Place) → InputAt p q → own_env (node p.literal) ≡ inp q.name
     input-right p q r = r.1 ∙ ap inp r.0.name
@@ -204,10 +203,10 @@ module _ (d : Design) (v : validate d ≡ none) where
         (in_sort (λ (s : StateBit). s.name) (λ (s : StateBit). s.variable) k lowered.states i))
 
     -- a plain cycle's environment fits: inputs by name, stored bits by register
-    cycle-fits : Fits (lookup false cycle_bits) d.cells d.registers inp stored no_nodes 0 d.nodes
+    cycle-fits : Fits (lookup false cycle_bits) d.registers inp stored no_nodes 0 d.nodes
     unfolding no_nodes
     cycle-fits =
-        same-fits d.cells d.registers inp stored own_env (lookup false cycle_bits) walked
+        same-fits d.registers inp stored own_env (lookup false cycle_bits) walked
         (λ k i. bit-agree own_env cycle_bits k bits-agree (input-listed k i))
         (λ net i. bit-agree own_env cycle_bits _ bits-agree (state-listed _ (states-listed walked (record { aig = walked.aig; states = [] }) d.registers net i)))
         no_nodes 0 d.nodes refl tt connected own

@@ -9,7 +9,7 @@ use Rattle.std.specs.Prelude.{length}
 use Rattle.std.proofs.Math.ListN.{get_or, get_elem?}
 use Rattle.std.proofs.Math.Seq.{get_or-append_seam}
 use Rattle.model.specs.Names.{Place}
-use Rattle.model.specs.Netlist.{Node, Input, Constant, RegisterOutput, ArithmeticOutput, Not, Output, And, Or, Xor, Mux, Register, Cell, input_name, output_name, is_register_output, place_if, ports_from}
+use Rattle.model.specs.Netlist.{Node, Input, Constant, RegisterOutput, Not, Output, And, Or, Xor, Mux, Register, input_name, output_name, is_register_output, place_if, ports_from}
 use Rattle.model.specs.Validate.{is_register_output_at}
 use Rattle.model.specs.Literal.{Literal, FALSE}
 use Rattle.model.specs.Lists.{snoc}
@@ -17,20 +17,17 @@ use Rattle.model.specs.Aig.{variable}
 use Rattle.model.specs.Transition.{Port, Lowering, net_literal, with_net, with_literal, lower_input, lower_output, lower_shown, lower_register_output, lower_node, lower_nodes}
 use Rattle.facts.specs.Lists.{In, All, all_append, all_map}
 use Rattle.laws.specs.Pairwise.{Pairwise, pairs_append}
-use Rattle.model.specs.Cells.{cell_bit}
-use Rattle.laws.specs.Lowering.Results.{result-nets, result-inputs, result-outputs, result-states}
 use Rattle.laws.specs.Lowering.Lists.{in_map-left, in_map-right}
 
-module _ (cs : List Cell) (rs : List Register) where
+module _ (rs : List Register) where
   -- ---- nets
 
   -- a node adds one net
-  node-nets : (w : Lowering) (net : ℕ) (n : Node) → (x : Literal) × ((lower_node cs rs w net n).nets ≡ w.nets ++ (x ∷ []))
+  node-nets : (w : Lowering) (net : ℕ) (n : Node) → (x : Literal) × ((lower_node rs w net n).nets ≡ w.nets ++ (x ∷ []))
   unfolding lower_node lower_input lower_output lower_shown lower_register_output with_net with_literal snoc
   node-nets w net (Input n) = (_, refl)
   node-nets w net (Constant b) = (_, refl)
   node-nets w net RegisterOutput = (_, refl)
-  node-nets w net ArithmeticOutput = result-nets w (cell_bit cs net)
   node-nets w net (Not a) = (_, refl)
   node-nets w net (Output n a) = (_, refl)
   node-nets w net (And a b) = (_, refl)
@@ -38,16 +35,16 @@ module _ (cs : List Cell) (rs : List Register) where
   node-nets w net (Xor a b) = (_, refl)
   node-nets w net (Mux c a b) = (_, refl)
 
-  nets-length : (w : Lowering) (net : ℕ) (n : Node) → length w.nets ≡ net → length (lower_node cs rs w net n).nets ≡ suc net
+  nets-length : (w : Lowering) (net : ℕ) (n : Node) → length w.nets ≡ net → length (lower_node rs w net n).nets ≡ suc net
   nets-length w net n h = let x = node-nets w net n in rw x.1 (omega (arith, length-append w.nets (x.0 ∷ [])))
 
   -- the walk keeps the nets so far
-  nets_prefix : (w : Lowering) (net : ℕ) (ns : List Node) → (later : List Literal) × ((lower_nodes cs rs w net ns).nets ≡ w.nets ++ later)
+  nets_prefix : (w : Lowering) (net : ℕ) (ns : List Node) → (later : List Literal) × ((lower_nodes rs w net ns).nets ≡ w.nets ++ later)
   unfolding lower_nodes
   nets_prefix w net [] = ([], sym (append-nil w.nets))
   nets_prefix w net (n ∷ ns) =
       let x = node-nets w net n in
-      let r = nets_prefix (lower_node cs rs w net n) (suc net) ns in
+      let r = nets_prefix (lower_node rs w net n) (suc net) ns in
       (x.0 ∷ r.0, r.1 ∙ ap (λ (l : List Literal). l ++ r.0) x.1 ∙ append_assoc w.nets (x.0 ∷ []) r.0)
 
   -- ---- ports
@@ -58,7 +55,7 @@ module _ (cs : List Cell) (rs : List Register) where
     pub literal : p.literal ≡ net_literal nets q.number
 
   last_net : (w : Lowering) (net : ℕ) (ns : List Node) (v : Lowering) (l : Literal) (F : List Literal) → v.nets ≡ w.nets ++ (l ∷ []) → length w.nets ≡ net
-      → F ≡ (lower_nodes cs rs v (suc net) ns).nets → l ≡ net_literal F net
+      → F ≡ (lower_nodes rs v (suc net) ns).nets → l ≡ net_literal F net
   unfolding net_literal
   last_net w net ns v l F a b c =
       let r = nets_prefix v (suc net) ns in
@@ -66,50 +63,46 @@ module _ (cs : List Cell) (rs : List Register) where
       sym (get_or-append_seam w.nets l r.0 FALSE) ∙ ap (λ (k : ℕ). get_or (w.nets ++ (l ∷ r.0)) k FALSE) b ∙ ap (λ (f : List Literal). get_or f net FALSE) (sym d)
 
   -- the outputs of the walk stand beside the design's
-  pub outputs_beside : (F : List Literal) (w : Lowering) (net : ℕ) (ns : List Node) (ps : List Place) → length w.nets ≡ net → F ≡ (lower_nodes cs rs w net ns).nets
-      → Pairwise (PortAt F) w.outputs ps → Pairwise (PortAt F) (lower_nodes cs rs w net ns).outputs (ps ++ ports_from output_name net ns)
+  pub outputs_beside : (F : List Literal) (w : Lowering) (net : ℕ) (ns : List Node) (ps : List Place) → length w.nets ≡ net → F ≡ (lower_nodes rs w net ns).nets
+      → Pairwise (PortAt F) w.outputs ps → Pairwise (PortAt F) (lower_nodes rs w net ns).outputs (ps ++ ports_from output_name net ns)
   unfolding lower_nodes ports_from place_if output_name lower_node lower_input lower_output lower_shown lower_register_output with_net with_literal snoc
   outputs_beside F w net [] ps h f k = rw (append-nil ps) k
-  outputs_beside F w net (Input n ∷ ns) ps h f k = outputs_beside F (lower_node cs rs w net (Input n)) (suc net) ns ps (nets-length w net (Input n) h) f k
-  outputs_beside F w net (Constant b ∷ ns) ps h f k = outputs_beside F (lower_node cs rs w net (Constant b)) (suc net) ns ps (nets-length w net (Constant b) h) f k
-  outputs_beside F w net (RegisterOutput ∷ ns) ps h f k = outputs_beside F (lower_node cs rs w net RegisterOutput) (suc net) ns ps (nets-length w net RegisterOutput h) f k
-  outputs_beside F w net (ArithmeticOutput ∷ ns) ps h f k =
-      outputs_beside F (lower_node cs rs w net ArithmeticOutput) (suc net) ns ps (nets-length w net ArithmeticOutput h) f (rw (result-outputs w (cell_bit cs net)) k)
-  outputs_beside F w net (Not a ∷ ns) ps h f k = outputs_beside F (lower_node cs rs w net (Not a)) (suc net) ns ps (nets-length w net (Not a) h) f k
+  outputs_beside F w net (Input n ∷ ns) ps h f k = outputs_beside F (lower_node rs w net (Input n)) (suc net) ns ps (nets-length w net (Input n) h) f k
+  outputs_beside F w net (Constant b ∷ ns) ps h f k = outputs_beside F (lower_node rs w net (Constant b)) (suc net) ns ps (nets-length w net (Constant b) h) f k
+  outputs_beside F w net (RegisterOutput ∷ ns) ps h f k = outputs_beside F (lower_node rs w net RegisterOutput) (suc net) ns ps (nets-length w net RegisterOutput h) f k
+  outputs_beside F w net (Not a ∷ ns) ps h f k = outputs_beside F (lower_node rs w net (Not a)) (suc net) ns ps (nets-length w net (Not a) h) f k
   outputs_beside F w net (Output n a ∷ ns) ps h f k =
-      let v = lower_node cs rs w net (Output n a) in
+      let v = lower_node rs w net (Output n a) in
       let q : PortAt F (record { name = n; literal = net_literal w.nets a }) (record { name = n; number = net }) =
       record { name = refl; literal = last_net w net ns v (net_literal w.nets a) F refl h f } in
       let r = outputs_beside F v (suc net) ns (ps ++ (record { name = n; number = net } ∷ [])) (nets-length w net (Output n a) h) f
       (pairs_append (PortAt F) w.outputs ps _ _ k (q, tt)) in
       rw append_assoc at r
-  outputs_beside F w net (And a b ∷ ns) ps h f k = outputs_beside F (lower_node cs rs w net (And a b)) (suc net) ns ps (nets-length w net (And a b) h) f k
-  outputs_beside F w net (Or a b ∷ ns) ps h f k = outputs_beside F (lower_node cs rs w net (Or a b)) (suc net) ns ps (nets-length w net (Or a b) h) f k
-  outputs_beside F w net (Xor a b ∷ ns) ps h f k = outputs_beside F (lower_node cs rs w net (Xor a b)) (suc net) ns ps (nets-length w net (Xor a b) h) f k
-  outputs_beside F w net (Mux c a b ∷ ns) ps h f k = outputs_beside F (lower_node cs rs w net (Mux c a b)) (suc net) ns ps (nets-length w net (Mux c a b) h) f k
+  outputs_beside F w net (And a b ∷ ns) ps h f k = outputs_beside F (lower_node rs w net (And a b)) (suc net) ns ps (nets-length w net (And a b) h) f k
+  outputs_beside F w net (Or a b ∷ ns) ps h f k = outputs_beside F (lower_node rs w net (Or a b)) (suc net) ns ps (nets-length w net (Or a b) h) f k
+  outputs_beside F w net (Xor a b ∷ ns) ps h f k = outputs_beside F (lower_node rs w net (Xor a b)) (suc net) ns ps (nets-length w net (Xor a b) h) f k
+  outputs_beside F w net (Mux c a b ∷ ns) ps h f k = outputs_beside F (lower_node rs w net (Mux c a b)) (suc net) ns ps (nets-length w net (Mux c a b) h) f k
 
   -- and so do the inputs
-  pub inputs_beside : (F : List Literal) (w : Lowering) (net : ℕ) (ns : List Node) (ps : List Place) → length w.nets ≡ net → F ≡ (lower_nodes cs rs w net ns).nets
-      → Pairwise (PortAt F) w.inputs ps → Pairwise (PortAt F) (lower_nodes cs rs w net ns).inputs (ps ++ ports_from input_name net ns)
+  pub inputs_beside : (F : List Literal) (w : Lowering) (net : ℕ) (ns : List Node) (ps : List Place) → length w.nets ≡ net → F ≡ (lower_nodes rs w net ns).nets
+      → Pairwise (PortAt F) w.inputs ps → Pairwise (PortAt F) (lower_nodes rs w net ns).inputs (ps ++ ports_from input_name net ns)
   unfolding lower_nodes ports_from place_if input_name lower_node lower_input lower_output lower_shown lower_register_output with_net with_literal snoc
   inputs_beside F w net [] ps h f k = rw (append-nil ps) k
   inputs_beside F w net (Input n ∷ ns) ps h f k =
-      let v = lower_node cs rs w net (Input n) in
+      let v = lower_node rs w net (Input n) in
       let q : PortAt F (record { name = n; literal = (variable w.aig).literal }) (record { name = n; number = net }) =
       record { name = refl; literal = last_net w net ns v (variable w.aig).literal F refl h f } in
       let r = inputs_beside F v (suc net) ns (ps ++ (record { name = n; number = net } ∷ [])) (nets-length w net (Input n) h) f
       (pairs_append (PortAt F) w.inputs ps _ _ k (q, tt)) in
       rw append_assoc at r
-  inputs_beside F w net (Constant b ∷ ns) ps h f k = inputs_beside F (lower_node cs rs w net (Constant b)) (suc net) ns ps (nets-length w net (Constant b) h) f k
-  inputs_beside F w net (RegisterOutput ∷ ns) ps h f k = inputs_beside F (lower_node cs rs w net RegisterOutput) (suc net) ns ps (nets-length w net RegisterOutput h) f k
-  inputs_beside F w net (ArithmeticOutput ∷ ns) ps h f k =
-      inputs_beside F (lower_node cs rs w net ArithmeticOutput) (suc net) ns ps (nets-length w net ArithmeticOutput h) f (rw (result-inputs w (cell_bit cs net)) k)
-  inputs_beside F w net (Not a ∷ ns) ps h f k = inputs_beside F (lower_node cs rs w net (Not a)) (suc net) ns ps (nets-length w net (Not a) h) f k
-  inputs_beside F w net (Output n a ∷ ns) ps h f k = inputs_beside F (lower_node cs rs w net (Output n a)) (suc net) ns ps (nets-length w net (Output n a) h) f k
-  inputs_beside F w net (And a b ∷ ns) ps h f k = inputs_beside F (lower_node cs rs w net (And a b)) (suc net) ns ps (nets-length w net (And a b) h) f k
-  inputs_beside F w net (Or a b ∷ ns) ps h f k = inputs_beside F (lower_node cs rs w net (Or a b)) (suc net) ns ps (nets-length w net (Or a b) h) f k
-  inputs_beside F w net (Xor a b ∷ ns) ps h f k = inputs_beside F (lower_node cs rs w net (Xor a b)) (suc net) ns ps (nets-length w net (Xor a b) h) f k
-  inputs_beside F w net (Mux c a b ∷ ns) ps h f k = inputs_beside F (lower_node cs rs w net (Mux c a b)) (suc net) ns ps (nets-length w net (Mux c a b) h) f k
+  inputs_beside F w net (Constant b ∷ ns) ps h f k = inputs_beside F (lower_node rs w net (Constant b)) (suc net) ns ps (nets-length w net (Constant b) h) f k
+  inputs_beside F w net (RegisterOutput ∷ ns) ps h f k = inputs_beside F (lower_node rs w net RegisterOutput) (suc net) ns ps (nets-length w net RegisterOutput h) f k
+  inputs_beside F w net (Not a ∷ ns) ps h f k = inputs_beside F (lower_node rs w net (Not a)) (suc net) ns ps (nets-length w net (Not a) h) f k
+  inputs_beside F w net (Output n a ∷ ns) ps h f k = inputs_beside F (lower_node rs w net (Output n a)) (suc net) ns ps (nets-length w net (Output n a) h) f k
+  inputs_beside F w net (And a b ∷ ns) ps h f k = inputs_beside F (lower_node rs w net (And a b)) (suc net) ns ps (nets-length w net (And a b) h) f k
+  inputs_beside F w net (Or a b ∷ ns) ps h f k = inputs_beside F (lower_node rs w net (Or a b)) (suc net) ns ps (nets-length w net (Or a b) h) f k
+  inputs_beside F w net (Xor a b ∷ ns) ps h f k = inputs_beside F (lower_node rs w net (Xor a b)) (suc net) ns ps (nets-length w net (Xor a b) h) f k
+  inputs_beside F w net (Mux c a b ∷ ns) ps h f k = inputs_beside F (lower_node rs w net (Mux c a b)) (suc net) ns ps (nets-length w net (Mux c a b) h) f k
 
   -- ---- what stays
 
@@ -129,18 +122,11 @@ module _ (cs : List Cell) (rs : List Register) where
         states = b.states ∙ ap (λ (l : List (ℕ × Literal)). l ++ b.more-states) a.states ∙ append_assoc u.state_variables a.more-states b.more-states;
       }
 
-  node-keeps : (w : Lowering) (net : ℕ) (n : Node) → Kept w (lower_node cs rs w net n)
+  node-keeps : (w : Lowering) (net : ℕ) (n : Node) → Kept w (lower_node rs w net n)
   unfolding lower_node lower_input lower_output lower_shown lower_register_output with_net with_literal snoc
   node-keeps w net (Input n) = record { more-inputs = _; inputs = refl; more-states = []; states = sym (append-nil w.state_variables) }
   node-keeps w net (Constant b) = record { more-inputs = []; inputs = sym (append-nil w.inputs); more-states = []; states = sym (append-nil w.state_variables) }
   node-keeps w net RegisterOutput = record { more-inputs = []; inputs = sym (append-nil w.inputs); more-states = _; states = refl }
-  node-keeps w net ArithmeticOutput =
-      record {
-        more-inputs = [];
-        inputs = result-inputs w (cell_bit cs net) ∙ sym (append-nil w.inputs);
-        more-states = [];
-        states = result-states w (cell_bit cs net) ∙ sym (append-nil w.state_variables);
-      }
   node-keeps w net (Not a) = record { more-inputs = []; inputs = sym (append-nil w.inputs); more-states = []; states = sym (append-nil w.state_variables) }
   node-keeps w net (Output n a) = record { more-inputs = []; inputs = sym (append-nil w.inputs); more-states = []; states = sym (append-nil w.state_variables) }
   node-keeps w net (And a b) = record { more-inputs = []; inputs = sym (append-nil w.inputs); more-states = []; states = sym (append-nil w.state_variables) }
@@ -149,10 +135,10 @@ module _ (cs : List Cell) (rs : List Register) where
   node-keeps w net (Mux c a b) = record { more-inputs = []; inputs = sym (append-nil w.inputs); more-states = []; states = sym (append-nil w.state_variables) }
 
   -- the walk keeps the nets, ports and variables made before
-  pub walk-keeps : (w : Lowering) (net : ℕ) (ns : List Node) → Kept w (lower_nodes cs rs w net ns)
+  pub walk-keeps : (w : Lowering) (net : ℕ) (ns : List Node) → Kept w (lower_nodes rs w net ns)
   unfolding lower_nodes
   walk-keeps w net [] = record { more-inputs = []; inputs = sym (append-nil w.inputs); more-states = []; states = sym (append-nil w.state_variables) }
-  walk-keeps w net (n ∷ ns) = kept_trans (node-keeps w net n) (walk-keeps (lower_node cs rs w net n) (suc net) ns)
+  walk-keeps w net (n ∷ ns) = kept_trans (node-keeps w net n) (walk-keeps (lower_node rs w net n) (suc net) ns)
 
   -- ---- keys of the state variables
 
@@ -164,12 +150,11 @@ module _ (cs : List Cell) (rs : List Register) where
   key_up k ps h = all_map (KeyBelow k) (KeyBelow (suc k)) (λ p i. omega arith) ps h
 
   -- a node's state variable has the node's number for a key
-  pub node-keys : (w : Lowering) (net : ℕ) (n : Node) → All (KeyBelow net) w.state_variables → All (KeyBelow (suc net)) (lower_node cs rs w net n).state_variables
+  pub node-keys : (w : Lowering) (net : ℕ) (n : Node) → All (KeyBelow net) w.state_variables → All (KeyBelow (suc net)) (lower_node rs w net n).state_variables
   unfolding lower_node lower_input lower_output lower_shown lower_register_output with_net with_literal snoc
   node-keys w net (Input n) h = key_up net w.state_variables h
   node-keys w net (Constant b) h = key_up net w.state_variables h
   node-keys w net RegisterOutput h = all_append (KeyBelow (suc net)) w.state_variables _ (key_up net w.state_variables h) (omega arith, tt)
-  node-keys w net ArithmeticOutput h = rw (result-states w (cell_bit cs net)) (key_up net w.state_variables h)
   node-keys w net (Not a) h = key_up net w.state_variables h
   node-keys w net (Output n a) h = key_up net w.state_variables h
   node-keys w net (And a b) h = key_up net w.state_variables h
@@ -182,22 +167,21 @@ module _ (cs : List Cell) (rs : List Register) where
   keys ps = map (λ p. p.0) ps
 
   -- a RegisterOutput's number is a key
-  pub register_key : (w : Lowering) (net : ℕ) (ns : List Node) (k : ℕ) → is_register_output_at (get_elem? ns k) ≡ true → In (net + k) (keys (lower_nodes cs rs w net ns).state_variables)
+  pub register_key : (w : Lowering) (net : ℕ) (ns : List Node) (k : ℕ) → is_register_output_at (get_elem? ns k) ≡ true → In (net + k) (keys (lower_nodes rs w net ns).state_variables)
   unfolding lower_nodes is_register_output_at is_register_output
   register_key w net [] k h = absurd (let z : ◌≡◌ {A = ℕ} 0 1 = cc in omega arith)
   register_key w net (n ∷ ns) (suc k) h =
       let q : net + suc k ≡ suc net + k = omega arith in
-      rw q (register_key (lower_node cs rs w net n) (suc net) ns k h)
+      rw q (register_key (lower_node rs w net n) (suc net) ns k h)
   register_key w net (n ∷ ns) zero h =
       let q : net + 0 ≡ net = omega arith in
-      let r = walk-keeps (lower_node cs rs w net n) (suc net) ns in
-      rw (q, r.states) (in_map-left (λ (p : ℕ × Literal). p.0) net (lower_node cs rs w net n).state_variables r.more-states (own n h))
+      let r = walk-keeps (lower_node rs w net n) (suc net) ns in
+      rw (q, r.states) (in_map-left (λ (p : ℕ × Literal). p.0) net (lower_node rs w net n).state_variables r.more-states (own n h))
     where
-      own : (n : Node) → is_register_output n ≡ true → In net (keys (lower_node cs rs w net n).state_variables)
+      own : (n : Node) → is_register_output n ≡ true → In net (keys (lower_node rs w net n).state_variables)
       own (Input m) h = absurd (unfold is_register_output in let z : ◌≡◌ {A = ℕ} 0 1 = cc in omega arith)
       own (Constant b) h = absurd (unfold is_register_output in let z : ◌≡◌ {A = ℕ} 0 1 = cc in omega arith)
       own RegisterOutput h = unfold lower_node lower_register_output lower_shown snoc in in_map-right (λ (p : ℕ × Literal). p.0) net w.state_variables _ (inl refl)
-      own ArithmeticOutput h = absurd (unfold is_register_output in let z : ◌≡◌ {A = ℕ} 0 1 = cc in omega arith)
       own (Not a) h = absurd (unfold is_register_output in let z : ◌≡◌ {A = ℕ} 0 1 = cc in omega arith)
       own (Output m a) h = absurd (unfold is_register_output in let z : ◌≡◌ {A = ℕ} 0 1 = cc in omega arith)
       own (And a b) h = absurd (unfold is_register_output in let z : ◌≡◌ {A = ℕ} 0 1 = cc in omega arith)

@@ -8,7 +8,7 @@ use Rattle.std.proofs.Math.Option.{Option, none, some}
 use Rattle.model.specs.Names.{Name, Place, same_name, before, member_name, names_of}
 use Rattle.facts.specs.Bools.{and_both, both_ways, or_cases, or-true}
 use Rattle.laws.specs.Names.Order.{same_eq, same_refl, Above, Increasing, Distinct}
-use Rattle.model.specs.Netlist.{Node, Input, Constant, RegisterOutput, ArithmeticOutput, Not, Output, And, Or, Xor, Mux, Design, input_name, output_name, place_if, ports_from}
+use Rattle.model.specs.Netlist.{Node, Input, Constant, RegisterOutput, Not, Output, And, Or, Xor, Mux, Design, input_name, output_name, place_if, ports_from}
 use Rattle.model.specs.Validate.{refuse_if, add_name, port_name, repeats, node_fault, nodes_fault, validate}
 use Rattle.laws.specs.Record.Accepted.{otherwise_none, refuse_if-none}
 
@@ -171,7 +171,6 @@ unfolding input_name port_name
 input_port (Input n) x h = h
 input_port (Constant b) x h = h
 input_port RegisterOutput x h = h
-input_port ArithmeticOutput x h = h
 input_port (Not a) x h = h
 input_port (Output n a) x h = absurd (let z : ◌≡◌ {A = ℕ} 0 1 = cc in omega arith)
 input_port (And a b) x h = h
@@ -184,7 +183,6 @@ unfolding output_name port_name
 output_port (Input n) x h = absurd (let z : ◌≡◌ {A = ℕ} 0 1 = cc in omega arith)
 output_port (Constant b) x h = h
 output_port RegisterOutput x h = h
-output_port ArithmeticOutput x h = h
 output_port (Not a) x h = h
 output_port (Output n a) x h = h
 output_port (And a b) x h = h

@@ -1,31 +1,25 @@
--- How many nodes a query's graph has: at most (depth + 1) × (F + S) + R, with the specification's F and S. Assumes nothing.
+-- How many nodes a query's graph has: at most (depth + 1) × F + R, with the specification's F. Assumes nothing.
 use Prim.Native.Nat.{ℕ, zero, suc, ◌+◌, ◌*◌, ◌≤◌}
 use native.Mathlib.Omega.{arith}
-use Rattle.std.proofs.Common.{zero-add, mul-suc, mul-le-mul_left, sym, ap, ◌∙◌, eq-eqb}
+use Rattle.std.proofs.Common.{zero-add, mul-suc, mul-le-mul_left, ap, ◌∙◌}
 use Rattle.std.proofs.Math.Nat.{suc-mul}
-use Rattle.std.specs.Prelude.{◌≡◌, Bool, cond, length, eqb}
-use Rattle.std.proofs.Math.Path.{refl}
+use Rattle.std.specs.Prelude.{◌≡◌, Bool, length}
 use Rattle.std.proofs.Math.Bool.{true, false}
-use mathlib.Core.List.{List, [], ◌∷◌, map}
+use mathlib.Core.List.{List, [], ◌∷◌}
 use Rattle.std.proofs.Math.Option.{Option, none, some}
-use Rattle.std.proofs.Math.ListN.{get_elem?}
 use Rattle.std.proofs.lemmas.List.{length-map}
 use Rattle.model.specs.Literal.{Literal, FALSE, constant_literal}
 use Rattle.model.specs.Lists.{snoc, zip, lookup}
 use Rattle.model.specs.Aig.{Node, Constant, Variable, And, Aig, Built, new, variable, or, xor, mux}
-use Rattle.model.specs.Netlist.{Node as Node', Input, Constant as Constant', RegisterOutput, ArithmeticOutput, Not, Output, And as And', Or, Xor, Mux, Enable, Reset, Register, Cell, Design}
-use Rattle.model.specs.Transition.{StateBit, TransitionSystem, Lowering, asserted_literal, net_literal, driver_reset, with_net, with_literal, lower_input, lower_output, reset_mux, shown, lower_shown, lower_register_output, lowered_cell, carry_literal, lower_cell, with_cell, lower_bit, lower_result, lower_node, lower_nodes, no_nodes, enabled, reset_next, Registers, with_state, lower_register, lower_registers, system_of, with_registers, from_netlist}
+use Rattle.model.specs.Netlist.{Node as Node', Input, Constant as Constant', RegisterOutput, Not, Output, And as And', Or, Xor, Mux, Enable, Reset, Register, Design}
+use Rattle.model.specs.Transition.{StateBit, TransitionSystem, Lowering, asserted_literal, net_literal, driver_reset, with_net, with_literal, lower_input, lower_output, reset_mux, shown, lower_shown, lower_register_output, lower_node, lower_nodes, no_nodes, enabled, reset_next, Registers, with_state, lower_register, lower_registers, system_of, with_registers, from_netlist}
 use Rattle.model.specs.Validate.{driver}
 use Rattle.model.specs.Run.{StoredBits}
 use Rattle.model.specs.Equivalence.{Problem, remap_literal, Import, with_imported, import_node, import_nodes, import_aig, frame_variables, frame_of, import_frame, LiteralList, with_built, new_variables, proof_inputs, state_literal, cons_pair, named_pairs, or_mismatch, any_difference, compare_pairs, compare_named_state, compare_outputs, Cycle, import_frames, cycle_of, compared_cycle, Base, base_start, base_query, counterexample_next, counterexample_compared, counterexample_cycle, counterexample_cycles, base_counterexample, named_state_next, named_state_compared, named_state_cycle, named_state_cycles, base_preserves_named_state, Induction, gate_variable, matched, gate_variables, free_product_state, cycle_mismatch, induction_next, induction_compared, induction_cycle, induction_cycles, induction_query, induction_closes}
 use Rattle.model.specs.Check.{problem_of}
-use Rattle.model.specs.Cells.{width, lefts, rights, CellBit, cell_bit}
-use Rattle.model.specs.Pair.{operation_nodes, cell_nodes}
 use Rattle.laws.specs.Lists.{length-snoc}
 use Rattle.laws.specs.Graph.Size.{ands, ands-variable, and-within, or-within, xor-within, mux-within, or_left, or_right}
 use Rattle.laws.specs.Queries.Bits.{variables-length}
-use Rattle.laws.specs.Record.Cells.{bit-lists}
-use Rattle.laws.specs.Lowering.Words.{arithmetic_within}
 use Rattle.laws.specs.Names.Sorting.{sort-length}
 
 -- ---- comparisons
@@ -219,165 +213,23 @@ shown-ands g nets (some r) state = asynchronously r.asynchronous
     asynchronously true = (mux-within g _ _ _).conjunctions
     asynchronously false = omega arith
 
--- the nodes that a cell can still make: none, once it is lowered
-unfoldable pub cost_if : Option (List Literal) → ℕ → ℕ
-cost_if none n = n
-cost_if (some ls) n = 0
+node-ands : (rs : List Register) (w : Lowering) (net : ℕ) (n : Node') → ands (lower_node rs w net n).aig ≤ ands w.aig + 3
+unfolding lower_node lower_input lower_output with_literal with_net lower_register_output lower_shown variable
+node-ands rs w net (Input n) = omega (arith, ands-variable w.aig (length w.aig))
+node-ands rs w net (Constant' b) = omega arith
+node-ands rs w net RegisterOutput =
+    omega (arith, ands-variable w.aig (length w.aig), shown-ands (snoc w.aig (Variable (length w.aig))) w.nets (driver_reset (driver rs net)) (length w.aig * 2))
+node-ands rs w net (Not a) = omega arith
+node-ands rs w net (Output n a) = omega arith
+node-ands rs w net (And' a b) = omega (arith, (and-within w.aig (net_literal w.nets a) (net_literal w.nets b)).conjunctions)
+node-ands rs w net (Or a b) = omega (arith, (or-within w.aig (net_literal w.nets a) (net_literal w.nets b)).conjunctions)
+node-ands rs w net (Xor a b) = omega (arith, (xor-within w.aig (net_literal w.nets a) (net_literal w.nets b)).conjunctions)
+node-ands rs w net (Mux c a b) = omega (arith, (mux-within w.aig (net_literal w.nets c) (net_literal w.nets a) (net_literal w.nets b)).conjunctions)
 
--- those of the cells from number k on
-unfoldable pub left : List (ℕ × List Literal) → ℕ → List Cell → ℕ
-left ps k [] = 0
-left ps k (c ∷ cs) = cost_if (lowered_cell ps k) (operation_nodes c.operation (width c)) + left ps (suc k) cs
-
--- one cell more is lowered: no cell can make more than before
-cost_less : (j : ℕ) (ls : List Literal) (ps : List (ℕ × List Literal)) (k n : ℕ) → cost_if (lowered_cell ((j, ls) ∷ ps) k) n ≤ cost_if (lowered_cell ps k) n
-unfolding lowered_cell
-cost_less j ls ps k n = go (eqb j k)
-  where
-    go : (t : Bool) → cost_if (cond t (some ls) (lowered_cell ps k)) n ≤ cost_if (lowered_cell ps k) n
-    go true = unfold cost_if in omega arith
-    go false = omega arith
-
-left_less : (j : ℕ) (ls : List Literal) (ps : List (ℕ × List Literal)) (k : ℕ) (cs : List Cell) → left ((j, ls) ∷ ps) k cs ≤ left ps k cs
-unfolding left
-left_less j ls ps k [] = omega arith
-left_less j ls ps k (c ∷ cs) = omega (arith, cost_less j ls ps k (operation_nodes c.operation (width c)), left_less j ls ps (suc k) cs)
-
--- and that one makes nothing any more
-cost_spent : (j k : ℕ) (ls : List Literal) (ps : List (ℕ × List Literal)) (n : ℕ) → j ≡ k → lowered_cell ps j ≡ none → cost_if (lowered_cell ((j, ls) ∷ ps) k) n + n ≤ cost_if (lowered_cell ps k) n
-unfolding lowered_cell cost_if
-cost_spent j k ls ps n e h = rw (eq-eqb j k e, ← e, h) (omega arith)
-
-left-spent : (j : ℕ) (ls : List Literal) (ps : List (ℕ × List Literal)) (k i : ℕ) (cs : List Cell) (c : Cell) → j ≡ k + i → get_elem? cs i ≡ some c → lowered_cell ps j ≡ none
-    → left ((j, ls) ∷ ps) k cs + operation_nodes c.operation (width c) ≤ left ps k cs
-unfolding left
-left-spent j ls ps k i [] c e h q = absurd (let z : ◌≡◌ {A = ℕ} 0 1 = cc in omega arith)
-left-spent j ls ps k zero (x ∷ cs) c e h q =
-    let y : x ≡ c = cc in
-    let z : operation_nodes x.operation (width x) ≡ operation_nodes c.operation (width c) = ap (λ (u : Cell). operation_nodes u.operation (width u)) y in
-    omega (arith, z, cost_spent j k ls ps (operation_nodes x.operation (width x)) (omega arith) q, left_less j ls ps (suc k) cs)
-left-spent j ls ps k (suc i) (x ∷ cs) c e h q =
-    omega (arith, cost_less j ls ps k (operation_nodes x.operation (width x)), left-spent j ls ps (suc k) i cs c (omega arith) h q)
-
--- a cell that is not lowered is among those left
-pub left-has : (ps : List (ℕ × List Literal)) (k i : ℕ) (cs : List Cell) (c : Cell) → get_elem? cs i ≡ some c → lowered_cell ps (k + i) ≡ none → operation_nodes c.operation (width c) ≤ left ps k cs
-left-has ps k i cs c h q = omega (arith, left-spent (k + i) [] ps k i cs c refl h q)
-
--- at the beginning every cell is left
-left-all : (k : ℕ) (cs : List Cell) → left [] k cs ≡ cell_nodes cs
-unfolding left cost_if lowered_cell cell_nodes
-left-all k [] = refl
-left-all k (c ∷ cs) = ap (λ (n : ℕ). operation_nodes c.operation (width c) + n) (left-all (suc k) cs)
-
-cell-ands : (g : Aig) (nets : List Literal) (c : Cell) → ands (lower_cell g nets c).aig ≤ ands g + operation_nodes c.operation (width c)
-unfolding lower_cell width lefts rights
-cell-ands g nets c =
-    let ls = map (net_literal nets) (lefts c) in
-    let rs = map (net_literal nets) (rights c) in
-    let n : length ls ≡ length c.columns = length-map (lefts c) (net_literal nets) ∙ length-map c.columns _ in
-    let o : length rs ≡ length c.columns = length-map (rights c) (net_literal nets) ∙ length-map c.columns _ in
-    let w = arithmetic_within g c.operation ls rs (carry_literal nets c.carry) (o ∙ sym n) in
-    omega (arith, w.conjunctions, ap (operation_nodes c.operation) n)
-
-module _ (cs : List Cell) (rs : List Register) where
-  -- a walk's conjunctions, and those that its cells can still make
-  abbrev spent : Lowering → ℕ
-  spent w = ands w.aig + left w.lowered 0 cs
-
-  result-ands : (w : Lowering) (net : ℕ) (o : Option CellBit) → cell_bit cs net ≡ o → spent (lower_result w o) ≤ spent w
-  unfolding lower_result with_literal with_net cell_bit
-  result-ands w net none e = omega arith
-  result-ands w net (some b) e = go (lowered_cell w.lowered b.number) refl
-    where
-      go : (o : Option (List Literal)) → lowered_cell w.lowered b.number ≡ o → spent (lower_bit w b o) ≤ spent w
-      go (some ls) q = unfold lower_bit with_literal with_net in omega arith
-      go none q =
-          let l = bit-lists 0 net cs b e in
-          let m = lower_cell w.aig w.nets b.cell in
-          unfold lower_bit with_cell in omega (arith, cell-ands w.aig w.nets b.cell, left-spent b.number m.literals w.lowered 0 l.at cs b.cell l.number l.here q)
-
-  node-ands : (w : Lowering) (net : ℕ) (n : Node') → spent (lower_node cs rs w net n) ≤ spent w + 3
-  unfolding lower_node lower_input lower_output with_literal with_net lower_register_output lower_shown variable
-  node-ands w net (Input n) = omega (arith, ands-variable w.aig (length w.aig))
-  node-ands w net (Constant' b) = omega arith
-  node-ands w net RegisterOutput =
-      omega (arith, ands-variable w.aig (length w.aig), shown-ands (snoc w.aig (Variable (length w.aig))) w.nets (driver_reset (driver rs net)) (length w.aig * 2))
-  node-ands w net ArithmeticOutput = omega (arith, result-ands w net (cell_bit cs net) refl)
-  node-ands w net (Not a) = omega arith
-  node-ands w net (Output n a) = omega arith
-  node-ands w net (And' a b) = omega (arith, (and-within w.aig (net_literal w.nets a) (net_literal w.nets b)).conjunctions)
-  node-ands w net (Or a b) = omega (arith, (or-within w.aig (net_literal w.nets a) (net_literal w.nets b)).conjunctions)
-  node-ands w net (Xor a b) = omega (arith, (xor-within w.aig (net_literal w.nets a) (net_literal w.nets b)).conjunctions)
-  node-ands w net (Mux c a b) = omega (arith, (mux-within w.aig (net_literal w.nets c) (net_literal w.nets a) (net_literal w.nets b)).conjunctions)
-
-  nodes-ands : (w : Lowering) (net : ℕ) (ns : List Node') → spent (lower_nodes cs rs w net ns) ≤ spent w + 3 * length ns
-  unfolding lower_nodes
-  nodes-ands w net [] = omega arith
-  nodes-ands w net (n ∷ ns) = omega (arith, node-ands w net n, nodes-ands (lower_node cs rs w net n) (suc net) ns)
-
--- ---- how many nodes the walk has made
-
-shown-nodes : (g : Aig) (nets : List Literal) (o : Option Reset) (state : Literal) → length (shown g nets o state).aig ≤ length g + 3
-unfolding shown reset_mux
-shown-nodes g nets none state = omega arith
-shown-nodes g nets (some r) state = asynchronously r.asynchronous
-  where
-    asynchronously : (t : Bool)
-        → length (elim t as (λ _. Built) [ true ↦ mux g (asserted_literal (net_literal nets r.signal) r.active) (constant_literal r.value) state | false ↦ record { aig = g; literal = state } ]).aig
-        ≤ length g + 3
-    asynchronously true = (mux-within g _ _ _).nodes
-    asynchronously false = omega arith
-
-cell-nodes : (g : Aig) (nets : List Literal) (c : Cell) → length (lower_cell g nets c).aig ≤ length g + operation_nodes c.operation (width c)
-unfolding lower_cell width lefts rights
-cell-nodes g nets c =
-    let ls = map (net_literal nets) (lefts c) in
-    let rs = map (net_literal nets) (rights c) in
-    let n : length ls ≡ length c.columns = length-map (lefts c) (net_literal nets) ∙ length-map c.columns _ in
-    let o : length rs ≡ length c.columns = length-map (rights c) (net_literal nets) ∙ length-map c.columns _ in
-    let w = arithmetic_within g c.operation ls rs (carry_literal nets c.carry) (o ∙ sym n) in
-    omega (arith, w.nodes, ap (operation_nodes c.operation) n)
-
-module _ (cs : List Cell) (rs : List Register) where
-  -- a walk's nodes, and those that its cells can still make
-  abbrev held : Lowering → ℕ
-  held w = length w.aig + left w.lowered 0 cs
-
-  result-nodes : (w : Lowering) (net : ℕ) (o : Option CellBit) → cell_bit cs net ≡ o → held (lower_result w o) ≤ held w
-  unfolding lower_result with_literal with_net cell_bit
-  result-nodes w net none e = omega arith
-  result-nodes w net (some b) e = go (lowered_cell w.lowered b.number) refl
-    where
-      go : (o : Option (List Literal)) → lowered_cell w.lowered b.number ≡ o → held (lower_bit w b o) ≤ held w
-      go (some ls) q = unfold lower_bit with_literal with_net in omega arith
-      go none q =
-          let l = bit-lists 0 net cs b e in
-          let m = lower_cell w.aig w.nets b.cell in
-          unfold lower_bit with_cell in omega (arith, cell-nodes w.aig w.nets b.cell, left-spent b.number m.literals w.lowered 0 l.at cs b.cell l.number l.here q)
-
-  node-nodes : (w : Lowering) (net : ℕ) (n : Node') → held (lower_node cs rs w net n) ≤ held w + 4
-  unfolding lower_node lower_input lower_output with_literal with_net lower_register_output lower_shown variable
-  node-nodes w net (Input n) = omega (arith, length-snoc w.aig (Variable (length w.aig)))
-  node-nodes w net (Constant' b) = omega arith
-  node-nodes w net RegisterOutput =
-      omega (arith, length-snoc w.aig (Variable (length w.aig)), shown-nodes (snoc w.aig (Variable (length w.aig))) w.nets (driver_reset (driver rs net)) (length w.aig * 2))
-  node-nodes w net ArithmeticOutput = omega (arith, result-nodes w net (cell_bit cs net) refl)
-  node-nodes w net (Not a) = omega arith
-  node-nodes w net (Output n a) = omega arith
-  node-nodes w net (And' a b) = omega (arith, (and-within w.aig (net_literal w.nets a) (net_literal w.nets b)).nodes)
-  node-nodes w net (Or a b) = omega (arith, (or-within w.aig (net_literal w.nets a) (net_literal w.nets b)).nodes)
-  node-nodes w net (Xor a b) = omega (arith, (xor-within w.aig (net_literal w.nets a) (net_literal w.nets b)).nodes)
-  node-nodes w net (Mux c a b) = omega (arith, (mux-within w.aig (net_literal w.nets c) (net_literal w.nets a) (net_literal w.nets b)).nodes)
-
-  nodes-nodes : (w : Lowering) (net : ℕ) (ns : List Node') → held (lower_nodes cs rs w net ns) ≤ held w + 4 * length ns
-  unfolding lower_nodes
-  nodes-nodes w net [] = omega arith
-  nodes-nodes w net (n ∷ ns) = omega (arith, node-nodes w net n, nodes-nodes (lower_node cs rs w net n) (suc net) ns)
-
-  -- the nodes of a walk and those that its cells can still make: at most node 0, four a node and those of all cells
-  pub walk-nodes : (ns : List Node') → length (lower_nodes cs rs no_nodes 0 ns).aig + left (lower_nodes cs rs no_nodes 0 ns).lowered 0 cs ≤ 1 + 4 * length ns + cell_nodes cs
-  unfolding no_nodes new
-  walk-nodes ns = omega (arith, nodes-nodes no_nodes 0 ns, left-all 0 cs)
+nodes-ands : (rs : List Register) (w : Lowering) (net : ℕ) (ns : List Node') → ands (lower_nodes rs w net ns).aig ≤ ands w.aig + 3 * length ns
+unfolding lower_nodes
+nodes-ands rs w net [] = omega arith
+nodes-ands rs w net (n ∷ ns) = omega (arith, node-ands rs w net n, nodes-ands rs (lower_node rs w net n) (suc net) ns)
 
 enabled-ands : (g : Aig) (nets : List Literal) (o : Option Enable) (l state : Literal) → ands (enabled g nets o l state).aig ≤ ands g + 3
 unfolding enabled
@@ -402,12 +254,12 @@ registers-ands w g (r ∷ rs) =
     let h = lower_register w.nets g r (lookup FALSE w.state_variables r.output) in
     omega (arith, register-ands w.nets g r (lookup FALSE w.state_variables r.output), registers-ands w h rs)
 
--- a design's graph has at most three conjunctions for a node, six for a register, and those of its cells
-pub system-ands : (d : Design) → ands (from_netlist d).aig ≤ 3 * length d.nodes + 6 * length d.registers + cell_nodes d.cells
+-- a design's graph has at most three conjunctions for a node and six for a register
+pub system-ands : (d : Design) → ands (from_netlist d).aig ≤ 3 * length d.nodes + 6 * length d.registers
 unfolding from_netlist with_registers system_of no_nodes new ands
 system-ands d =
-    let w = lower_nodes d.cells d.registers no_nodes 0 d.nodes in
-    omega (arith, nodes-ands d.cells d.registers no_nodes 0 d.nodes, left-all 0 d.cells, registers-ands w (record { aig = w.aig; states = [] }) d.registers)
+    let w = lower_nodes d.registers no_nodes 0 d.nodes in
+    omega (arith, nodes-ands d.registers no_nodes 0 d.nodes, registers-ands w (record { aig = w.aig; states = [] }) d.registers)
 
 register-length : (nets : List Literal) (g : Registers) (r : Register) (state : Literal) → length (lower_register nets g r state).states ≡ suc (length g.states)
 unfolding lower_register with_state
@@ -429,16 +281,15 @@ states-length d = sort-length (λ (s : StateBit). s.name) _ ∙ registers-length
 -- ---- the queries, for designs
 
 module _ (gold gate : Design) where
-  -- the specification's F + S, with I and O of gold, and N, R and the cells of both sides
+  -- the specification's F, with I and O of gold, and N and R of both sides
   abbrev pub frame_bound : ℕ
   frame_bound =
       length (from_netlist gold).inputs + 3 * (length gold.nodes + length gate.nodes)
       + 10 * (length gold.registers + length gate.registers)
       + 4 * length (from_netlist gold).outputs
       + 1
-      + (cell_nodes gold.cells + cell_nodes gate.cells)
 
-  -- (depth + 1) × (F + S) + R
+  -- (depth + 1) × F + R
   abbrev pub node_bound : ℕ → ℕ
   node_bound depth = suc depth * frame_bound + (length gold.registers + length gate.registers)
 

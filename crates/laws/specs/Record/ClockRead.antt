@@ -14,17 +14,16 @@ use Rattle.std.proofs.Math.Dec.{eqb}
 use borrow.Author.Tests.{eqb-true, eq-eqb}
 use Rattle.model.specs.Answers.{Refusal, accepted}
 use Rattle.model.specs.Lists.{member}
-use Rattle.model.specs.Netlist.{Node, Register, Cell, Design, input_numbers}
+use Rattle.model.specs.Netlist.{Node, Register, Design, input_numbers}
 use Rattle.model.specs.Record.{Read, parsed, refused_record, parse}
-use Rattle.model.specs.Validate.{◌otherwise◌, refuse_if, is_input_at, clock_fault, clocks, nodes_read, data_numbers, registers_read, cells_read, clock_read, clock_read_fault, validate, judged, validated, read_record, answer_of, read}
-use Rattle.model.specs.Cells.{operands}
+use Rattle.model.specs.Validate.{◌otherwise◌, refuse_if, is_input_at, clock_fault, clocks, nodes_read, data_numbers, registers_read, clock_read, clock_read_fault, validate, judged, validated, read_record, answer_of, read}
 use Rattle.facts.specs.Bools.{is_false, and_both, both-and, or-true, or_cases}
 use Rattle.facts.specs.Lists.{get_elem_out}
 use Rattle.facts.specs.Numbers.{below}
-use Rattle.laws.specs.Terms.{fault_before30, ReadAt, by_node, by_register, by_cell, ClockReadAt, LowestClockRead}
+use Rattle.laws.specs.Terms.{fault_to15, ReadAt, by_node, by_register, ClockReadAt, LowestClockRead}
 use Rattle.laws.specs.Record.Accepted.{otherwise_none, refuse_if-none}
 use Rattle.laws.specs.Record.Valid.{clocks-inputs}
-use Rattle.laws.specs.Check.Refusals.{To15, RealRead, parse_real, Every, Early, early-below, early_real, validate_splits}
+use Rattle.laws.specs.Check.Refusals.{To15, RealRead, parse_real, Every, early_real, validate_splits}
 
 -- a bit is not both
 pub contrary : {b : Bool} → b ≡ false → b ≡ true → ⊥
@@ -73,33 +72,24 @@ module _ (k : ℕ) where
   clocks_of rs r m e = finds (λ (x : Register). eqb x.clock k) (clocks k) refl (λ x ys. refl) rs r m (eq-eqb r.clock k e)
 
 module _ (d : Design) (k : ℕ) where
-  read_at : (nodes_read k d.nodes || (registers_read k d.registers || cells_read k d.cells)) ≡ true → ReadAt d k
-  unfolding nodes_read registers_read cells_read
-  read_at h = go (or_cases (nodes_read k d.nodes) _ h)
+  read_at : (nodes_read k d.nodes || registers_read k d.registers) ≡ true → ReadAt d k
+  unfolding nodes_read registers_read
+  read_at h = go (or_cases (nodes_read k d.nodes) (registers_read k d.registers) h)
     where
-      others : (registers_read k d.registers ≡ true) ⊎ (cells_read k d.cells ≡ true) → ReadAt d k
-      others (inl e) =
-          let f = found (λ (r : Register). member k (data_numbers r)) (registers_read k) refl (λ x ys. refl) d.registers e in
-          by_register f.0 f.1 (member_in k (data_numbers f.0) f.2)
-      others (inr e) =
-          let f = found (λ (c : Cell). member k (operands c)) (cells_read k) refl (λ x ys. refl) d.cells e in
-          by_cell f.0 f.1 (member_in k (operands f.0) f.2)
-
-      go : (nodes_read k d.nodes ≡ true) ⊎ ((registers_read k d.registers || cells_read k d.cells) ≡ true) → ReadAt d k
+      go : (nodes_read k d.nodes ≡ true) ⊎ (registers_read k d.registers ≡ true) → ReadAt d k
       go (inl e) =
           let f = found (λ (n : Node). member k (input_numbers n)) (nodes_read k) refl (λ x ys. refl) d.nodes e in
           by_node f.0 f.1 (member_in k (input_numbers f.0) f.2)
-      go (inr e) = others (or_cases (registers_read k d.registers) (cells_read k d.cells) e)
+      go (inr e) =
+          let f = found (λ (r : Register). member k (data_numbers r)) (registers_read k) refl (λ x ys. refl) d.registers e in
+          by_register f.0 f.1 (member_in k (data_numbers f.0) f.2)
 
-  -- what a node reads, what a register reads as data and what a cell reads is read
-  pub at_read : ReadAt d k → (nodes_read k d.nodes || (registers_read k d.registers || cells_read k d.cells)) ≡ true
-  unfolding nodes_read registers_read cells_read
+  -- what a node reads, and what a register reads as data, is read
+  pub at_read : ReadAt d k → (nodes_read k d.nodes || registers_read k d.registers) ≡ true
+  unfolding nodes_read registers_read
   at_read (by_node n m i) = rw (finds (λ (x : Node). member k (input_numbers x)) (nodes_read k) refl (λ x ys. refl) d.nodes n m (in_member k (input_numbers n) i))
   at_read (by_register r m i) =
-      or-true (nodes_read k d.nodes) _ (rw (finds (λ (x : Register). member k (data_numbers x)) (registers_read k) refl (λ x ys. refl) d.registers r m (in_member k (data_numbers r) i)))
-  at_read (by_cell c m i) =
-      or-true (nodes_read k d.nodes) _
-      (or-true (registers_read k d.registers) _ (finds (λ (x : Cell). member k (operands x)) (cells_read k) refl (λ x ys. refl) d.cells c m (in_member k (operands c) i)))
+      or-true (nodes_read k d.nodes) _ (finds (λ (x : Register). member k (data_numbers x)) (registers_read k) refl (λ x ys. refl) d.registers r m (in_member k (data_numbers r) i))
 
   read-clock : clock_fault d.nodes 0 d.registers ≡ none → clock_read d k ≡ true → ClockReadAt d k
   unfolding clock_read
@@ -183,10 +173,10 @@ module _ (d : Design) where
 
 -- ---- a design, and a record
 
-module _ (d : Design) (early : fault_before30 d ≡ none) where
+module _ (d : Design) (early : fault_to15 d ≡ none) where
   clocks_fine : clock_fault d.nodes 0 d.registers ≡ none
-  unfolding fault_before30
-  clocks_fine = (otherwise_none _ _ (otherwise_none _ _ (otherwise_none _ _ (otherwise_none _ _ (otherwise_none _ _ (otherwise_none _ _ early).1).1).1).1).1).1
+  unfolding fault_to15
+  clocks_fine = (otherwise_none _ _ (otherwise_none _ _ (otherwise_none _ _ (otherwise_none _ _ early).1).1).1).1
 
   lowest-finds : (k : ℕ) → LowestClockRead d k → validate d ≡ some (record { number = 30; side = 0; place = k })
   unfolding ◌otherwise◌
@@ -205,10 +195,10 @@ module _ (d : Design) (early : fault_before30 d ≡ none) where
   unread_none h k c = contrary (rw (zero-add k) at (unread_nodes d 0 d.nodes h k (clock-below d k c))) (clock-read d k c)
 
 -- a design passes every check exactly where it passes those before 30 and reads none of its clocks
-pub reads_no-clock : (d : Design) → (validate d ≡ none) ↔ ((fault_before30 d ≡ none) × ((k : ℕ) → ClockReadAt d k → ⊥))
+pub reads_no-clock : (d : Design) → (validate d ≡ none) ↔ ((fault_to15 d ≡ none) × ((k : ℕ) → ClockReadAt d k → ⊥))
 unfolding ◌otherwise◌
 reads_no-clock d = (
-  λ h. let o = otherwise_none (fault_before30 d) _ (sym (validate_splits d) ∙ h) in (o.0, unread_none d o.0 o.1),
+  λ h. let o = otherwise_none (fault_to15 d) _ (sym (validate_splits d) ∙ h) in (o.0, unread_none d o.0 o.1),
   λ h. rw (validate_splits d, h.0) (walk-passes d 0 d.nodes (λ j. is_false (clock_read d j) (λ e. h.1 j (read-clock d j (clocks_fine d h.0) e)))),
 )
 
@@ -228,14 +218,14 @@ clock-input d h k c =
 module _ (s : List ℕ) (k : ℕ) where
   -- the record's design passes every check before 30, and k is the lowest of its clocks that is read
   abbrev ReadsClock : Type 0
-  ReadsClock = (d : Design) × (parse s ≡ parsed d) × (fault_before30 d ≡ none) × LowestClockRead d k
+  ReadsClock = (d : Design) × (parse s ≡ parsed d) × (fault_to15 d ≡ none) × LowestClockRead d k
 
-  of_parsed : (d : Design) → parse s ≡ parsed d → (x : Option Refusal) → fault_before30 d ≡ x → answer_of (judged d (validate d)) ≡ record { number = 30; side = 0; place = k } → ReadsClock
+  of_parsed : (d : Design) → parse s ≡ parsed d → (x : Option Refusal) → fault_to15 d ≡ x → answer_of (judged d (validate d)) ≡ record { number = 30; side = 0; place = k } → ReadsClock
   unfolding judged answer_of accepted ◌otherwise◌
   of_parsed d p (some r) e h =
-      let real : Early r = subst (Every Early) e (early_real d) in
+      let real : To15 r = subst (Every To15) e (early_real d) in
       let q : answer_of (judged d (validate d)) ≡ r = rw (validate_splits d, e) in
-      absurd (omega (arith, early-below r real, ap (λ (x : Refusal). x.number) (sym q ∙ h)))
+      absurd (omega (arith, real.high, ap (λ (x : Refusal). x.number) (sym q ∙ h)))
   of_parsed d p none e h = go (validate d) refl
     where
       go : (x : Option Refusal) → validate d ≡ x → ReadsClock
@@ -248,12 +238,12 @@ module _ (s : List ℕ) (k : ℕ) where
 
   of_read : (r : Read) → parse s ≡ r → answer_of (validated r) ≡ record { number = 30; side = 0; place = k } → ReadsClock
   unfolding validated answer_of
-  of_read (parsed d) p h = of_parsed d p (fault_before30 d) refl h
+  of_read (parsed d) p h = of_parsed d p (fault_to15 d) refl h
   of_read (refused_record r) p h =
       let real : To15 r = subst RealRead p (parse_real s) in
       absurd (omega (arith, real.high, ap (λ (x : Refusal). x.number) h))
 
   -- read answers 30 exactly where the design passes every check before it and reads a clock; the place is the lowest that is read
-  pub clock-refused : (read s ≡ record { number = 30; side = 0; place = k }) ↔ ((d : Design) × (parse s ≡ parsed d) × (fault_before30 d ≡ none) × LowestClockRead d k)
+  pub clock-refused : (read s ≡ record { number = 30; side = 0; place = k }) ↔ ((d : Design) × (parse s ≡ parsed d) × (fault_to15 d ≡ none) × LowestClockRead d k)
   unfolding read read_record validated judged answer_of
   clock-refused = (of_read (parse s) refl, λ h. rw (h.1, lowest-finds h.0 h.2 k h.3))

@@ -13,16 +13,16 @@ use Rattle.laws.specs.Record.Kinds.{by_kind_lem}
 -- ---- the name of a node as a port
 
 -- a table with one meaning for Input, and another for every other byte
-input_alone : {A : Type 0} (k : ℕ) (x y : A) → by_kind k x y y y y y y y y y y ≡ cond (eqb k input_kind) x y
+input_alone : {A : Type 0} (k : ℕ) (x y : A) → by_kind k x y y y y y y y y y ≡ cond (eqb k input_kind) x y
 unfolding by_kind
 input_alone k x y = simp cond_same
 
 -- the same of Output
-output_alone : {A : Type 0} (k : ℕ) (x y : A) → by_kind k y y y y y x y y y y y ≡ cond (eqb k output_kind) x y
+output_alone : {A : Type 0} (k : ℕ) (x y : A) → by_kind k y y y y x y y y y y ≡ cond (eqb k output_kind) x y
 unfolding by_kind
 output_alone k x y = go (eqb k output_kind) refl
   where
-    go : (b : Bool) → eqb k output_kind ≡ b → by_kind k y y y y y x y y y y y ≡ cond (eqb k output_kind) x y
+    go : (b : Bool) → eqb k output_kind ≡ b → by_kind k y y y y x y y y y y ≡ cond (eqb k output_kind) x y
     go true h = rw (eqb-true k output_kind h)
     go false h = rw h (simp cond_same)
 
@@ -30,12 +30,12 @@ module _ (k : ℕ) (n : Name) (v : ℕ) (ins : List ℕ) where
   -- a node of Input's kind alone is an Input
   pub input-name : input_name (node_of k n v ins) ≡ cond (eqb k input_kind) (some n) none
   unfolding node_of input_name
-  input-name = by_kind_lem input_name k _ _ _ _ _ _ _ _ _ _ _ ∙ input_alone k (some n) none
+  input-name = by_kind_lem input_name k _ _ _ _ _ _ _ _ _ _ ∙ input_alone k (some n) none
 
   -- a node of Output's kind alone is an Output
   pub output-name : output_name (node_of k n v ins) ≡ cond (eqb k output_kind) (some n) none
   unfolding node_of output_name
-  output-name = by_kind_lem output_name k _ _ _ _ _ _ _ _ _ _ _ ∙ output_alone k (some n) none
+  output-name = by_kind_lem output_name k _ _ _ _ _ _ _ _ _ _ ∙ output_alone k (some n) none
 
 -- ---- the ports counted
 

@@ -1,11 +1,11 @@
 -- The reader: what follows from a step that succeeds, and that a parsed design is within the limits. Assumes nothing.
-use Rattle.std.specs.Prelude.{ℕ, zero, suc, ◌+◌, ◌*◌, ◌≤◌, ◌<◌, ◌≡◌, refl, Bool, true, false, cond, ◌&&◌, List, [], ◌∷◌, ◌++◌, length, get_or, leb}
+use Rattle.std.specs.Prelude.{ℕ, zero, suc, ◌+◌, ◌*◌, ◌≤◌, ◌<◌, ◌≡◌, refl, Bool, true, false, cond, List, [], ◌∷◌, ◌++◌, length, get_or, eqb, leb}
 use Rattle.std.proofs.Common.{ap, subst, arith, length-append, leb-true, le-leb}
 use Rattle.std.proofs.Math.Option.{none, some}
 use Rattle.std.proofs.lemmas.Bool.{lt-leb}
 use Rattle.model.specs.Answers.{Refusal}
 use Rattle.model.specs.Netlist.{Node, Design}
-use Rattle.model.specs.Record.{Step, got, refused, Reader, pure, go_on, ◌>>=◌, tested, guard, refuse, number, node, nodes_from, nodes, register, registers, cells_if, end, name, listed_kind, fields, version_of, parsed, length_fits, finished, parse_fields, parse_sized, parse}
+use Rattle.model.specs.Record.{Step, got, refused, Reader, pure, go_on, ◌>>=◌, tested, guard, refuse, number, node, nodes_from, nodes, register, registers, end, name, listed_kind, version1, version_of, parsed, length_fits, finished, parse_fields, parse_sized, parse}
 
 -- a step is not both
 pub got≢refused : {A : Type 0} {a : A} {i : ℕ} {r : Refusal} → refused r ≡ got a i → ⊥
@@ -74,36 +74,16 @@ nodes-length listed ms s i j h =
     let g : Passed (λ n. leb n 1024) number s i b.value b.at = guard-got 6 (λ n. leb n 1024) number s i b.value b.at b.first in
     omega (arith, nodes_from-length listed b.value [] ms s b.at j b.second, leb-true b.value 1024 g.passes)
 
--- the parts that a version's fields are read in
-pub record FieldsGot (version : ℕ) (s : List ℕ) (i : ℕ) (d : Design) : Type 0 where
-  pub nodes_from_lem : ℕ
-  pub nodes_to_lem : ℕ
-  pub nodes_got : nodes (listed_kind version) s nodes_from_lem ≡ got d.nodes nodes_to_lem
-  pub registers_to_lem : ℕ
-  pub registers_got : registers register s nodes_to_lem ≡ got d.registers registers_to_lem
-  pub cells_to_lem : ℕ
-  pub cells_got : cells_if (leb 2 version) s registers_to_lem ≡ got d.cells cells_to_lem
-
--- fields that are read were read part by part
-pub fields-got : (version : ℕ) (s : List ℕ) (i k : ℕ) (d : Design) → fields version s i ≡ got d k → FieldsGot version s i d
-unfolding fields pure
-fields-got version s i k d h =
+-- the design of a record has at most 1,024 nodes
+version1-nodes : (s : List ℕ) (i k : ℕ) (d : Design) → version1 s i ≡ got d k → length d.nodes ≤ 1024
+unfolding version1 pure
+version1-nodes s i k d h =
     let a : Both name _ s i d k = bind_got name _ s i d k h in
-    let b : Both (nodes (listed_kind version)) _ s a.at d k = bind_got (nodes (listed_kind version)) _ s a.at d k a.second in
+    let b : Both (nodes listed_kind) _ s a.at d k = bind_got (nodes listed_kind) _ s a.at d k a.second in
     let c : Both (registers register) _ s b.at d k = bind_got (registers register) _ s b.at d k b.second in
-    let g : Both (cells_if (leb 2 version)) _ s c.at d k = bind_got (cells_if (leb 2 version)) _ s c.at d k c.second in
-    let e : Both end _ s g.at d k = bind_got end _ s g.at d k g.second in
-    let f : record { name = a.value; nodes = b.value; registers = c.value; cells = g.value } ≡ d = cc in
-    subst (FieldsGot version s i) f
-    (record {
-      nodes_from_lem = a.at;
-      nodes_to_lem = b.at;
-      nodes_got = b.first;
-      registers_to_lem = c.at;
-      registers_got = c.first;
-      cells_to_lem = g.at;
-      cells_got = g.first;
-    })
+    let e : Both end _ s c.at d k = bind_got end _ s c.at d k c.second in
+    let f : record { name = a.value; nodes = b.value; registers = c.value } ≡ d = cc in
+    subst (λ (x : Design). length x.nodes ≤ 1024) f (nodes-length listed_kind b.value s a.at b.at b.first)
 
 -- a record that is parsed was read to its end
 pub finished-parsed : (r : Step Design) (d : Design) → finished r ≡ parsed d → (k : ℕ) × (r ≡ got d k)
@@ -111,24 +91,24 @@ unfolding finished
 finished-parsed (got x k) d h = (k, let e : x ≡ d = cc in cc)
 finished-parsed (refused x) d h = absurd (let z : ◌≡◌ {A = ℕ} 0 1 = cc in omega arith)
 
-version_parsed : (s : List ℕ) (v : ℕ) (b : Bool) (d : Design) → parse_fields s (cond b (some (fields v)) none) ≡ parsed d → finished (fields v s 5) ≡ parsed d
+version-parsed : (s : List ℕ) (b : Bool) (d : Design) → parse_fields s (cond b (some version1) none) ≡ parsed d → finished (version1 s 5) ≡ parsed d
 unfolding parse_fields finished refuse
-version_parsed s v true d h = h
-version_parsed s v false d h = absurd (let z : ◌≡◌ {A = ℕ} 0 1 = cc in omega arith)
+version-parsed s true d h = h
+version-parsed s false d h = absurd (let z : ◌≡◌ {A = ℕ} 0 1 = cc in omega arith)
 
-sized-parsed : (s : List ℕ) (b : Bool) (d : Design) → parse_sized s b ≡ parsed d → finished (fields (get_or s 0 0) s 5) ≡ parsed d
+sized-parsed : (s : List ℕ) (b : Bool) (d : Design) → parse_sized s b ≡ parsed d → finished (version1 s 5) ≡ parsed d
 unfolding parse_sized version_of finished refuse
-sized-parsed s true d h = version_parsed s (get_or s 0 0) (leb 1 (get_or s 0 0) && leb (get_or s 0 0) 2) d h
+sized-parsed s true d h = version-parsed s (eqb (get_or s 0 0) 1) d h
 sized-parsed s false d h = absurd (let z : ◌≡◌ {A = ℕ} 0 1 = cc in omega arith)
 
--- a parsed record is one that its version's reader reads from offset 5 on
-pub parse-fields : (s : List ℕ) (d : Design) → parse s ≡ parsed d → FieldsGot (get_or s 0 0) s 5 d
+-- a parsed record is one that version 1's reader reads from offset 5 on
+pub parse-version1 : (s : List ℕ) (d : Design) → parse s ≡ parsed d → (k : ℕ) × (version1 s 5 ≡ got d k)
 unfolding parse
-parse-fields s d h = let v = finished-parsed (fields (get_or s 0 0) s 5) d (sized-parsed s (length_fits s) d h) in fields-got (get_or s 0 0) s 5 v.0 d v.1
+parse-version1 s d h = finished-parsed (version1 s 5) d (sized-parsed s (length_fits s) d h)
 
 -- a parsed design has at most 1,024 nodes
 pub parse-nodes : (s : List ℕ) (d : Design) → parse s ≡ parsed d → length d.nodes ≤ 1024
-parse-nodes s d h = let v = parse-fields s d h in nodes-length (listed_kind (get_or s 0 0)) d.nodes s v.nodes_from_lem v.nodes_to_lem v.nodes_got
+parse-nodes s d h = let v = parse-version1 s d h in version1-nodes s 5 v.0 d v.1
 
 -- ---- one field, as the code reads it
 

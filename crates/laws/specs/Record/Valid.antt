@@ -1,15 +1,14 @@
--- What the walks of 10, 12 to 15, 27 and 28 leave: the facts of an accepted design that its run rests on. Assumes nothing.
+-- What the walks of 10 and 12 to 15 leave: the facts of an accepted design that its run rests on. Assumes nothing.
 use Rattle.std.specs.Prelude.{ℕ, zero, suc, ◌+◌, ◌<◌, ◌≡◌, ◌⊎◌, true, false, ◌&&◌, length, get_or}
 use Rattle.std.proofs.Common.{sym, subst, inl, inr, zero-add, add-zero, suc-add, add-suc, not-suc-le-zero, le_of_suc-le-suc}
 use mathlib.Core.List.Memᴰ
-use mathlib.Core.List.{List, [], ◌∷◌, ◌++◌, Memᴰ}
+use mathlib.Core.List.{List, [], ◌∷◌, Memᴰ}
 use Rattle.std.proofs.Math.Option.{none}
 use Rattle.std.proofs.Math.ListN.{get_elem?}
 use Rattle.std.proofs.lemmas.Bool.{not-false}
 use Rattle.model.specs.Names.{Name}
-use Rattle.model.specs.Netlist.{Node, RegisterOutput, Register, Cell, Design, is_register_output, is_arithmetic_output, input_numbers}
-use Rattle.model.specs.Validate.{refuse_if, all_below, nodes_fault, is_register_output_at, is_input_at, register_numbers, register_fault, registers_fault, driver, undriven, connection_fault, bad_results, cell_fault, cells_fault, cellless, result_fault, late_driver, reset_fault, clock_fault, validate}
-use Rattle.model.specs.Cells.{results, operands, lowest, cell_bit}
+use Rattle.model.specs.Netlist.{Node, RegisterOutput, Register, Design, is_register_output, input_numbers}
+use Rattle.model.specs.Validate.{refuse_if, all_below, nodes_fault, is_register_output_at, is_input_at, register_numbers, register_fault, registers_fault, driver, undriven, connection_fault, late_driver, reset_fault, clock_fault, validate}
 use Rattle.laws.specs.Record.Accepted.{otherwise_none, refuse_if-none, nodes_fault-below}
 
 -- 10 and 12 of one register
@@ -60,43 +59,11 @@ early_resets rs i [] h k l = absurd (not-suc-le-zero l)
 early_resets rs i (n ∷ ns) h zero l = rw add-zero (refuse_if-none 14 0 i _ (otherwise_none (refuse_if 14 0 i _) _ h).0)
 early_resets rs i (n ∷ ns) h (suc k) l = rw (add-suc, ← suc-add) (early_resets rs (suc i) ns (otherwise_none (refuse_if 14 0 i _) _ h).1 k (le_of_suc-le-suc l))
 
--- 27 and 28 of one cell
-pub record CellFine (nodes : List Node) (taken : List ℕ) (c : Cell) : Type 0 where
-  pub free : bad_results nodes taken (results c) ≡ false
-  pub operands_below : all_below (lowest (results c)) (operands c) ≡ true
-
-cell_fine : (nodes : List Node) (i : ℕ) (names : List Name) (taken : List ℕ) (c : Cell) → cell_fault nodes i names taken c ≡ none → CellFine nodes taken c
-unfolding cell_fault
-cell_fine nodes i names taken c h =
-    let a = otherwise_none (refuse_if 26 0 i _) _ h in
-    let b = otherwise_none (refuse_if 27 0 i _) _ a.1 in
-    record { free = refuse_if-none 27 0 i _ b.0; operands_below = not-false _ (refuse_if-none 28 0 i _ b.1) }
-
--- the cells in order, each after the results of those before it
-abbrev pub CellsFine : List Node → List ℕ → List Cell → Type 0
-CellsFine nodes taken [] = Unit {0}
-CellsFine nodes taken (c ∷ cs) = CellFine nodes taken c × CellsFine nodes (results c ++ taken) cs
-
-cells_fine : (nodes : List Node) (i : ℕ) (names : List Name) (taken : List ℕ) (cs : List Cell) → cells_fault nodes i names taken cs ≡ none → CellsFine nodes taken cs
-unfolding cells_fault
-cells_fine nodes i names taken [] h = tt
-cells_fine nodes i names taken (c ∷ cs) h =
-    let o = otherwise_none (cell_fault nodes i names taken c) _ h in
-    (cell_fine nodes i names taken c o.0, cells_fine nodes (suc i) (c.name ∷ names) (results c ++ taken) cs o.1)
-
-celled-nodes : (cs : List Cell) (i : ℕ) (ns : List Node) → result_fault cs i ns ≡ none → (k : ℕ) → k < length ns → (is_arithmetic_output (get_or ns k RegisterOutput) && cellless (cell_bit cs (i + k))) ≡ false
-unfolding result_fault
-celled-nodes cs i [] h k l = absurd (not-suc-le-zero l)
-celled-nodes cs i (n ∷ ns) h zero l = rw add-zero (refuse_if-none 27 0 i _ (otherwise_none (refuse_if 27 0 i _) _ h).0)
-celled-nodes cs i (n ∷ ns) h (suc k) l = rw (add-suc, ← suc-add) (celled-nodes cs (suc i) ns (otherwise_none (refuse_if 27 0 i _) _ h).1 k (le_of_suc-le-suc l))
-
 -- the facts of a design that no check refuses
 pub record Valid (d : Design) : Type 0 where
   pub below : (k : ℕ) → k < length d.nodes → all_below k (input_numbers (get_or d.nodes k RegisterOutput)) ≡ true
   pub connected : (r : Register) → Memᴰ r d.registers → Connected d.nodes r
   pub driven : (k : ℕ) → k < length d.nodes → (is_register_output (get_or d.nodes k RegisterOutput) && undriven (driver d.registers k)) ≡ false
-  pub cells : CellsFine d.nodes [] d.cells
-  pub celled : (k : ℕ) → k < length d.nodes → (is_arithmetic_output (get_or d.nodes k RegisterOutput) && cellless (cell_bit d.cells k)) ≡ false
   pub early : (k : ℕ) → k < length d.nodes → (is_register_output (get_or d.nodes k RegisterOutput) && late_driver k (driver d.registers k)) ≡ false
   pub clocks : (r : Register) → Memᴰ r d.registers → is_input_at (get_elem? d.nodes r.clock) ≡ true
 
@@ -107,16 +74,12 @@ valid_of d h =
     let a = otherwise_none (nodes_fault 0 [] d.nodes) _ h in
     let b = otherwise_none (registers_fault d.nodes 0 [] [] d.registers) _ a.1 in
     let c = otherwise_none (connection_fault d.registers 0 d.nodes) _ b.1 in
-    let u = otherwise_none (cells_fault d.nodes 0 [] [] d.cells) _ c.1 in
-    let v = otherwise_none (result_fault d.cells 0 d.nodes) _ u.1 in
-    let e = otherwise_none (reset_fault d.registers 0 d.nodes) _ v.1 in
+    let e = otherwise_none (reset_fault d.registers 0 d.nodes) _ c.1 in
     let f = otherwise_none (clock_fault d.nodes 0 d.registers) _ e.1 in
     record {
       below = λ k l. rw (zero-add k) at (nodes_fault-below 0 [] d.nodes a.0 k l);
       connected = registers-connected d.nodes 0 [] [] d.registers b.0;
       driven = λ k l. rw (zero-add k) at (connected-nodes d.registers 0 d.nodes c.0 k l);
-      cells = cells_fine d.nodes 0 [] [] d.cells u.0;
-      celled = λ k l. rw (zero-add k) at (celled-nodes d.cells 0 d.nodes v.0 k l);
       early = λ k l. rw (zero-add k) at (early_resets d.registers 0 d.nodes e.0 k l);
       clocks = clocks-inputs d.nodes 0 d.registers f.0;
     }

@@ -171,11 +171,11 @@ module _ (n : ℕ) (C : List Clause) where
         keep_ok k e t w.held.core.justified w.held.low w.held.at_head w.here (λ l q. q) (λ b h x l q. q)
         (true-low t p (other_literal c k) w.held.low (inv.on_trail (other_literal c k) v))
 
-    in_hand_lem : entry t p ≡ negate f
-    in_hand_lem = sym (negate-negate (entry t p)) ∙ ap negate (sym w.here)
+    in_hand : entry t p ≡ negate f
+    in_hand = sym (negate-negate (entry t p)) ∙ ap negate (sym w.here)
 
     f-placed : Earlier t (length t.trail) f
-    f-placed = (p, p_in, in_hand_lem)
+    f-placed = (p, p_in, in_hand)
 
     false-placed : (l : Literal) → value t l ≡ False → Earlier t (length t.trail) l
     false-placed l e = let o = inv.on_trail (negate l) (negate-true t l e) in (o.0, o.1, o.2)
@@ -209,7 +209,7 @@ module _ (n : ℕ) (C : List Clause) where
           all = λ i h. go i (before_other k e a i h);
           one = z.0;
           one_in = z.1;
-          one_here = in_hand_lem ∙ ap negate (sym z.2);
+          one_here = in_hand ∙ ap negate (sym z.2);
         }
       where
         front : (k : Slot) → Facing k → (x : ℕ) × (x < length c.literals) × (get_or c.literals x 0 ≡ f)

@@ -18,16 +18,11 @@ returns c =
 returns-2 : tie.Need-returns-2
 unfolding fault_of initial_and_size_fault
 returns-2 c =
-    let gate = c.before in
-    let gold = gate.before in
-    let told = gold.before.before.before.before.before.before.before.before.before in
+    let told = c.before.before.before.before.before.before.before.before.before in
     let i = told.before.before in
     let a = i.before.args in
-    λ s t v u. c.size-fault.ensures
-    ∙ sizes_of s t a.gold-design a.gate-design gold.cell-nodes.result gate.cell-nodes2.result a.depth (lent_of a.lent) v u (gold.cell-nodes.ensures.0 s) (gate.cell-nodes2.ensures.0 t)
+    λ s t v u. c.size-fault.ensures ∙ sizes_of s t a.gold-design a.gate-design a.depth (lent_of a.lent) v u
     ∙ second-decides (initial_fault _ _) _ (sym (i.initial-fault.ensures s t v u) ∙ ap fault_of told.enum_told.given.1)
 
 pub initial-and-size-fault-spec : {M : Type 1} → statement M
-initial-and-size-fault-spec =
-    tie.close
-    (tie.spec (λ c κs. search rules) (λ c. search rules) (λ c. search rules) (λ c. search rules) (λ c. search rules) (λ c κs. search rules) (λ c κs. search rules) (λ c. search rules) (λ c κs. search rules) returns returns-2)
+initial-and-size-fault-spec = tie.close (tie.spec (λ c κs. search rules) (λ c. search rules) (λ c. search rules) (λ c. search rules) (λ c. search rules) (λ c κs. search rules) returns returns-2)

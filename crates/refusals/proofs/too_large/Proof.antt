@@ -1,5 +1,5 @@
--- `too_large` tests (D + 1) × (F + S) + R. Assumes nothing.
-use Prim.Native.Nat.{◌+◌, ◌*◌, ◌≤◌}
+-- `too_large` tests (D + 1) × F + R. Assumes nothing.
+use Prim.Native.Nat.{◌+◌}
 use native.Mathlib.Omega.{arith}
 use native.Mathlib.Numerals.{add-one}
 use Rattle.refusals.specs.Refusals.{nodes_by}
@@ -8,19 +8,17 @@ use borrow.Author.Rules.{rules}
 use Rattle.refusals.proofs.too_large.Statement.{statement}
 use Rattle.refusals.proofs.too_large.Tie as tie
 
--- the sum of a cycle is small, and so are those of all cycles
-sum-small : (c : tie.After-nodes-per-cycle) → (c.before.args.depth + 1) * (c.nodes-per-cycle.result + c.before.args.cells) ≤ 65 * 402561
-sum-small c = product_small (c.before.args.depth + 1) (c.nodes-per-cycle.result + c.before.args.cells) 65 402561 (omega arith) (omega (arith, c.nodes-per-cycle.ensures.1))
-
 mul-result : tie.Need-overflow-mul-result
-mul-result c = omega (arith, sum-small c)
+mul-result c =
+    omega (arith, product_small (c.before.args.depth + 1) c.nodes-per-cycle.result 65 9345 (omega arith) c.nodes-per-cycle.ensures.1)
 
 add-result : tie.Need-overflow-add-result
-add-result c = omega (arith, sum-small c)
+add-result c =
+    omega (arith, product_small (c.before.args.depth + 1) c.nodes-per-cycle.result 65 9345 (omega arith) c.nodes-per-cycle.ensures.1)
 
 returns : tie.Need-returns
 unfolding nodes_by
 returns c = rw (c.nodes-per-cycle.ensures.0, add-one)
 
 pub too-large-spec : {M : Type 1} → statement M
-too-large-spec = tie.close (tie.spec (λ c κs. search rules) (λ c. search rules) (λ c. search rules) mul-result add-result returns)
+too-large-spec = tie.close (tie.spec (λ c κs. search rules) (λ c. search rules) mul-result add-result returns)

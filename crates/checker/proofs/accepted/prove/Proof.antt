@@ -4,16 +4,13 @@ use Rattle.model.specs.Check.{check_designs}
 use Rattle.calls.specs.Options.{options_of}
 use Rattle.refusals.specs.RefusalLaws.{accepted}
 use Rattle.checker.specs.Proving.{provable}
-use Rattle.checker.specs.ResultLaws.{most-small, answer_of_lem, proved, words_enough, cells_few}
+use Rattle.checker.specs.ResultLaws.{most-small, answer_of_lem, proved, words_enough}
 use borrow.Author.Rules.{rules}
 use Rattle.checker.proofs.accepted.prove.Statement.{statement}
 use Rattle.checker.proofs.accepted.prove.Tie as tie
 
 sides-requires : tie.Need-sides-requires
-sides-requires c κs =
-    let p = c.before.before.before.before.before.before.requires in
-    let few = cells_few _ _ _ _ _ _ _ _ p.2 in
-    (words_enough _ _ _ _ _ _ p.2, p.0, p.1, few.0, few.1)
+sides-requires c κs = let p = c.before.before.before.before.before.before.requires in (words_enough _ _ _ _ _ _ p.2, p.0, p.1)
 
 prove-sequential-equivalence-requires : tie.Need-prove-sequential-equivalence-requires
 unfolding options_of

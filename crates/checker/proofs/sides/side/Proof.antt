@@ -8,7 +8,7 @@ system-requires : tie.Need-system-requires
 system-requires c κs =
     let s = c.before.before in
     let p = s.requires in
-    lowerable s.args.design s.args.base _ p.0 p.1 p.2 p.3 p.4 p.5 p.6 p.7
+    lowerable s.args.design s.args.base _ p.0 p.1 p.2 p.3 p.4 p.5 p.6
 
 pub side-spec : {M : Type 1} → statement M
 side-spec = tie.close (tie.spec system-requires (λ c. search rules) (λ c. search rules))

@@ -9,14 +9,13 @@ side-requires : tie.Need-side-requires
 side-requires c κs =
     let p = c.before.before.before.before.requires in
     let v = p.1 in
-    (p.0, omega arith, omega arith, v.valid.within.sized, p.3, v.ordered.formed_inputs, v.ordered.formed_outputs, v.ordered.formed_registers)
+    (p.0, omega arith, omega arith, v.valid.within.sized, v.ordered.formed_inputs, v.ordered.formed_outputs, v.ordered.formed_registers)
 
 side-requires-2 : tie.Need-side-requires-2
 side-requires-2 c κs =
     let g = c.before.before.before in
-    let p = g.before.before.before.before.before.requires in
-    let v = p.2 in
-    (g.side.ensures.ready.long, omega arith, omega arith, v.valid.within.sized, p.4, v.ordered.formed_inputs, v.ordered.formed_outputs, v.ordered.formed_registers)
+    let v = g.before.before.before.before.before.requires.2 in
+    (g.side.ensures.ready.long, omega arith, omega arith, v.valid.within.sized, v.ordered.formed_inputs, v.ordered.formed_outputs, v.ordered.formed_registers)
 
 start-literals-requires : tie.Need-start-literals-requires
 start-literals-requires c κs = c.before.before.before.before.before.before.before.before.before.before.before.requires.1.ordered.formed_registers

@@ -1,32 +1,31 @@
--- `reads` marks what each cell reads after what the nodes and registers read: a number that is read is marked already, or read by one of the cells left. Assumes nothing.
+-- `reads` marks the data, enable and reset of each register after what the nodes read: a number that is read is marked already, or read by one of the registers left. Assumes nothing.
 use Prim.Native.Nat.{◌+◌, ◌-◌, ◌≤◌, ◌<◌}
 use mathlib.Core.Bool.{◌||◌}
 use native.Mathlib.Omega.{arith}
 use lib.ListN.{drop}
-use Rattle.model.specs.Validate.{nodes_read, registers_read, cells_read}
+use Rattle.model.specs.Validate.{nodes_read, registers_read}
 use Rattle.struo_ir.specs.Decoded.{decoded}
-use Rattle.cells.specs.CellWalkLaws.{cell-shaped}
 use Rattle.clock_reads.specs.Marks.{MarkedSoFar}
-use Rattle.clock_reads.specs.MarkLaws.{marks-kept, marks_joined, more-marks, all-marks}
-use Rattle.clock_reads.specs.ReadLaws.{operands-here, operands-done}
+use Rattle.clock_reads.specs.MarkLaws.{marks-kept, more-marks, all-marks}
+use Rattle.clock_reads.specs.ReadLaws.{data_here, data_done}
 use borrow.Author.Rules.{rules}
 use Rattle.clock_reads.proofs.reads.reads.Statement.{statement}
 use Rattle.clock_reads.proofs.reads.reads.Tie as tie
 
 abbrev invariant-loop : tie.invariant-loop
 invariant-loop netlist table₀ total i₀ table i =
-    (i ≤ netlist.cell_count)
-    × MarkedSoFar (λ s k. (nodes_read k (decoded s netlist).nodes || registers_read k (decoded s netlist).registers) || cells_read k (decoded s netlist).cells) (λ s k. cells_read k (drop i (decoded s netlist).cells)) table
+    (i ≤ netlist.register_count)
+    × MarkedSoFar (λ s k. nodes_read k (decoded s netlist).nodes || registers_read k (decoded s netlist).registers) (λ s k. registers_read k (drop i (decoded s netlist).registers)) table
 
 abbrev decreases-loop : tie.decreases-loop
 decreases-loop netlist table₀ total i₀ table i = total - i
 
 loop-holds : tie.Need-loop-init invariant-loop decreases-loop
-loop-holds c = (omega arith, marks-kept _ _ _ c.data_reads.ensures)
+loop-holds c = (omega arith, marks-kept _ _ _ c.node-reads.ensures)
 
--- the cell's number is below 64
-small : (c : tie.In-loop invariant-loop decreases-loop) → c.before.loop.i < 64
-small c = omega (arith, c.before.before.before.requires.cells_padded.fits)
+-- the register's number is below 128
+small : (c : tie.In-loop invariant-loop decreases-loop) → c.before.loop.i < 128
+small c = omega (arith, c.before.before.before.requires.registers_padded.fits)
 
 loop-again : tie.Need-loop-preserved invariant-loop decreases-loop
 loop-again c =
@@ -34,16 +33,13 @@ loop-again c =
     let b = l.before.before.before in
     let n = b.args.t1 in
     let i = l.before.loop.i in
-    let m = more-marks _ _ _ l.before.loop.invariant.1 (λ s k. cells_read k (drop (i + 1) (decoded s n).cells)) _ (operands-here n b.requires i _ l.loop-test.true) in
-    (omega arith, rw c.before.mark-operands.ensures m)
+    let m = more-marks _ _ _ l.before.loop.invariant.1 (λ s k. registers_read k (drop (i + 1) (decoded s n).registers)) _ (data_here n b.requires i l.loop-test.true) in
+    (omega arith, rw c.before.mark-data.ensures m)
 
 returns : tie.Need-returns invariant-loop decreases-loop
-returns c =
-    let n = c.before.before.before.args.t1 in
-    marks_joined (λ s k. nodes_read k (decoded s n).nodes) (λ s k. registers_read k (decoded s n).registers) (λ s k. cells_read k (decoded s n).cells) _
-    (all-marks _ _ _ c.before.loop.invariant.1 (operands-done _ _ c.loop-test.false))
+returns c = all-marks _ _ _ c.before.loop.invariant.1 (data_done _ _ c.loop-test.false)
 
 pub reads-spec : {M : Type 1} → statement M
 reads-spec =
     tie.close
-    (tie.spec invariant-loop decreases-loop (λ c κs. search rules) loop-holds (λ c. omega (arith, small c)) (λ c. omega (arith, small c)) (λ c. search rules) (λ c κs. cell-shaped _ c.before.before.before.before.before.requires _ _ (omega (arith, small c.before.before))) (λ c. search rules) (λ c. search rules) loop-again returns)
+    (tie.spec invariant-loop decreases-loop (λ c κs. search rules) loop-holds (λ c. omega (arith, small c)) (λ c. omega (arith, small c)) (λ c. search rules) (λ c κs. search rules) (λ c. search rules) (λ c. search rules) loop-again returns)

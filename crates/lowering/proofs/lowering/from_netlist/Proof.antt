@@ -1,6 +1,5 @@
 -- `from_netlist` meets its contract. Assumes nothing.
 use native.Mathlib.Omega.{arith}
-use Rattle.lowering.specs.Room.{walked-small}
 use Rattle.lowering.specs.System.{lowered}
 use borrow.Author.Rules.{rules}
 use Rattle.lowering.proofs.lowering.from_netlist.Statement.{statement}
@@ -8,34 +7,23 @@ use Rattle.lowering.proofs.lowering.from_netlist.Tie as tie
 
 lower-nodes-requires : tie.Need-lower-nodes-requires
 lower-nodes-requires c κs =
-    let t = c.before in
-    let d = t.before in
-    let s = d.before.before.before in
+    let s = c.before.before.before.before in
     let a = s.before.before.before in
-    (rw s.start-walk.ensures.0 s.start-walk.ensures.1.netted, rw s.start-walk.ensures.0 s.start-walk.ensures.1.walked, a.requires.3, d.drivers.ensures, t.cell-table.ensures, a.requires.4)
+    (rw s.start-walk.ensures.0 s.start-walk.ensures.1.netted, omega (arith, s.start-walk.ensures.0), a.requires.3, c.before.drivers.ensures)
 
 lower-registers-requires : tie.Need-lower-registers-requires
 lower-registers-requires c κs =
     let n = c.before.before.before in
-    let s = n.before.before.before.before.before.before in
+    let s = n.before.before.before.before.before in
     let a = s.before.before.before in
-    (n.lower-nodes.ensures.netted, walked-small _ a.requires.3 a.requires.4 _ _ (rw s.start-walk.ensures.0 s.start-walk.ensures.1.walked) _ _ n.lower-nodes.ensures, a.requires.3)
-
-copy-graph-requires : tie.Need-copy-graph-requires
-copy-graph-requires c κs =
-    let r = c.before.before.before.before.before in
-    let n = r.before.before.before.before in
-    let s = n.before.before.before.before.before.before in
-    let a = s.before.before.before in
-    let small = walked-small _ a.requires.3 a.requires.4 _ _ (rw s.start-walk.ensures.0 s.start-walk.ensures.1.walked) _ _ n.lower-nodes.ensures in
-    (r.lower-registers.ensures.netted.ready.long, a.requires.1, a.requires.2, omega (arith, small, r.lower-registers.ensures.within, a.requires.3.registers, c.wide.ensures))
+    (n.lower-nodes.ensures.netted, omega (arith, n.lower-nodes.ensures.within, s.start-walk.ensures.0, a.requires.3.nodes), a.requires.3)
 
 returns : tie.Need-returns
 returns c =
     let g = c.before.before.before.before in
     let r = g.before.before.before.before.before.before in
     let n = r.before.before.before.before in
-    let s = n.before.before.before.before.before.before in
+    let s = n.before.before.before.before.before in
     let a = s.before.before.before in
     lowered a.args.netlist a.args.base a.requires.1 a.requires.2 _ _ _ _ _ _ _ _ _ a.requires.3 s.start-walk.ensures.1
     (rw s.start-walk.ensures.0 at n.lower-nodes.ensures) r.lower-registers.ensures (rw g.before.wide.ensures at g.copy-graph.ensures.0) g.copy-graph.ensures.1
@@ -43,4 +31,4 @@ returns c =
 pub from-netlist-spec : {M : Type 1} → statement M
 from-netlist-spec =
     tie.close
-    (tie.spec (λ c κs. search rules) (λ c κs. search rules) (λ c κs. search rules) lower-nodes-requires lower-registers-requires (λ c κs. search rules) copy-graph-requires (λ c. search rules) returns)
+    (tie.spec (λ c κs. search rules) (λ c κs. search rules) lower-nodes-requires lower-registers-requires (λ c κs. search rules) (λ c κs. search rules) (λ c. search rules) returns)

@@ -34,7 +34,7 @@ loop-again c =
     let l = t.before.loop in
     let a = t.before.before.before in
     let small : l.i < 128 = omega (arith, t.loop-test.true, l.invariant.1, a.requires.2.registers) in
-    let room : length a.args.t3.registers ≡ 128 = simp length-map at a.well-formed.1.1.0.1.1.1.1.1.1.0.1.0.1 in (
+    let room : length a.args.t3.registers ≡ 128 = simp length-map at a.well-formed.1.1.0.1.1.1.1.1.0.1.0.1 in (
       omega (arith, t.loop-test.true),
       l.invariant.1,
       search rules,

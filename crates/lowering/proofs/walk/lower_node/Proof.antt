@@ -1,5 +1,5 @@
 -- `lower_node` meets its contract. Assumes nothing.
-use Rattle.lowering.specs.Nodes.{taken-gate, taken-register, taken-result}
+use Rattle.lowering.specs.Nodes.{taken-gate, taken-register}
 use borrow.Author.Rules.{rules}
 use Rattle.lowering.proofs.walk.lower_node.Statement.{statement}
 use Rattle.lowering.proofs.walk.lower_node.Tie as tie
@@ -15,19 +15,11 @@ returns c =
 returns-2 : tie.Need-returns-2
 returns-2 c =
     let d = c.before.before in
-    let j = d.before.before in
-    let a = j.before.before.before in
-    taken-result _ _ _ _ _ _ _ a.requires.0 a.requires.2 _ j.if2.true a.requires.7 d.lower-result.ensures
-
-returns-3 : tie.Need-returns-3
-returns-3 c =
-    let d = c.before.before in
-    let j = d.before.before in
-    let i = j.before in
+    let i = d.before.before in
     let a = i.before.before in
-    taken-gate _ _ _ _ _ _ _ a.requires.0 a.requires.2 i.if1.false j.if2.false d.lower-gate.ensures
+    taken-gate _ _ _ _ _ _ _ a.requires.0 a.requires.2 i.if1.false d.lower-gate.ensures
 
 pub lower-node-spec : {M : Type 1} → statement M
 lower-node-spec =
     tie.close
-    (tie.spec (λ c κs. search rules) (λ c κs. search rules) (λ c. search rules) returns (λ c κs. search rules) (λ c. search rules) returns-2 (λ c κs. search rules) (λ c. search rules) returns-3)
+    (tie.spec (λ c κs. search rules) (λ c κs. search rules) (λ c. search rules) returns (λ c κs. search rules) (λ c. search rules) returns-2)

@@ -6,16 +6,16 @@ use Rattle.netlist_checks.proofs.registers.nets_below.Statement.{statement}
 use Rattle.netlist_checks.proofs.registers.nets_below.Tie as tie
 
 returns : tie.Need-returns
-returns c = λ s. let a = c.before.before.args in data_not-below s a.register a.count c.if1.true
+returns c = λ s. let a = c.before.before.args in data_not-below s a.cell a.count c.if1.true
 
 returns-2 : tie.Need-returns-2
-returns-2 c = λ s. let a = c.before.before.before.before.args in clock-not-below s a.register a.count c.before.before.if1.false c.if2.true
+returns-2 c = λ s. let a = c.before.before.before.before.args in clock-not-below s a.cell a.count c.before.before.if1.false c.if2.true
 
 returns-3 : tie.Need-returns-3
-returns-3 c = λ s. let a = c.before.before.before.before.before.before.before.args in signals_below s a.register a.count c.before.before.before.before.before.if1.false c.before.before.before.if2.false (sym c.before.before.signal-below.ensures ∙ c.before.if3.true) _ c.signal-below2.ensures
+returns-3 c = λ s. let a = c.before.before.before.before.before.before.before.args in signals_below s a.cell a.count c.before.before.before.before.before.if1.false c.before.before.before.if2.false (sym c.before.before.signal-below.ensures ∙ c.before.if3.true) _ c.signal-below2.ensures
 
 returns-4 : tie.Need-returns-4
-returns-4 c = λ s. let a = c.before.before.before.before.before.before.args in enable-not-below s a.register a.count c.before.before.before.before.if1.false c.before.before.if2.false (sym c.before.signal-below.ensures ∙ c.if3.false)
+returns-4 c = λ s. let a = c.before.before.before.before.before.before.args in enable-not-below s a.cell a.count c.before.before.before.before.if1.false c.before.before.if2.false (sym c.before.signal-below.ensures ∙ c.if3.false)
 
 pub nets-below-spec : {M : Type 1} → statement M
 nets-below-spec =

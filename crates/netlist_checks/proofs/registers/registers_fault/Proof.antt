@@ -41,8 +41,8 @@ record_of c = c.before.before.before.args.bytes.now
 abbrev netlist-of : tie.In-loop invariant-loop decreases-loop → Netlist
 netlist-of c = c.before.before.before.args.t2
 
-abbrev register_of : tie.In-loop invariant-loop decreases-loop → RegisterCell
-register_of c = get_or (netlist-of c).registers c.before.loop.i no_register
+abbrev cell-of : tie.In-loop invariant-loop decreases-loop → RegisterCell
+cell-of c = get_or (netlist-of c).registers c.before.loop.i no_register
 
 -- the turn that a branch belongs to
 abbrev turn1 : tie.Else1 invariant-loop decreases-loop → tie.In-loop invariant-loop decreases-loop
@@ -58,15 +58,15 @@ abbrev turn4 : tie.Else4 invariant-loop decreases-loop → tie.In-loop invariant
 turn4 c = turn3 c.before.before.before
 
 -- the name is new
-fresh : (c : tie.Else1 invariant-loop decreases-loop) → let l = turn1 c in false ≡ member_name (name_at (record_of l) (register_of l).name) (names_before (record_of l) l.before.loop.names l.before.loop.i)
+fresh : (c : tie.Else1 invariant-loop decreases-loop) → let l = turn1 c in false ≡ member_name (name_at (record_of l) (cell-of l).name) (names_before (record_of l) l.before.loop.names l.before.loop.i)
 fresh c = sym c.if1.false ∙ c.before.repeated.ensures
 
 -- the output is a RegisterOutput
-shows : (c : tie.Else3 invariant-loop decreases-loop) → let l = turn3 c in is_register_output_at (get_elem? (decoded (record_of l) (netlist-of l)).nodes (register_of l).output) ≡ true
+shows : (c : tie.Else3 invariant-loop decreases-loop) → let l = turn3 c in is_register_output_at (get_elem? (decoded (record_of l) (netlist-of l)).nodes (cell-of l).output) ≡ true
 shows c = let l = turn3 c in output-inside (record_of l) (netlist-of l) l.before.before.before.pre _ c.before.before.before.if2.false ∙ eq-eqb _ _ c.if3.false
 
 -- the output is new
-free : (c : tie.Else4 invariant-loop decreases-loop) → let l = turn4 c in false ≡ member (register_of l).output (numbers_before l.before.loop.outputs l.before.loop.i)
+free : (c : tie.Else4 invariant-loop decreases-loop) → let l = turn4 c in false ≡ member (cell-of l).output (numbers_before l.before.loop.outputs l.before.loop.i)
 free c = sym c.if4.false ∙ c.before.taken.ensures
 
 returns : tie.Need-returns invariant-loop decreases-loop

@@ -7,11 +7,11 @@ use Rattle.netlist_checks.proofs.validate.after_connections.Tie as tie
 
 returns : tie.Need-returns
 unfolding after_connections
-returns c = stops _ _ _ c.before.before.cells-fault.ensures _ _ _ c.enum_told.given.1
+returns c = λ s. stops _ _ _ (c.before.before.reset-fault.ensures s) _ _ _ c.enum_told.given.1
 
 returns-2 : tie.Need-returns-2
 unfolding after_connections
-returns-2 c = goes_on _ _ _ c.before.before.before.cells-fault.ensures c.before.enum-told2.given.1 _ (c.after-cells.ensures c.before.before.before.before.before.before.args.bytes.now)
+returns-2 c = λ s. goes_on _ _ _ (c.before.before.before.reset-fault.ensures s) c.before.enum-told2.given.1 _ (c.after-resets.ensures s)
 
 pub after-connections-spec : {M : Type 1} → statement M
-after-connections-spec = tie.close (tie.spec (λ c κs. search rules) (λ c κs. search rules) (λ c. search rules) (λ c. search rules) (λ c κs. search rules) returns returns-2)
+after-connections-spec = tie.close (tie.spec (λ c κs. search rules) (λ c. search rules) (λ c. search rules) (λ c κs. search rules) returns returns-2)

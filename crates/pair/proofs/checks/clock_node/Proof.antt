@@ -10,7 +10,7 @@ use Rattle.pair.proofs.checks.clock_node.Tie as tie
 returns : tie.Need-returns
 returns c =
     let a = c.before.before.args in
-    let l : length a.t1.nodes ≡ 1024 = simp length-map at c.before.before.well-formed.0.1.1.1.1.1.0.1.0.1 in
+    let l : length a.t1.nodes ≡ 1024 = simp length-map at c.before.before.well-formed.0.1.1.1.1.0.1.0.1 in
     λ s. clock_in s a.t1 a.clock c.before.if1.true (omega arith)
 
 returns-2 : tie.Need-returns-2

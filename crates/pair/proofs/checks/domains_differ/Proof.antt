@@ -14,13 +14,13 @@ use Rattle.pair.proofs.checks.domains_differ.Tie as tie
 returns : tie.Need-returns
 returns c =
     let a = c.before.before.before.args in
-    let l : length a.t4.registers ≡ 128 = simp length-map at c.before.before.before.well-formed.1.1.1.0.1.1.1.1.1.1.0.1.0.1 in
+    let l : length a.t4.registers ≡ 128 = simp length-map at c.before.before.before.well-formed.1.1.1.0.1.1.1.1.1.0.1.0.1 in
     sym (differ-left a.gold.now a.gate.now a.t2 a.t4 (omega (arith, c.before.before.before.requires.1)) c.if1.true)
 
 returns-2 : tie.Need-returns-2
 returns-2 c =
     let a = c.before.before.before.before.args in
-    let l : length a.t2.registers ≡ 128 = simp length-map at c.before.before.before.before.well-formed.1.0.1.1.1.1.1.1.0.1.0.1 in
+    let l : length a.t2.registers ≡ 128 = simp length-map at c.before.before.before.before.well-formed.1.0.1.1.1.1.1.0.1.0.1 in
     let n : a.t2.register_count ≡ 0 → ⊥ = c.before.if1.false in
     let h : 0 < a.t2.register_count = omega arith in
     sym (differ-right a.gold.now a.gate.now a.t2 a.t4 (omega (arith, c.before.before.before.before.requires.0)) h c.if2.true)
@@ -30,8 +30,8 @@ returns-3 c =
     let a = c.before.before.before.before.before.before.before.before.before.before.before.args in
     let s = a.gold.now in
     let t = a.gate.now in
-    let lx : length a.t2.registers ≡ 128 = simp length-map at c.before.before.before.before.before.before.before.before.before.before.before.well-formed.1.0.1.1.1.1.1.1.0.1.0.1 in
-    let ly : length a.t4.registers ≡ 128 = simp length-map at c.before.before.before.before.before.before.before.before.before.before.before.well-formed.1.1.1.0.1.1.1.1.1.1.0.1.0.1 in
+    let lx : length a.t2.registers ≡ 128 = simp length-map at c.before.before.before.before.before.before.before.before.before.before.before.well-formed.1.0.1.1.1.1.1.0.1.0.1 in
+    let ly : length a.t4.registers ≡ 128 = simp length-map at c.before.before.before.before.before.before.before.before.before.before.before.well-formed.1.1.1.0.1.1.1.1.1.0.1.0.1 in
     let p = c.before.before.before.before.before.before.before.before.before.before.before.requires in
     let nx : a.t2.register_count ≡ 0 → ⊥ = c.before.before.before.before.before.before.before.before.if1.false in
     let ny : a.t4.register_count ≡ 0 → ⊥ = c.before.before.before.before.before.before.before.if2.false in

@@ -29,13 +29,13 @@ decreases-loop bytes netlist count first node k₀ k = count - k
 returns : tie.Need-returns invariant-loop decreases-loop
 returns c =
     let a = c.before.before.args in
-    let l : length a.t2.registers ≡ 128 = simp length-map at c.before.before.well-formed.1.0.1.1.1.1.1.1.0.1.0.1 in
+    let l : length a.t2.registers ≡ 128 = simp length-map at c.before.before.well-formed.1.0.1.1.1.1.1.0.1.0.1 in
     sym (domains-none a.bytes.now a.t2 (omega arith) c.if1.true)
 
 loop-holds : tie.Need-loop-init invariant-loop decreases-loop
 loop-holds c =
     let a = c.before.before.before.before.before.args in
-    let l : length a.t2.registers ≡ 128 = simp length-map at c.before.before.before.before.before.well-formed.1.0.1.1.1.1.1.1.0.1.0.1 in
+    let l : length a.t2.registers ≡ 128 = simp length-map at c.before.before.before.before.before.well-formed.1.0.1.1.1.1.1.0.1.0.1 in
     let n : a.t2.register_count ≡ 0 → ⊥ = c.before.before.before.if1.false in
     let h : 0 < a.t2.register_count = omega arith in (
       refl,
@@ -51,7 +51,7 @@ returns-2 c =
     let a = c.before.before.before.before.before.before.before.before.before.before.before.before.args in
     let t = c.before.before.before.before.before.before.loop in
     let s = a.bytes.now in
-    let l : length a.t2.registers ≡ 128 = simp length-map at c.before.before.before.before.before.before.before.before.before.before.before.before.well-formed.1.0.1.1.1.1.1.1.0.1.0.1 in
+    let l : length a.t2.registers ≡ 128 = simp length-map at c.before.before.before.before.before.before.before.before.before.before.before.before.well-formed.1.0.1.1.1.1.1.0.1.0.1 in
     let first = get_or a.t2.registers 0 no_register in
     let cell = get_or a.t2.registers t.k no_register in
     let e = c.before.same-domain.ensures
@@ -63,7 +63,7 @@ loop-again c =
     let a = c.before.before.before.before.before.before.before.before.before.before.before.before.args in
     let t = c.before.before.before.before.before.before.loop in
     let s = a.bytes.now in
-    let l : length a.t2.registers ≡ 128 = simp length-map at c.before.before.before.before.before.before.before.before.before.before.before.before.well-formed.1.0.1.1.1.1.1.1.0.1.0.1 in
+    let l : length a.t2.registers ≡ 128 = simp length-map at c.before.before.before.before.before.before.before.before.before.before.before.before.well-formed.1.0.1.1.1.1.1.0.1.0.1 in
     let first = get_or a.t2.registers 0 no_register in
     let cell = get_or a.t2.registers t.k no_register in
     let e = c.before.same-domain.ensures
@@ -74,7 +74,7 @@ returns-3 : tie.Need-returns-3 invariant-loop decreases-loop
 returns-3 c =
     let a = c.before.before.before.before.before.before.before.args in
     let t = c.before.loop in
-    let l : length a.t2.registers ≡ 128 = simp length-map at c.before.before.before.before.before.before.before.well-formed.1.0.1.1.1.1.1.1.0.1.0.1 in
+    let l : length a.t2.registers ≡ 128 = simp length-map at c.before.before.before.before.before.before.before.well-formed.1.0.1.1.1.1.1.0.1.0.1 in
     sym (t.invariant.5 ∙ ap not (domains-all a.bytes.now a.t2 (omega arith) _ t.k (omega arith)))
 
 pub many-domains-spec : {M : Type 1} → statement M

@@ -31,7 +31,7 @@ loop-again c =
     let a = c.before.before.before.before.args in
     let t = c.before.before.before.loop in
     let x = c.initial-bit.result in
-    let lr : length a.t1.registers ≡ 128 = simp length-map at c.before.before.before.before.well-formed.0.1.1.1.1.1.1.0.1.0.1 in
+    let lr : length a.t1.registers ≡ 128 = simp length-map at c.before.before.before.before.well-formed.0.1.1.1.1.1.0.1.0.1 in
     let w : t.k < length t.row = omega arith in (
       refl,
       omega arith,

@@ -7,24 +7,24 @@ use Rattle.run.proofs.run.shown_bit.Statement.{statement}
 use Rattle.run.proofs.run.shown_bit.Tie as tie
 
 returns : tie.Need-returns
-returns c = let a = c.before.before.before.args in sym (shown-none _ _ a.register c.if1.true)
+returns c = let a = c.before.before.before.args in sym (shown-none _ _ a.cell c.if1.true)
 
 returns-2 : tie.Need-returns-2
-returns-2 c = let a = c.before.before.before.before.before.args in sym (shown_synchronous _ _ a.register c.before.before.if1.false c.if2.true)
+returns-2 c = let a = c.before.before.before.before.before.args in sym (shown_synchronous _ _ a.cell c.before.before.if1.false c.if2.true)
 
 returns-3 : tie.Need-returns-3
 returns-3 c =
     let a = c.before.before.before.before.before.before.before.before.before.before.args in
     let k = c.before.before in
-    let e = signal-asserted a.values.now a.register.reset a.register.reset_signal k.before.before.wide.ensures k.before.bit_at.ensures k.asserted.ensures in
-    sym (shown-asynchronous a.values.now a.stored a.register c.before.before.before.before.before.before.before.if1.false c.before.before.before.before.before.if2.false ∙ rw (← e, c.before.if3.true))
+    let e = signal-asserted a.values.now a.cell.reset a.cell.reset_signal k.before.before.wide.ensures k.before.bit_at.ensures k.asserted.ensures in
+    sym (shown-asynchronous a.values.now a.stored a.cell c.before.before.before.before.before.before.before.if1.false c.before.before.before.before.before.if2.false ∙ rw (← e, c.before.if3.true))
 
 returns-4 : tie.Need-returns-4
 returns-4 c =
     let a = c.before.before.before.before.before.before.before.before.before.args in
     let k = c.before in
-    let e = signal-asserted a.values.now a.register.reset a.register.reset_signal k.before.before.wide.ensures k.before.bit_at.ensures k.asserted.ensures in
-    sym (shown-asynchronous a.values.now a.stored a.register c.before.before.before.before.before.before.if1.false c.before.before.before.before.if2.false ∙ rw (← e, c.if3.false))
+    let e = signal-asserted a.values.now a.cell.reset a.cell.reset_signal k.before.before.wide.ensures k.before.bit_at.ensures k.asserted.ensures in
+    sym (shown-asynchronous a.values.now a.stored a.cell c.before.before.before.before.before.before.if1.false c.before.before.before.before.if2.false ∙ rw (← e, c.if3.false))
 
 pub shown-bit-spec : {M : Type 1} → statement M
 shown-bit-spec =

@@ -20,7 +20,7 @@ returns-2 c =
     let a = c.before.before.before.before.before.args in
     let n : a.driver ≡ 0 → ⊥ = c.before.before.if1.false in
     let e : a.driver ≡ suc (a.driver - 1) = omega arith in
-    c.shown-bit.ensures ∙ ap (λ (b : Bool). shown_bit a.values.now b (cell_reset a.register)) c.before.bit_at.ensures ∙ ap (λ (j : ℕ). shown_by a.values.now a.stored.now j a.register) (sym e)
+    c.shown-bit.ensures ∙ ap (λ (b : Bool). shown_bit a.values.now b (cell_reset a.cell)) c.before.bit_at.ensures ∙ ap (λ (j : ℕ). shown_by a.values.now a.stored.now j a.cell) (sym e)
 
 pub shown-by-spec : {M : Type 1} → statement M
 shown-by-spec = tie.close (tie.spec (λ c. search rules) (λ c κs. search rules) (λ c κs. search rules) returns returns-2)

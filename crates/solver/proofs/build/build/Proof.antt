@@ -14,10 +14,10 @@ abbrev decreases-loop : tie.decreases-loop
 decreases-loop words₀ netlist again count₀ i₀ words count i = again - i
 
 loop-holds : tie.Need-loop-init invariant-loop decreases-loop
-loop-holds c = (search rules, search rules, built _ c.before.before.before.before.before.requires.2 _ _ _ _ _ c.before.before.from-netlist.ensures)
+loop-holds c = (search rules, search rules, built _ _ _ _ _ _ c.before.before.from-netlist.ensures)
 
 loop-again : tie.Need-loop-preserved invariant-loop decreases-loop
-loop-again c = (search rules, search rules, built _ c.before.before.before.before.before.before.before.before.before.before.before.requires.2 _ _ _ _ _ c.before.before.from-netlist2.ensures)
+loop-again c = (search rules, search rules, built _ _ _ _ _ _ c.before.before.from-netlist2.ensures)
 
 returns : tie.Need-returns invariant-loop decreases-loop
 returns c = c.before.loop.invariant.2

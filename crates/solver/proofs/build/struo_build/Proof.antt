@@ -1,8 +1,6 @@
 -- `struo_build` meets its contract: 0, or the size of the graph of an accepted record. Assumes nothing.
-use mathlib.Core.List.{[]}
-use native.Mathlib.Omega.{arith}
 use Rattle.struo_ir.specs.Reading.{read_of}
-use Rattle.solver.specs.Built.{read_short, read-refused, read_many, read-accepted}
+use Rattle.solver.specs.Built.{read_short, read-refused, read-accepted}
 use borrow.Author.Rules.{rules}
 use Rattle.solver.proofs.build.struo_build.Statement.{statement}
 use Rattle.solver.proofs.build.struo_build.Tie as tie
@@ -13,28 +11,16 @@ returns c = read_short _ _ c.if1.true
 returns-2 : tie.Need-returns-2
 unfolding read_of
 returns-2 c =
-    let r = c.before.before.before.before.before in
-    let a = r.before.before.before.before.args in
-    read_many _ _ r.before.if1.false _ _ _ r.read-record.ensures.0 c.before.before.enum-told2.given.1 (omega (arith, c.before.cell-nodes.ensures.0 a.«record».now, c.if2.true))
-
-build-requires : tie.Need-build-requires
-build-requires c κs = (search rules, search rules, omega (arith, c.before.before.cell-nodes.ensures.0 [], c.before.if2.false))
+    let r = c.before.before.before in
+    read-refused _ _ r.before.if1.false _ _ _ r.read-record.ensures.0 _ _ _ c.enum_told.given.1
 
 returns-3 : tie.Need-returns-3
 unfolding read_of
 returns-3 c =
-    let r = c.before.before.before in
-    read-refused _ _ r.before.if1.false _ _ _ r.read-record.ensures.0 _ _ _ c.enum_told.given.1
-
-returns-4 : tie.Need-returns-4
-unfolding read_of
-returns-4 c =
-    let i = c.before.before.before.before in
-    let r = i.before.before.before.before.before in
-    let a = r.before.before.before.before.args in
-    read-accepted _ _ r.before.if1.false _ _ _ r.read-record.ensures.0 i.before.before.enum-told2.given.1 (omega (arith, i.before.cell-nodes.ensures.0 a.«record».now, i.if2.false)) _ _ c.before.before.build.ensures
+    let r = c.before.before.before.before.before.before.before in
+    read-accepted _ _ r.before.if1.false _ _ _ r.read-record.ensures.0 c.before.before.before.before.enum-told2.given.1 _ _ c.before.before.build.ensures
 
 pub struo-build-spec : {M : Type 1} → statement M
 struo-build-spec =
     tie.close
-    (tie.spec returns (λ c κs. search rules) (λ c. search rules) (λ c. search rules) (λ c κs. search rules) returns-2 build-requires returns-3 (λ c. search rules) returns-4)
+    (tie.spec returns (λ c κs. search rules) (λ c. search rules) (λ c. search rules) (λ c κs. search rules) returns-2 (λ c. search rules) returns-3)

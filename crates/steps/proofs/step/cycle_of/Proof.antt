@@ -15,14 +15,14 @@ use Rattle.steps.proofs.step.cycle_of.Tie as tie
 
 returns : tie.Need-returns
 returns c =
-    let a = c.before.before.before.before.before.before.before.before.before.before.before.before.before.args in
+    let a = c.before.before.before.before.before.before.before.before.before.before.before.before.args in
     let d = a.side in
     let w = c.before.next-stored.ensures in
     λ s ins r.
     let dn = decoded s d.netlist in
     let st = take d.netlist.register_count a.rows.old in
     let v = node_values dn (row_inputs a.claim.now a.at ins) st in
-    let e : c.before.before.before.before.before.node-values.result ≡ padded 1024 v = c.before.before.before.before.before.node-values.ensures s ins r.ranked r.driven r.celled in
+    let e : c.before.before.before.before.before.node-values.result ≡ padded 1024 v = c.before.before.before.before.before.node-values.ensures s ins r.ranked r.driven in
     let h : Alike c.before.before.before.before.before.node-values.result v = λ k. ap (λ (l : List Bool). bit_at l k) e ∙ alike-padded 1024 v k in
     record {
       shown = λ o. c.before.before.before.output_row.ensures s ∙ ap (padded 128) (output_bits-alike dn _ v (places s d.outputs) h o);

@@ -13,18 +13,18 @@ use Rattle.struo_ir.proofs.nodes.read_node.Statement.{statement}
 use Rattle.struo_ir.proofs.nodes.read_node.Tie as tie
 
 -- the kind that was read
-kind-read : (c : tie.After-known-told2) → let a = c.before.before.before.before.before.args in let k = c.before.kind.given.0 in got k.0 k.1.0 ≡ kind_at a.version a.inputs a.outputs a.bytes.now a.at
+kind-read : (c : tie.After-known-told2) → let a = c.before.before.before.before.before.args in let k = c.before.kind.given.0 in got k.0 k.1.0 ≡ kind_at a.inputs a.outputs a.bytes.now a.at
 unfolding code_of
 kind-read c = known code_of c.before.kind.given.1 c.before.before.before.read-kind.ensures
 
 -- a node from its kind on, its name or value on
-from-kind : (c : tie.After-known-told2) → let a = c.before.before.before.before.before.args in let k = c.before.kind.given.0 in cell_detail k.0 a.bytes.now k.1.0 ≡ cell_at a.version a.inputs a.outputs a.bytes.now a.at
+from-kind : (c : tie.After-known-told2) → let a = c.before.before.before.before.before.args in let k = c.before.kind.given.0 in cell_detail k.0 a.bytes.now k.1.0 ≡ cell_at a.inputs a.outputs a.bytes.now a.at
 unfolding cell_at
 from-kind c =
     let a = c.before.before.before.before.before.args in
-    bind_got (kind_at a.version a.inputs a.outputs) cell_detail a.bytes.now a.at _ _ (kind-read c)
+    bind_got (kind_at a.inputs a.outputs) cell_detail a.bytes.now a.at _ _ (kind-read c)
 
-from_detail : (c : tie.After-known-told4) → let a = c.before.before.before.before.before.before.before.before.before.args in let k = c.before.before.before.before.before.kind.given.0 in let d = c.before.detail.given.0 in cell_inputs k.0 d.0 a.bytes.now d.1.0 ≡ cell_at a.version a.inputs a.outputs a.bytes.now a.at
+from_detail : (c : tie.After-known-told4) → let a = c.before.before.before.before.before.before.before.before.before.args in let k = c.before.before.before.before.before.kind.given.0 in let d = c.before.detail.given.0 in cell_inputs k.0 d.0 a.bytes.now d.1.0 ≡ cell_at a.inputs a.outputs a.bytes.now a.at
 unfolding cell_detail number_of
 from_detail c =
     let a = c.before.before.before.before.before.before.before.before.before.args in
@@ -34,13 +34,13 @@ from_detail c =
 
 -- a listed kind has at most three inputs
 few-read : tie.Need-read-inputs-requires
-few-read c κs = (search rules, omega (arith, c.inputs-per-kind.ensures, few_inputs _ _ (kind_listed _ _ _ _ _ _ _ (kind-read c.before.before.before.before.before))))
+few-read c κs = (search rules, omega (arith, c.inputs-per-kind.ensures, few_inputs _ (kind_listed _ _ _ _ _ _ (kind-read c.before.before.before.before.before))))
 
 returns : tie.Need-returns
 unfolding node_step code_of refuse cell_at
 returns c =
     let a = c.before.before.before.before.before.args in
-    bind_refused (kind_at a.version a.inputs a.outputs) cell_detail a.bytes.now a.at _ (known code_of c.before.number.given.1 c.before.before.before.read-kind.ensures)
+    bind_refused (kind_at a.inputs a.outputs) cell_detail a.bytes.now a.at _ (known code_of c.before.number.given.1 c.before.before.before.read-kind.ensures)
 
 returns-2 : tie.Need-returns-2
 unfolding node_step number_of refuse cell_detail

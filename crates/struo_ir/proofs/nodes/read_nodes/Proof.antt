@@ -9,20 +9,20 @@ use Rattle.struo_ir.proofs.nodes.read_nodes.Statement.{statement}
 use Rattle.struo_ir.proofs.nodes.read_nodes.Tie as tie
 
 abbrev invariant-loop : tie.invariant-loop
-invariant-loop bytes version count at nodes₀ inputs₀ outputs₀ next₀ i₀ nodes inputs outputs next i = NodesSoFar version bytes count at nodes inputs outputs next i
+invariant-loop bytes count at nodes₀ inputs₀ outputs₀ next₀ i₀ nodes inputs outputs next i = NodesSoFar bytes count at nodes inputs outputs next i
 
 abbrev decreases-loop : tie.decreases-loop
-decreases-loop bytes version count at nodes₀ inputs₀ outputs₀ next₀ i₀ nodes inputs outputs next i = count - i
+decreases-loop bytes count at nodes₀ inputs₀ outputs₀ next₀ i₀ nodes inputs outputs next i = count - i
 
 loop-holds : tie.Need-loop-init invariant-loop decreases-loop
-loop-holds c = let a = c.before.args in nodes-start a.version a.bytes.now a.count a.at
+loop-holds c = let a = c.before.args in nodes-start a.bytes.now a.count a.at
 
 returns : tie.Need-returns invariant-loop decreases-loop
 unfolding node_step
 returns c =
     let l = c.before.before.before.before.before in
     let a = l.before.before.args in
-    nodes-refused a.version a.bytes.now a.count a.at _ _ _ _ _ l.loop.invariant _ _ c.before.before.before.before.loop-test.true (known node_step c.before.number.given.1 c.before.before.before.read-node.ensures)
+    nodes-refused a.bytes.now a.count a.at _ _ _ _ _ l.loop.invariant _ _ c.before.before.before.before.loop-test.true (known node_step c.before.number.given.1 c.before.before.before.read-node.ensures)
 
 loop-again : tie.Need-loop-preserved invariant-loop decreases-loop
 unfolding node_step
@@ -30,13 +30,13 @@ loop-again c =
     let l = c.before.before.before.before.before.before.before in
     let a = l.before.before.args in
     rw (c.counted2.ensures, c.before.counted.ensures)
-    (nodes-more a.version a.bytes.now a.count a.at _ _ _ _ _ l.loop.invariant _ _ c.before.before.before.before.before.before.loop-test.true (omega arith) (known node_step c.before.before.before.node.given.1 c.before.before.before.before.before.read-node.ensures))
+    (nodes-more a.bytes.now a.count a.at _ _ _ _ _ l.loop.invariant _ _ c.before.before.before.before.before.before.loop-test.true (omega arith) (known node_step c.before.before.before.node.given.1 c.before.before.before.before.before.read-node.ensures))
 
 returns-2 : tie.Need-returns-2 invariant-loop decreases-loop
 returns-2 c =
     let l = c.before in
     let a = l.before.before.args in
-    nodes-done a.version a.bytes.now a.count a.at _ _ _ _ _ l.loop.invariant c.loop-test.false
+    nodes-done a.bytes.now a.count a.at _ _ _ _ _ l.loop.invariant c.loop-test.false
 
 pub read-nodes-spec : {M : Type 1} → statement M
 read-nodes-spec =

@@ -15,22 +15,22 @@ returns : tie.Need-returns
 unfolding number_of refuse nodes
 returns c =
     let a = c.before.before.before.before.before.before.args in
-    nodes-not-counted a.bytes.now a.at _ a.version _ _ _ c.no-nodes.ensures
-    (bind_refused (guard 6 (λ n. leb n 1024) number) (λ n. nodes_from (listed_kind a.version) n []) a.bytes.now a.at _
+    nodes-not-counted a.bytes.now a.at _ _ _ _ c.no-nodes.ensures
+    (bind_refused (guard 6 (λ n. leb n 1024) number) (λ n. nodes_from listed_kind n []) a.bytes.now a.at _
     (guard-refused 6 (λ n. leb n 1024) number a.bytes.now a.at _ (known number_of c.before.before.number.given.1 c.before.before.before.before.read_number.ensures)))
 
 returns-2 : tie.Need-returns-2
 unfolding number_of
 returns-2 c =
     let a = c.before.before.before.before.before.before.before.args in
-    nodes-counted a.bytes.now a.at _ _ _ (known number_of c.before.before.before.count.given.1 c.before.before.before.before.before.read_number.ensures) a.version _ c.before.if1.true c.read-nodes.ensures
+    nodes-counted a.bytes.now a.at _ _ _ (known number_of c.before.before.before.count.given.1 c.before.before.before.before.before.read_number.ensures) _ c.before.if1.true c.read-nodes.ensures
 
 returns-3 : tie.Need-returns-3
 unfolding number_of refuse nodes
 returns-3 c =
     let a = c.before.before.before.before.before.before.before.args in
-    nodes-not-counted a.bytes.now a.at _ a.version _ _ _ c.no-nodes2.ensures
-    (bind_refused (guard 6 (λ n. leb n 1024) number) (λ n. nodes_from (listed_kind a.version) n []) a.bytes.now a.at _
+    nodes-not-counted a.bytes.now a.at _ _ _ _ c.no-nodes2.ensures
+    (bind_refused (guard 6 (λ n. leb n 1024) number) (λ n. nodes_from listed_kind n []) a.bytes.now a.at _
     (guard_failed 6 (λ n. leb n 1024) number a.bytes.now a.at _ _ (known number_of c.before.before.before.count.given.1 c.before.before.before.before.before.read_number.ensures) (sym (lt-leb _ _ c.before.if1.false))))
 
 pub read-counted-nodes-spec : {M : Type 1} → statement M

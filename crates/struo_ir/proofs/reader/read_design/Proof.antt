@@ -3,7 +3,7 @@ use mathlib.Core.Path.{◌≡◌, sym, ◌∙◌}
 use mathlib.Core.Bool.{true}
 use native.Mathlib.Omega.{arith}
 use Rattle.model.specs.Record.{length_fits}
-use Rattle.struo_ir.specs.ReadingLaws.{read-refused, fitting, unsized, unversioned_low, unversioned_high, versioned}
+use Rattle.struo_ir.specs.ReadingLaws.{read-refused, fitting, unsized, unversioned, versioned}
 use borrow.Author.Rules.{rules}
 use Rattle.struo_ir.proofs.reader.read_design.Statement.{statement}
 use Rattle.struo_ir.proofs.reader.read_design.Tie as tie
@@ -12,25 +12,22 @@ use Rattle.struo_ir.proofs.reader.read_design.Tie as tie
 fits : (c : tie.Then1) → let s = c.before.before.before.args.bytes.now in length_fits s ≡ true
 fits c = sym c.before.length-fits.ensures ∙ c.if1.true
 
-shared-slice-read-version : tie.Need-shared-slice-read-version
-shared-slice-read-version c = omega (arith, (fitting _ (fits c.before)).0)
+shared-slice-read-if2 : tie.Need-shared-slice-read-if2
+shared-slice-read-if2 c = omega (arith, (fitting _ (fits c.before)).0)
 
 read-fields-requires : tie.Need-read-fields-requires
-read-fields-requires c κs = (fitting _ (fits c.before.before.before)).1
+read-fields-requires c κs = (fitting _ (fits c.before.before)).1
 
 returns : tie.Need-returns
-returns c = let s = c.before.before.before.before.before.before.args.bytes.now in (read-refused s _ _ _ c.refusal.ensures.0 ∙ unversioned_low s (fits c.before.before.before) c.before.if2.true, c.refusal.ensures.1)
+returns c = (c.read-fields.ensures.0 ∙ versioned _ (fits c.before.before.before) c.before.if2.true, c.read-fields.ensures.1)
 
 returns-2 : tie.Need-returns-2
-returns-2 c = let s = c.before.before.before.before.before.before.before.args.bytes.now in (read-refused s _ _ _ c.refusal2.ensures.0 ∙ unversioned_high s (fits c.before.before.before.before) c.before.before.if2.false c.before.if3.true, c.refusal2.ensures.1)
+returns-2 c = let s = c.before.before.before.before.before.before.args.bytes.now in (read-refused s _ _ _ c.refusal.ensures.0 ∙ unversioned s (fits c.before.before.before) c.before.if2.false, c.refusal.ensures.1)
 
 returns-3 : tie.Need-returns-3
-returns-3 c = (c.read-fields.ensures.0 ∙ versioned _ (fits c.before.before.before.before) c.before.before.if2.false c.before.if3.false, c.read-fields.ensures.1)
-
-returns-4 : tie.Need-returns-4
-returns-4 c = let s = c.before.before.before.before.args.bytes.now in (read-refused s _ _ _ c.refusal3.ensures.0 ∙ unsized s (sym c.before.before.length-fits.ensures ∙ c.before.if1.false), c.refusal3.ensures.1)
+returns-3 c = let s = c.before.before.before.before.args.bytes.now in (read-refused s _ _ _ c.refusal2.ensures.0 ∙ unsized s (sym c.before.before.length-fits.ensures ∙ c.before.if1.false), c.refusal2.ensures.1)
 
 pub read-design-spec : {M : Type 1} → statement M
 read-design-spec =
     tie.close
-    (tie.spec (λ c κs. search rules) shared-slice-read-version (λ c κs. search rules) returns (λ c κs. search rules) returns-2 read-fields-requires (λ c κs. search rules) returns-3 returns-4)
+    (tie.spec (λ c κs. search rules) shared-slice-read-if2 read-fields-requires (λ c κs. search rules) (λ c κs. search rules) returns returns-2 returns-3)

@@ -3,8 +3,8 @@ use mathlib.Core.Path.{refl, sym}
 use lib.ListN.{get_or-eq_default}
 use Rattle.model.specs.Run.{bit_at}
 use borrow.Author.Rules.{rules}
-use Rattle.run.proofs.bits.bit_at.Statement.{statement}
-use Rattle.run.proofs.bits.bit_at.Tie as tie
+use Rattle.run.proofs.run.bit_at.Statement.{statement}
+use Rattle.run.proofs.run.bit_at.Tie as tie
 
 returns : tie.Need-returns
 unfolding bit_at

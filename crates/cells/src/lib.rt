@@ -1,2 +1,0 @@
-// The bits of a netlist's arithmetic cells by net.
-pub mod table;
