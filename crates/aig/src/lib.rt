@@ -1,4 +1,6 @@
 // The and-inverter graph in lent words: aig.rs with its nodes in GRAPH_LHS and GRAPH_RHS, and the lookup of an earlier pair by chains.
+#![tactic(auto)]
+
 ghost use Rattle.std.specs.Prelude.{◌≡◌, map, ◌+◌, ◌*◌, ◌≤◌, ◌<◌, length, take};
 ghost use Rattle.words.specs.Layout.{LENT, MOST-NODES, VALUES};
 ghost use Rattle.words.specs.Region.{region};
@@ -15,13 +17,13 @@ use literals::Literal;
 use words::{AND_HEADS, AND_NEXT, DOUBLE, GRAPH_LHS, GRAPH_RHS, SMALL, VALUES, fetch, stash, wide};
 
 // The graph: how many nodes it has, node 0 among them; the nodes lie in the words.
-#[derive(Drop)]
+#[derive(Clone, Copy)]
 pub struct Aig {
     pub count: u32,
 }
 
 // A graph and a literal of it: what each operation returns.
-#[derive(Drop)]
+#[derive(Clone, Copy)]
 pub struct Built {
     pub aig: Aig,
     pub literal: Literal,
@@ -229,7 +231,7 @@ impl Aig {
 }
 
 // What an operation answers without a node.
-#[derive(Drop)]
+#[derive(Clone, Copy)]
 pub enum Shortcut {
     Known(Literal),
     Unknown,

@@ -21,7 +21,7 @@ use Rattle.assignment.specs.declared.state.Trail.{Trail}
 use Rattle.assignment.specs.declared.state.Activity.{Activity}
 use Rattle.analysis.specs.declared.state.Analysis.{Analysis}
 use Rattle.analysis.specs.Analysis.{seen_of, analysis_of, analysis_regions, Unmarked, Ranged, Able, Sees, literals_at, clauses_from, view_of, Begins, Closes, Bounded, Analyzes}
-use Rattle.analysis.specs.SeeLaws.{nothing_seen, literals_grow, seen_of, learned-length}
+use Rattle.analysis.specs.SeeLaws.{nothing_seen, literals_grow, seen_of_lem, learned-length}
 
 -- ---- the solver as an analysis sees it
 
@@ -222,7 +222,7 @@ module _ (count : ℕ) (t : Trail) (conflict : ℕ) (activity : Activity) (w₀ 
           let x : Sat.resolve_round S (analysis_of t a w s) i id v ≡ Sat.resolve_below (assignment_of t w₀) (analysis_of t a₁ w₁ s₁) i
           = ap (λ (y : Sat.Analysis). Sat.resolve_below S.assignment y i) (seen_then ∙ sym q.is) ∙ ap (λ (u : Sat.Assignment). Sat.resolve_below u (analysis_of t a₁ w₁ s₁) i) view_assignment in
           let f = assignment-is frame₁ in
-          x ∙ below-is (assignment_of t w₀) (analysis_of t a₁ w₁ s₁) (analysis_of t a₂ w₂ s₁) i j p (rw (seen_of t a₁ w₁ s₁, ← f) m) (rw (← f) e) (c.is s₁) ∙ rw (opened_of t a₂ w₂ s₁)
+          x ∙ below-is (assignment_of t w₀) (analysis_of t a₁ w₁ s₁) (analysis_of t a₂ w₂ s₁) i j p (rw (seen_of_lem t a₁ w₁ s₁, ← f) m) (rw (← f) e) (c.is s₁) ∙ rw (opened_of t a₂ w₂ s₁)
 
       -- no mark is above this analysis' stamp
       pub marks₂ : Unmarked (count + 1) t.variables w₂

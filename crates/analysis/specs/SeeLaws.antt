@@ -192,9 +192,9 @@ pub sees_it : (t : Trail) (a r : Analysis) (w w' : List ℕ) (s s' : List Float)
     → Sees 1 t a w s (Sat.see_unless (assignment_of t w) (analysis_of t a w s) l false) r w' s' → Sees 1 t a w s (saw (assignment_of t w) v (analysis_of t a w s) l) r w' s'
 sees_it t a r w w' s s' v l e q = rw e at q
 
-pub seen_of : (t : Trail) (a : Analysis) (w : List ℕ) (s : List Float) → (analysis_of t a w s).seen ≡ seen_of a.stamp t w
+pub seen_of_lem : (t : Trail) (a : Analysis) (w : List ℕ) (s : List Float) → (analysis_of t a w s).seen ≡ seen_of a.stamp t w
 unfolding analysis_of
-seen_of t a w s = refl
+seen_of_lem t a w s = refl
 
 -- ---- the literals of a clause
 

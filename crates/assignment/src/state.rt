@@ -1,7 +1,7 @@
 // The types of this crate's arguments and answers.
 
 // What a literal is assigned.
-#[derive(Drop)]
+#[derive(Clone, Copy)]
 pub enum Value {
     False,
     Unassigned,
@@ -10,7 +10,7 @@ pub enum Value {
 
 // The numbers of the assignment that are not in lent words: how many variables, counted with variable 0; how many literals the
 // trail holds, and how many of them are propagated; and the decision level, which is the number of trail limits.
-#[derive(Drop)]
+#[derive(Clone, Copy)]
 pub struct Trail {
     pub variables: usize,
     pub length: usize,
@@ -19,14 +19,14 @@ pub struct Trail {
 }
 
 // The answer of `enqueue`: whether the literal is true now, and the trail.
-#[derive(Drop)]
+#[derive(Clone, Copy)]
 pub struct Enqueued {
     pub ok: bool,
     pub trail: Trail,
 }
 
 // The search's increment of a score, the decay that divides it after a conflict, and the ceiling above which all scores are rescaled.
-#[derive(Drop)]
+#[derive(Clone, Copy)]
 pub struct Activity {
     pub increment: f64,
     pub decay: f64,
@@ -34,7 +34,7 @@ pub struct Activity {
 }
 
 // The answer of `choose_variable`.
-#[derive(Drop)]
+#[derive(Clone, Copy)]
 pub enum Choice {
     Nothing,
     Variable(u32),

@@ -8,7 +8,7 @@ ghost use Rattle.calls.specs.Faults.{refusal};
 
 // What a read answers: 0 or the refusal's number, the side, which is 0, and the place.
 #[repr(C)]
-#[derive(Drop)]
+#[derive(Clone, Copy)]
 pub struct ReadAnswer {
     pub number: u32,
     pub side: u32,
@@ -17,7 +17,7 @@ pub struct ReadAnswer {
 
 // What a replay answers: 0 or the refusal's number, the side and the place; and yes or no, which is no where it is refused.
 #[repr(C)]
-#[derive(Drop)]
+#[derive(Clone, Copy)]
 pub struct ReplayAnswer {
     pub number: u32,
     pub side: u32,
@@ -26,7 +26,7 @@ pub struct ReplayAnswer {
 }
 
 // A query that a check asked: its depth, its number, and its total of learned literals.
-#[derive(Drop)]
+#[derive(Clone, Copy)]
 pub struct Asked {
     pub depth: u32,
     pub query: u32,
@@ -34,7 +34,7 @@ pub struct Asked {
 }
 
 // What a check has proved of the outputs: nothing, or that they are equal in every cycle through this one.
-#[derive(Drop)]
+#[derive(Clone, Copy)]
 pub enum Proved {
     Nothing,
     Through(u32),
@@ -45,7 +45,7 @@ pub enum Proved {
 // largest total of learned literals, with depth and number of the first that has it; for GaveUp also whether outputs are proved equal through a
 // cycle, and through which. Unused numbers are 0.
 #[repr(C)]
-#[derive(Drop)]
+#[derive(Clone, Copy)]
 pub struct CheckAnswer {
     pub number: u32,
     pub side: u32,

@@ -1,4 +1,6 @@
 // What the calls take and answer: options, faults, the lent position, and the answers as C has them. One home for each, from the reader to the public library.
+#![tactic(auto)]
+
 pub mod answers;
 pub mod fault;
 pub mod options;

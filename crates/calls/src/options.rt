@@ -6,7 +6,7 @@ ghost use Rattle.model.specs.Options.{first_query};
 pub const LIMIT: u64 = 262144;
 
 // The maximum depth and the limit of learned literals in one query, each tested as it came; and whether cycle 0 alone is put first.
-#[derive(Drop)]
+#[derive(Clone, Copy)]
 pub struct Options {
     pub depth: u64,
     pub limit: u64,
@@ -21,7 +21,7 @@ pub fn first_query(earliest: bool) -> u32
 }
 
 // How many trace bytes, words and scores are lent.
-#[derive(Drop)]
+#[derive(Clone, Copy)]
 pub struct Lent {
     pub trace: usize,
     pub words: usize,

@@ -15,8 +15,8 @@ use Rattle.model.specs.Equivalence.{Problem, Outcome, prove_sequential_equivalen
 use Rattle.model.specs.Pair.{Lent, both, refused_pair, read_pair, check_fault}
 use Rattle.model.specs.Check.{CheckResult, refused_check, accepted_check, problem_of, check_designs, check_pair, check_read, check_outcome, verdict_answer, verdict_trace, check_answer, trace_after, cleared_after, check_result, lent_of}
 use Rattle.laws.specs.Terms.{proved_by_place}
-use Rattle.laws.specs.Check.Asked.{largest_within}
-use Rattle.laws.specs.Check.Proved.{prove_place}
+use Rattle.laws.proofs.Check.Asked.{largest_within}
+use Rattle.laws.proofs.Check.Proved.{prove_place}
 use Rattle.calls.specs.Answers.{asked_of, check_of, checked_of}
 use Rattle.calls.specs.declared.answers.Asked.{Asked}
 use Rattle.calls.specs.declared.answers.CheckAnswer.{CheckAnswer}

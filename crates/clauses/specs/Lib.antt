@@ -11,6 +11,5 @@ pub mod AddLaws
 pub mod EncodeLaws
 pub mod PoolLaws
 pub mod GateLaws
-pub mod ClearLaws
 pub mod AssumptionLaws
 pub mod StartLaws

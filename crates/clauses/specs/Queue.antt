@@ -81,7 +81,7 @@ push_own q l x r = go (get_or q.counts l 0) refl
   where
     go : (n : ℕ) → get_or q.counts l 0 ≡ n → queue (pushed q l x) l ≡ queue q l ++ (x ∷ [])
     go zero e = rw (get_or-set_same q.counts l _ 0 r.room.1, e, get_or-set_same q.heads l x 0 r.room.0)
-    go (suc n) e = rw (get_or-set_same q.counts l _ 0 r.room.1, e, add-one, ne_eqb (suc n) 0 (λ (z : suc n ≡ 0). omega arith))
+    go (suc n) e = rw (get_or-set_same q.counts l _ 0 r.room.1, ne_eqb (get_or q.counts l 0) 0 (λ (z : get_or q.counts l 0 ≡ 0). omega arith), e, add-one)
         (walk_more q.links _ x n _ (r.cell (omega arith)) (rw e at r.own))
 
 -- a walk that does not pass the tail of l is not changed by a push to l

@@ -3,14 +3,14 @@ use assignment::state::Trail;
 use literals::Literal;
 
 // How many clauses there are, and how many literals they have together.
-#[derive(Drop)]
+#[derive(Clone, Copy)]
 pub struct Store {
     pub clauses: usize,
     pub literals: usize,
 }
 
 // A clause as it is read: its literals lie in the pool from `start` up to `end`; the two watched ones.
-#[derive(Drop)]
+#[derive(Clone, Copy)]
 pub struct Clause {
     pub start: u32,
     pub end: u32,
@@ -19,21 +19,21 @@ pub struct Clause {
 }
 
 // A literal of a clause that can be watched instead of a false one, or none.
-#[derive(Drop)]
+#[derive(Clone, Copy)]
 pub enum Spare {
     Found(Literal),
     Nothing,
 }
 
 // What is encoded so far: the clauses, and whether one without a literal was asked for.
-#[derive(Drop)]
+#[derive(Clone, Copy)]
 pub struct Encoding {
     pub store: Store,
     pub inconsistent: bool,
 }
 
 // A search before its first step: its clauses and its assignment.
-#[derive(Drop)]
+#[derive(Clone, Copy)]
 pub struct Encoded {
     pub encoding: Encoding,
     pub trail: Trail,

@@ -1,4 +1,6 @@
 // The check that no clock is read as data: 30 an Input that clocks a register and that a node or a register reads.
+#![tactic(auto)]
+
 pub mod clocks;
 pub mod marks;
 pub mod reads;

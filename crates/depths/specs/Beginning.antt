@@ -8,7 +8,7 @@ use Rattle.model.specs.Options.{first_query}
 use Rattle.model.specs.Equivalence as Model
 use Rattle.model.specs.Equivalence.{Proving, undecided, decided, base_counterexample, depths, query0, before_query1, prove_sequential_equivalence, largest_from, largest_learned}
 use Rattle.model.specs.Check.{verdict_answer, verdict_trace}
-use Rattle.laws.specs.Check.Asked.{asked-first, largest_from-first}
+use Rattle.laws.proofs.Check.Asked.{asked-first, largest_from-first}
 use Rattle.calls.specs.Answers.{asked_of}
 use Rattle.calls.specs.declared.answers.Asked.{Asked}
 use Rattle.unrolling.specs.Side.{Untouched}

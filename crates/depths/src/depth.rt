@@ -11,7 +11,7 @@ use queries::query::{find_counterexample, induction_fails, named_state_differs};
 use sat::state::Answer;
 
 // What the queries so far decide, with the most learned so far.
-#[derive(Drop)]
+#[derive(Clone, Copy)]
 pub enum Decision {
     Undecided(Asked),
     Decided(Outcome),

@@ -1,4 +1,6 @@
 // The designs of the specification's cases that are run, as records.
+#![tactic(auto)]
+
 pub mod record;
 
 use crate::record::{

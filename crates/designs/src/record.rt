@@ -1,7 +1,7 @@
 // A record in the making, by value: nodes first, then registers, all clocked by node 0, rising, with a synchronous reset to 0 from node 1.
 
 // The bytes so far, how many, and how many nodes they hold.
-#[derive(Drop)]
+#[derive(Clone, Copy)]
 pub struct Record {
     pub length: usize,
     pub nodes: u16,

@@ -1,4 +1,6 @@
 // The register that drives each net of a netlist: one table by net, for the checks, the run and the lowering.
+#![tactic(auto)]
+
 ghost use Rattle.std.specs.Prelude.{◌≡◌, ◌+◌, ◌<◌, ◌%◌};
 ghost use Rattle.struo_ir.specs.Designs.{Sized};
 ghost use Rattle.drivers.specs.Drivers.{Drivers};

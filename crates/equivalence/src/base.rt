@@ -11,7 +11,7 @@ use transition::system::System;
 use unrolling::cycle::import_frames;
 
 // A graph, the states of both sides, and the mismatch of all cycles so far: query 1 and 2 between two cycles.
-#[derive(Drop)]
+#[derive(Clone, Copy)]
 pub struct Base {
     pub aig: Aig,
     pub gold_state: [u32; 128],

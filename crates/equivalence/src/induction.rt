@@ -18,7 +18,7 @@ use unrolling::cycle::compared_cycle;
 use unrolling::variables::{gate_variables, new_variables};
 
 // A graph, the states of both sides, and the assumptions so far.
-#[derive(Drop)]
+#[derive(Clone, Copy)]
 pub struct Induction {
     pub aig: Aig,
     pub gold_state: [u32; 128],

@@ -4,9 +4,7 @@ use Rattle.model.specs.Kinds.{input_kind, output_kind}
 use Rattle.model.specs.Names.{Name}
 use Rattle.model.specs.Record.{Step, got, refused, Reader, refuse, guard, code, listed_kind}
 use Rattle.fields.specs.declared.Code.{Code}
-use Rattle.fields.specs.declared.Code.TheVariants as Code
 use Rattle.fields.specs.declared.Number.{Number}
-use Rattle.fields.specs.declared.Number.TheVariants as Number
 
 -- the step of a byte
 unfoldable pub code_of : Code → Step ℕ

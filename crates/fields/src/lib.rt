@@ -1,4 +1,6 @@
 // The fields of a record, each read at an offset. A refusal has its number and the offset of its field.
+#![tactic(auto)]
+
 pub mod kinds;
 
 ghost use Rattle.std.specs.Prelude.{◌≡◌, ◌+◌, ◌≤◌, length};
@@ -8,14 +10,14 @@ ghost use Rattle.fields.specs.Fields.{code_of, number_of, placed, room_for, kind
 use crate::kinds::{AND, CONSTANT, INPUT, MUX, NOT, OR, OUTPUT, REGISTER_OUTPUT, XOR};
 
 // A byte with its next offset, or a refusal.
-#[derive(Drop)]
+#[derive(Clone, Copy)]
 pub enum Code {
     Got(u8, u32),
     Refused(u8, u32),
 }
 
 // A 2-byte number, or the place of a name, with its next offset; or a refusal.
-#[derive(Drop)]
+#[derive(Clone, Copy)]
 pub enum Number {
     Got(u16, u32),
     Refused(u8, u32),

@@ -1,4 +1,6 @@
 // The import of a transition graph into the proof graph: import_aig and remap_literal of equivalence.rs, with the imported literals in IMPORTED.
+#![tactic(auto)]
+
 ghost use Rattle.std.specs.Prelude.{◌≡◌, ◌+◌, ◌≤◌, ◌<◌, length};
 ghost use Rattle.words.specs.Layout.{LENT, IMPORTED};
 ghost use Rattle.words.specs.Region.{region};

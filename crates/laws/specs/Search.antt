@@ -39,6 +39,4 @@ pub mod Ending
 pub mod Limits
 -- every state that it reaches
 pub mod Counts
-pub mod Reached
 pub mod Reachable
-pub mod Answered

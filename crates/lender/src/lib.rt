@@ -1,5 +1,7 @@
 // What the programs share: the memory that they lend to a check, which lies on their stack, so that they are run under a larger stack limit; and the
 // fields of a text.
+#![tactic(auto)]
+
 pub mod text;
 
 ghost use Rattle.std.specs.Prelude.{◌≡◌, length};

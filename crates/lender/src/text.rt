@@ -2,14 +2,14 @@
 ghost use Rattle.std.specs.Prelude.{◌+◌, ◌<◌, ◌≤◌, length};
 
 // A number and the offset after it.
-#[derive(Drop)]
+#[derive(Clone, Copy)]
 pub struct Decimal {
     pub value: u64,
     pub next: usize,
 }
 
 // How many bytes were read, and the offset after their digits.
-#[derive(Drop)]
+#[derive(Clone, Copy)]
 pub struct Bytes {
     pub count: usize,
     pub next: usize,

@@ -1,9 +1,11 @@
 // A literal of the graph and of the search: its node by right shift, its inversion by the low bit, its negation by exclusive or with 1.
+#![tactic(auto)]
+
 ghost use Rattle.std.specs.Prelude.{◌≡◌, ◌*◌, ◌<◌};
 ghost use Rattle.model.specs.Literal.{node, inverted, negate};
 
 // A node with a sign: twice the node's number, plus one if inverted.
-#[derive(Drop)]
+#[derive(Clone, Copy)]
 pub struct Literal(pub u32);
 
 impl Literal {

@@ -1,4 +1,6 @@
 // A decoded design lowered to its transition graph in lent words: nodes, registers and resets in record order.
+#![tactic(auto)]
+
 pub mod copy;
 pub mod gates;
 pub mod lowering;

@@ -12,7 +12,7 @@ use struo_ir::netlist::Netlist;
 use words::wide;
 
 // A transition system: how many nodes its graph has, and by register number the next-state literals and the numbers of the variables' nodes.
-#[derive(Drop)]
+#[derive(Clone, Copy)]
 pub struct TransitionSystem {
     pub count: u32,
     pub next: [u32; 128],

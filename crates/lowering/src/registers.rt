@@ -37,7 +37,7 @@ fn enabled(aig: Aig, words: &mut [u32], register: RegisterCell, state: Literal) 
 }
 
 // A register lowered: the graph, its next-state literal, and the number of its variable's node.
-#[derive(Drop)]
+#[derive(Clone, Copy)]
 pub struct StateBit {
     pub aig: Aig,
     pub next: Literal,
@@ -72,7 +72,7 @@ fn lower_register(aig: Aig, words: &mut [u32], register: RegisterCell) -> StateB
 }
 
 // The registers lowered: the graph, and by register number the next-state literals and the numbers of the variables' nodes.
-#[derive(Drop)]
+#[derive(Clone, Copy)]
 pub struct Registers {
     pub aig: Aig,
     pub next: [u32; 128],

@@ -17,7 +17,7 @@ use literals::Literal;
 use struo_ir::netlist::{Netlist, RegisterCell};
 
 // The reset of a register: its codes as the record has them; zeros where there is none.
-#[derive(Drop)]
+#[derive(Clone, Copy)]
 pub struct ResetCell {
     pub code: u8,
     pub signal: u16,

@@ -3,7 +3,6 @@ use Rattle.std.specs.Prelude.{ℕ, ◌≡◌, List}
 use Rattle.model.specs.Pair.{ReadPair, both, refused_pair, read_pair}
 use Rattle.calls.specs.Faults.{refusal}
 use Rattle.calls.specs.declared.fault.Fault.{Fault}
-use Rattle.calls.specs.declared.fault.Fault.TheVariants as Fault
 use Rattle.struo_ir.specs.Decoded.{decoded}
 use Rattle.struo_ir.specs.Designs.{Sided}
 use Rattle.struo_ir.specs.declared.design.Design.{Design}

@@ -9,7 +9,6 @@ use Rattle.model.specs.Validate.{read_record}
 use Rattle.model.specs.Pair.{both, refused_pair, on_gate, with_gate, with_gold, read_pair}
 use Rattle.calls.specs.Faults.{refusal}
 use Rattle.calls.specs.declared.fault.Fault.{Fault}
-use Rattle.calls.specs.declared.fault.Fault.TheVariants as Fault
 use Rattle.struo_ir.specs.Decoded.{decoded}
 use Rattle.struo_ir.specs.Designs.{Valid, Ordered, Sided}
 use Rattle.struo_ir.specs.Reading.{read_of}

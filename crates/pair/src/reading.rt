@@ -13,7 +13,7 @@ use struo_ir::design::{Design, Entry, Order};
 use struo_ir::reader::Reading;
 
 // What reading a pair finds, and its two designs; those of a refused pair say nothing.
-#[derive(Drop)]
+#[derive(Clone, Copy)]
 pub struct PairReading {
     pub fault: Fault,
     pub gold: Design,

@@ -3,7 +3,7 @@ use calls::answers::Asked;
 use transition::system::System;
 
 // Both sides, the literals that their states start with, and for each state the match of its name among the other side's states.
-#[derive(Drop)]
+#[derive(Clone, Copy)]
 pub struct Problem {
     pub gold: System,
     pub gate: System,
@@ -14,7 +14,7 @@ pub struct Problem {
 }
 
 // With the depth; for NotEquivalent the first mismatch, for GaveUp the query.
-#[derive(Drop)]
+#[derive(Clone, Copy)]
 pub enum Verdict {
     Equivalent(u32),
     NotEquivalent(u32, u32),
@@ -23,7 +23,7 @@ pub enum Verdict {
 }
 
 // The verdict, and of the queries asked the one that learned most, the first where they are equal.
-#[derive(Drop)]
+#[derive(Clone, Copy)]
 pub struct Outcome {
     pub verdict: Verdict,
     pub most: Asked,

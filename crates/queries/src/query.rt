@@ -13,7 +13,7 @@ use sat::state::Answer;
 use trace::write_counterexample;
 
 // What query 1 finds: the search's answer, and of a model, which is a counterexample, the first mismatch.
-#[derive(Drop)]
+#[derive(Clone, Copy)]
 pub struct Found {
     pub answer: Answer,
     pub mismatch: u32,

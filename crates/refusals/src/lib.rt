@@ -1,4 +1,6 @@
 // The refusals 16, 17, 36 and 18 to 24 of a check, in the specification's order. Nothing lent is written before all of them are tested.
+#![tactic(auto)]
+
 ghost use Rattle.std.specs.Prelude.{◌≡◌, List, ℕ, ◌≤◌, ltb};
 ghost use Rattle.model.specs.Pair.{check_fault};
 ghost use Rattle.calls.specs.Faults.{fault_of};

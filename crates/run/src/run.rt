@@ -191,7 +191,7 @@ fn next_bit(values: &[bool], stored: bool, cell: RegisterCell) -> bool
 }
 
 // The two rows of stored bits of a side: the old one has the bits before a cycle, the new one is written in it.
-#[derive(Drop)]
+#[derive(Clone, Copy)]
 pub struct Rows {
     pub old: [bool; 128],
     pub new: [bool; 128],

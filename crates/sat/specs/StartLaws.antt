@@ -15,7 +15,7 @@ use Rattle.facts.specs.Lists.{All, all_from}
 use Rattle.laws.specs.Terms.{Reached, begun}
 use Rattle.laws.specs.Graph.Operations.{Formed}
 use Rattle.laws.specs.Search.Ending.{solve-not_out}
-use Rattle.laws.specs.Search.Reachable.{reached-idle}
+use Rattle.laws.proofs.Search.Reachable.{reached-idle}
 use Rattle.assignment.specs.State.{assignment_of, assignment_regions, enqueued, Unchanged, Cleared}
 use Rattle.assignment.specs.Scores.{scores_of, Others, Starts}
 use Rattle.assignment.specs.StateLaws.{unchanged_both, unchanged_within}

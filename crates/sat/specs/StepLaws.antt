@@ -7,7 +7,8 @@ use Rattle.model.specs.Sat as Sat
 use Rattle.laws.specs.Search.State.{Done, RoundOk}
 use Rattle.laws.specs.Search.Propagation.{propagate-keeps}
 use Rattle.laws.specs.Search.Rounds.{Ended, propagate-ends}
-use Rattle.laws.specs.Search.Reachable.{Reachable, core_reachable}
+use Rattle.laws.specs.Search.Reachable.{Reachable}
+use Rattle.laws.proofs.Search.Reachable.{core_reachable}
 use Rattle.assignment.specs.State.{assignment_of, assignment_regions, Unchanged, model_of}
 use Rattle.assignment.specs.Scores.{scores_of}
 use Rattle.assignment.specs.StateLaws.{unchanged_both, unchanged_within, level-is}

@@ -1,4 +1,6 @@
 // The search of sat.rs over lent words.
+#![tactic(auto)]
+
 pub mod decide;
 pub mod learn;
 pub mod round;

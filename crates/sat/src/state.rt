@@ -3,21 +3,21 @@ use assignment::state::{Activity, Trail};
 use clauses::state::Store;
 
 // The answer of `learn`: the clauses with the learned one, and the trail after backtracking.
-#[derive(Drop)]
+#[derive(Clone, Copy)]
 pub struct Learned {
     pub store: Store,
     pub trail: Trail,
 }
 
 // The answer of `decide`: the trail with a decision more, or that every variable is assigned.
-#[derive(Drop)]
+#[derive(Clone, Copy)]
 pub enum Decided {
     Nothing,
     Deeper(Trail),
 }
 
 // What a search holds that is in no lent word; `learned` is the total of learned literals.
-#[derive(Drop)]
+#[derive(Clone, Copy)]
 pub struct State {
     pub store: Store,
     pub trail: Trail,
@@ -26,7 +26,7 @@ pub struct State {
 }
 
 // A search after a round: it goes on, or it is answered, with the total of learned literals.
-#[derive(Drop)]
+#[derive(Clone, Copy)]
 pub enum Step {
     Searching(State),
     Model(usize),
@@ -35,7 +35,7 @@ pub enum Step {
 }
 
 // The answer of a search with its total of learned literals: a model, whose values stand in the words; none; or it gave up at the limit.
-#[derive(Drop)]
+#[derive(Clone, Copy)]
 pub enum Answer {
     Model(usize),
     NoModel(usize),

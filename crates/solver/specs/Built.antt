@@ -10,7 +10,6 @@ use Rattle.model.specs.Record.{Read, parsed, refused_record}
 use Rattle.model.specs.Transition.{from_netlist}
 use Rattle.struo_ir.specs.Decoded.{decoded}
 use Rattle.calls.specs.declared.fault.Fault.{Fault}
-use Rattle.calls.specs.declared.fault.Fault.TheVariants as Fault
 use Rattle.struo_ir.specs.Reading.{read_by}
 use Rattle.struo_ir.specs.declared.netlist.Netlist.{Netlist}
 use Rattle.aig.specs.Graph.{graph_at, length-nodes}

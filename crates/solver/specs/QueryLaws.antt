@@ -79,7 +79,7 @@ partly_none ls n w e g r =
     let start : Standing 1 w =
     record {
       ready = r;
-      formed = subst Formed (sym g) (record { order = (tt, tt); ground = refl });
+      formed = subst Formed (sym g) (record { order = (tt, tt); grounding = refl });
     } in
     record { standing = subst (λ (m : ℕ). Standing m w) (sym e) start; few = omega arith; is = rw e (ap some g) }
 

@@ -29,8 +29,7 @@ fn build(words: &mut [u32], netlist: Netlist, again: u32) -> u32
 
 // The nodes of a record's transition graph, node 0 among them, built once and `again` times more; 0 where the record is refused or the
 // words are too few. Nothing is asked of any argument. Left open: `words`, of a refused call too, and that the graph is built so often.
-#[unsafe(no_mangle)]
-pub extern "C" fn struo_build(record: &[u8], again: u32, words: &mut [u32]) -> u32
+pub fn struo_build(record: &[u8], again: u32, words: &mut [u32]) -> u32
     ensures { result ≡ size_read (length words.old) (read_record «record».now) }
 {
     if words.len() < LENT {

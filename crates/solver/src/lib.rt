@@ -1,4 +1,6 @@
 // The search of a graph handed over as words: for tests and measurements beside another solver, not a part of the public library.
+#![tactic(auto)]
+
 pub mod build;
 
 ghost use Rattle.std.specs.Prelude.{◌≡◌, ◌*◌, ◌≤◌, length};
@@ -19,7 +21,7 @@ const LIMIT: u64 = MOST_LEARNED as u64;
 // What a search answers: status 0 with a model, whose values stand in the words, 1 with none, 2 where it gave up, 3 where the call is
 // refused; the nodes of the graph, and the total of learned literals.
 #[repr(C)]
-#[derive(Drop)]
+#[derive(Clone, Copy)]
 pub struct SolveAnswer {
     pub status: u32,
     pub nodes: u32,
@@ -27,7 +29,7 @@ pub struct SolveAnswer {
 }
 
 // The graph of a list of nodes, or that the list is refused.
-#[derive(Drop)]
+#[derive(Clone, Copy)]
 pub enum Rebuilt {
     Graph(Aig),
     Refused,
@@ -165,8 +167,7 @@ fn search_graph(
 // The graph of a list of nodes, two literals each, both 0 for a variable, and the search of it under assumptions and a limit of learned
 // literals. The values of a model stand in VALUES. Nothing is asked of any argument. Left open: `words` beside the values of a model, `scores`, the
 // nodes of an answer without a model, and of a refused call its nodes, its total and which status of 3 or more it has.
-#[unsafe(no_mangle)]
-pub extern "C" fn struo_solve(
+pub fn struo_solve(
     nodes: &[u32],
     assumptions: &[u32],
     limit: u64,
@@ -193,8 +194,7 @@ pub extern "C" fn struo_solve(
 
 // The nodes of the graph of a list, node 0 among them; 0 where the list is refused. For measuring what the graph costs of a search. Nothing is
 // asked of any argument. Left open: `words`, of a refused call too.
-#[unsafe(no_mangle)]
-pub extern "C" fn struo_rebuild(nodes: &[u32], words: &mut [u32]) -> u32
+pub fn struo_rebuild(nodes: &[u32], words: &mut [u32]) -> u32
     ensures { result ≡ size nodes.now (length words.old) }
 {
     if !fits(nodes.len(), 0, 0, words.len(), MOST_NODES) {

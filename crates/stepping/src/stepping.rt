@@ -30,14 +30,14 @@ const START: ReplayPosition = ReplayPosition {
 };
 
 // What a begin gives: its answer, and the position after it.
-#[derive(Drop)]
+#[derive(Clone, Copy)]
 pub struct Begun {
     pub answer: ReadAnswer,
     pub position: ReplayPosition,
 }
 
 // What a step gives: its answer, and the position after it.
-#[derive(Drop)]
+#[derive(Clone, Copy)]
 pub struct Moved {
     pub answer: ReplayAnswer,
     pub position: ReplayPosition,

@@ -110,9 +110,9 @@ unfolding padded
 padded-taken m n row bits e f = rw e (take_at bits _ n (sym f))
 
 -- as many output bits as outputs
-pub length-outputBits : (d : Design) (v : List Bool) → length (output_bits d v) ≡ length (outputs d)
+pub length-output_bits : (d : Design) (v : List Bool) → length (output_bits d v) ≡ length (outputs d)
 unfolding output_bits
-length-outputBits d v = length-map (outputs d) (λ (p : Place). bit_at v p.number)
+length-output_bits d v = length-map (outputs d) (λ (p : Place). bit_at v p.number)
 
 -- at most 65 rows of the claim of at most 128 bytes each
 pub rows-small : (rows inputs : ℕ) → rows ≤ 65 → inputs ≤ 128 → rows * inputs ≤ 8320

@@ -14,7 +14,7 @@ use Rattle.name_order.specs.PortLaws.{count-places}
 use Rattle.run.specs.RunTables.{row_inputs}
 use Rattle.run.specs.declared.run.Rows.{Rows}
 use Rattle.steps.specs.StepSides.{SizedSide, Cycled, Kept, position, stepped, outcome_of, Paired, Advanced, StepTaken}
-use Rattle.steps.specs.StepLaws.{padded-taken, length-outputBits, inputs-right, advance-right}
+use Rattle.steps.specs.StepLaws.{padded-taken, length-output_bits, inputs-right, advance-right}
 use Rattle.steps.specs.declared.step.Side.{Side}
 use Rattle.steps.specs.declared.step.Position.{Position}
 use Rattle.steps.specs.declared.step.Stepped.{Stepped}
@@ -24,7 +24,7 @@ shown-taken : (s : List ℕ) (ins : List Place) (side : Side) (claim : List ℕ)
     → Cycled s ins side claim at rows out after
     → take side.outputs.count out ≡ output_bits (decoded s side.netlist) (node_values (decoded s side.netlist) (row_inputs claim at ins) (take side.netlist.register_count rows.old))
 shown-taken s ins side claim at rows out after f e c =
-    padded-taken 128 side.outputs.count out _ (c.shown e) (count-places s side.outputs f.formed ∙ ap length e ∙ sym (length-outputBits (decoded s side.netlist) _))
+    padded-taken 128 side.outputs.count out _ (c.shown e) (count-places s side.outputs f.formed ∙ ap length e ∙ sym (length-output_bits (decoded s side.netlist) _))
 
 -- the rows of a cycle, where they were alike past the register count, are so after it
 cycle-kept : (s : List ℕ) (ins : List Place) (side : Side) (claim : List ℕ) (at : ℕ) (rows : Rows) (out : List Bool) (after : Rows) → Cycled s ins side claim at rows out after → Kept side.netlist.register_count rows after

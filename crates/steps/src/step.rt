@@ -15,7 +15,7 @@ use struo_ir::design::{Design, Order};
 use struo_ir::netlist::Netlist;
 
 // A side of a replay, ready to run: its netlist, the rank of each Input among gold's inputs, the register of each node, and its outputs by name.
-#[derive(Drop)]
+#[derive(Clone, Copy)]
 pub struct Side {
     pub netlist: Netlist,
     pub ranks: [u16; 1024],
@@ -24,7 +24,7 @@ pub struct Side {
 }
 
 // A replay position: the next cycle, whether the outputs agreed before it, and per side two rows, of which the old one has the stored bits.
-#[derive(Drop)]
+#[derive(Clone, Copy)]
 pub struct Position {
     pub cycle: usize,
     pub agreed: bool,
@@ -33,21 +33,21 @@ pub struct Position {
 }
 
 // What a step gives: the position after it, and yes or no.
-#[derive(Drop)]
+#[derive(Clone, Copy)]
 pub struct Stepped {
     pub position: Position,
     pub yes: bool,
 }
 
 // What one cycle of a side gives: its outputs by name, and its two rows, exchanged.
-#[derive(Drop)]
+#[derive(Clone, Copy)]
 struct Cycle {
     outputs: [bool; 128],
     rows: Rows,
 }
 
 // Whether outputs differ, and whether they differ exactly where the claim marks them.
-#[derive(Drop)]
+#[derive(Clone, Copy)]
 struct Comparison {
     differ: bool,
     marked: bool,

@@ -1,4 +1,6 @@
-// The public library: the calls on design records, for Rust and for C. Nothing is asked of any argument.
+// The public library: the calls on design records, each also under the name by which `struo_formal_c` exports it for C. Nothing is asked of any argument.
+#![tactic(auto)]
+
 ghost use Rattle.std.specs.Prelude.{◌≡◌};
 ghost use Rattle.model.specs.Validate as Validate;
 ghost use Rattle.model.specs.Replay as Replay;
@@ -33,9 +35,8 @@ pub fn read(record: &[u8]) -> ReadAnswer
     }
 }
 
-// The same for C.
-#[unsafe(no_mangle)]
-pub extern "C" fn struo_read(record: &[u8]) -> ReadAnswer
+// The same under the name that C calls.
+pub fn struo_read(record: &[u8]) -> ReadAnswer
     ensures { refusal_of result ≡ Validate.read «record».now }
 {
     read(record)
@@ -49,9 +50,8 @@ pub fn replay(gold: &[u8], gate: &[u8], cycle: u64, claim: &[u8]) -> ReplayAnswe
     replay::replay::replay(gold, gate, cycle, claim)
 }
 
-// The same for C.
-#[unsafe(no_mangle)]
-pub extern "C" fn struo_replay(gold: &[u8], gate: &[u8], cycle: u64, claim: &[u8]) -> ReplayAnswer
+// The same under the name that C calls.
+pub fn struo_replay(gold: &[u8], gate: &[u8], cycle: u64, claim: &[u8]) -> ReplayAnswer
     ensures { replay_of result ≡ Replay.replay gold.now gate.now cycle claim.now }
 {
     replay(gold, gate, cycle, claim)
@@ -68,9 +68,8 @@ pub fn begin(gold: &[u8], gate: &[u8], position: &mut ReplayPosition, bits: &mut
     begun.answer
 }
 
-// The same for C.
-#[unsafe(no_mangle)]
-pub extern "C" fn struo_begin(
+// The same under the name that C calls.
+pub fn struo_begin(
     gold: &[u8],
     gate: &[u8],
     position: &mut ReplayPosition,
@@ -100,9 +99,8 @@ pub fn step(
     moved.answer
 }
 
-// The same for C.
-#[unsafe(no_mangle)]
-pub extern "C" fn struo_step(
+// The same under the name that C calls.
+pub fn struo_step(
     gold: &[u8],
     gate: &[u8],
     cycle: u64,
@@ -139,9 +137,8 @@ pub fn check(
     checker::call::check(gold, gate, options, trace, words, scores)
 }
 
-// The same for C.
-#[unsafe(no_mangle)]
-pub extern "C" fn struo_check(
+// The same under the name that C calls.
+pub fn struo_check(
     gold: &[u8],
     gate: &[u8],
     depth: u64,

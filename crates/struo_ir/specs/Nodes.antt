@@ -3,13 +3,10 @@ use Rattle.std.specs.Prelude.{ℕ, ◌-◌, ◌≤◌, ◌≡◌, Bool, true, fa
 use Rattle.model.specs.Record.{Step, got, Reader, refuse, pure, ◌>>=◌, name, code_below, numbers, has_name, has_value, inputs_per_kind, listed_kind, nodes_from}
 use Rattle.struo_ir.specs.declared.netlist.Node.{Node}
 use Rattle.struo_ir.specs.declared.nodes.Inputs.{Inputs}
-use Rattle.struo_ir.specs.declared.nodes.Inputs.TheVariants as Inputs
 use Rattle.struo_ir.specs.declared.nodes.NodeField.{NodeField}
-use Rattle.struo_ir.specs.declared.nodes.NodeField.TheVariants as NodeField
 use Rattle.model.specs.Netlist as Model
 use Rattle.model.specs.Netlist.{input_name, output_name, ports_from}
 use Rattle.fields.specs.declared.Number.{Number}
-use Rattle.fields.specs.declared.Number.TheVariants as Number
 use Rattle.struo_ir.specs.Decoded.{decoded_node}
 use Rattle.fields.specs.Fields.{map_step, placed, kind_at}
 

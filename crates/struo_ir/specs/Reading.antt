@@ -6,10 +6,8 @@ use Rattle.struo_ir.specs.declared.netlist.Node.{Node}
 use Rattle.struo_ir.specs.declared.netlist.RegisterCell.{RegisterCell}
 use Rattle.struo_ir.specs.declared.netlist.Netlist.{Netlist}
 use Rattle.fields.specs.declared.Number.{Number}
-use Rattle.fields.specs.declared.Number.TheVariants as Number
 use Rattle.calls.specs.Faults.{refusal}
 use Rattle.calls.specs.declared.fault.Fault.{Fault}
-use Rattle.calls.specs.declared.fault.Fault.TheVariants as Fault
 use Rattle.struo_ir.specs.declared.reader.Reading.{Reading}
 use Rattle.struo_ir.specs.Decoded.{name_at, decoded}
 use Rattle.struo_ir.specs.Designs.{NodesPadded, RegistersPadded}

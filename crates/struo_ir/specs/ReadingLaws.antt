@@ -15,7 +15,6 @@ use Rattle.model.specs.Record.{Step, got, refused, Reader, refuse, pure, go_on, 
 use Rattle.struo_ir.specs.declared.netlist.Node.{Node}
 use Rattle.struo_ir.specs.declared.netlist.RegisterCell.{RegisterCell}
 use Rattle.fields.specs.declared.Number.{Number}
-use Rattle.fields.specs.declared.Number.TheVariants as Number
 use Rattle.calls.specs.Faults.{refusal}
 use Rattle.calls.specs.declared.fault.Fault.TheVariants as Fault
 use Rattle.struo_ir.specs.declared.reader.Reading.{Reading}

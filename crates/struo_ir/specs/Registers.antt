@@ -4,9 +4,7 @@ use Rattle.model.specs.Netlist as Model
 use Rattle.model.specs.Record.{Step, got, Reader, refuse, pure, ◌>>=◌, name, number, code_below, numbers, register, registers_from}
 use Rattle.struo_ir.specs.declared.netlist.RegisterCell.{RegisterCell}
 use Rattle.struo_ir.specs.declared.registers.RegisterField.{RegisterField}
-use Rattle.struo_ir.specs.declared.registers.RegisterField.TheVariants as RegisterField
 use Rattle.fields.specs.declared.Number.{Number}
-use Rattle.fields.specs.declared.Number.TheVariants as Number
 use Rattle.struo_ir.specs.Decoded.{decoded_register}
 use Rattle.fields.specs.Fields.{map_step, placed}
 use Rattle.struo_ir.specs.Nodes.{three, count_of}

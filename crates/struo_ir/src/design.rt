@@ -2,7 +2,7 @@
 use crate::netlist::Netlist;
 
 // An entry of an order: the number of a node or register, and the place of its name.
-#[derive(Drop)]
+#[derive(Clone, Copy)]
 pub struct Entry {
     pub number: u16,
     pub name: u16,
@@ -14,14 +14,14 @@ impl Entry {
 }
 
 // Inputs, Outputs or registers in byte order of names: the first `count` entries, and zeros past them.
-#[derive(Drop)]
+#[derive(Clone, Copy)]
 pub struct Order {
     pub count: usize,
     pub entries: [Entry; 128],
 }
 
 // A netlist with its orders by name. Names are places in the record that it was read from.
-#[derive(Drop)]
+#[derive(Clone, Copy)]
 pub struct Design {
     pub netlist: Netlist,
     pub inputs: Order,

@@ -1,7 +1,7 @@
 // A design decoded from its record, in arrays by value. Names are places in the record.
 
 // A node: its kind byte; the place of its name's length byte (Input, Output) or its value (Constant); its input numbers. What a kind lacks is 0.
-#[derive(Drop)]
+#[derive(Clone, Copy)]
 pub struct Node {
     pub kind: u8,
     pub detail: u16,
@@ -22,7 +22,7 @@ impl Node {
 }
 
 // A register: the place of its name's length byte, its node numbers, and its codes as the record has them. What it lacks is 0.
-#[derive(Drop)]
+#[derive(Clone, Copy)]
 pub struct RegisterCell {
     pub name: u16,
     pub output: u16,
@@ -55,7 +55,7 @@ impl RegisterCell {
 }
 
 // A design: its nodes and registers by number, with zeros past the counts.
-#[derive(Drop)]
+#[derive(Clone, Copy)]
 pub struct Netlist {
     pub node_count: usize,
     pub register_count: usize,

@@ -11,21 +11,21 @@ use fields::{
 };
 
 // The input numbers of a node, 0 where it has fewer than three; or a refusal.
-#[derive(Drop)]
+#[derive(Clone, Copy)]
 pub enum Inputs {
     Got(u16, u16, u16, u32),
     Refused(u8, u32),
 }
 
 // A node with its next offset, or a refusal.
-#[derive(Drop)]
+#[derive(Clone, Copy)]
 pub enum NodeField {
     Got(Node, u32),
     Refused(u8, u32),
 }
 
 // The outcome of reading the nodes, with their count; and the nodes, zeros past those that were read.
-#[derive(Drop)]
+#[derive(Clone, Copy)]
 pub struct Nodes {
     pub field: Number,
     pub nodes: [Node; 1024],

@@ -13,7 +13,7 @@ use calls::fault::Fault;
 use fields::{Number, read_name, read_number};
 
 // What reading a record finds, and the netlist of an accepted record; of a refused one the netlist says nothing.
-#[derive(Drop)]
+#[derive(Clone, Copy)]
 pub struct Reading {
     pub fault: Fault,
     pub netlist: Netlist,

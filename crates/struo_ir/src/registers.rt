@@ -7,14 +7,14 @@ use crate::nodes::{Inputs, read_inputs};
 use fields::{Code, Number, read_code_below, read_name, read_number};
 
 // A register with its next offset, or a refusal.
-#[derive(Drop)]
+#[derive(Clone, Copy)]
 pub enum RegisterField {
     Got(RegisterCell, u32),
     Refused(u8, u32),
 }
 
 // The outcome of reading the registers, with their count; and the registers, zeros past those that were read.
-#[derive(Drop)]
+#[derive(Clone, Copy)]
 pub struct Registers {
     pub field: Number,
     pub registers: [RegisterCell; 128],

@@ -1,4 +1,6 @@
 // The trace of a counterexample: the inputs of each cycle up to the first mismatch, and the outputs that differ in it.
+#![tactic(auto)]
+
 ghost use Rattle.std.specs.Prelude.{◌≡◌, ◌++◌, ◌+◌, ◌*◌, ◌≤◌, ◌<◌, length, get_or, set};
 ghost use Rattle.std.specs.Bool.{xor as xorBool};
 ghost use Rattle.words.specs.Layout.{LENT, SMALL, FRAMES, ROW, GOLD-OUTPUTS, GATE-OUTPUTS};

@@ -12,7 +12,7 @@ use Rattle.words.specs.Region.{region}
 use Rattle.model.specs.Literal.{FALSE, node}
 use Rattle.model.specs.Lists.{snoc, lookup}
 use Rattle.model.specs.Names.{Place}
-use Rattle.model.specs.Netlist.{Register, register_places, inputs, outputs, registers_by_name}
+use Rattle.model.specs.Netlist.{Register, register_places, registers_by_name}
 use Rattle.model.specs.Transition.{Port, StateBit, Lowering, Registers, net_literal, with_state, lower_register, lower_registers, system_of, with_registers, from_netlist}
 use Rattle.laws.specs.Pairwise.{Pairwise, pairs_append, pairs-map}
 use Rattle.laws.specs.Lowering.Lists.{sort-pairs}

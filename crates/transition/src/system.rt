@@ -1,7 +1,7 @@
 // A side of a problem: its transition graph's place in the lent words, and its literals by value.
 
 // A transition system: `count` nodes at `base`. All arrays are in byte order of names.
-#[derive(Drop)]
+#[derive(Clone, Copy)]
 pub struct System {
     // Where its graph lies: GOLD_LHS or GATE_LHS.
     pub base: usize,

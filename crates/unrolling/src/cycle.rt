@@ -10,7 +10,7 @@ use literals::Literal;
 use transition::system::System;
 
 // A graph with the inputs of a cycle, and the outputs and next states of both sides.
-#[derive(Drop)]
+#[derive(Clone, Copy)]
 pub struct Frames {
     pub aig: Aig,
     pub inputs: [u32; 128],
@@ -21,7 +21,7 @@ pub struct Frames {
 }
 
 // Both sides' frames, the graph after their outputs were compared, and whether these differ.
-#[derive(Drop)]
+#[derive(Clone, Copy)]
 pub struct Cycle {
     pub aig: Aig,
     pub frames: Frames,

@@ -15,7 +15,7 @@ use transition::system::System;
 use words::{IMPORTED, SMALL, stash, wide};
 
 // A graph with the outputs and next states of a cycle.
-#[derive(Drop)]
+#[derive(Clone, Copy)]
 pub struct Frame {
     pub aig: Aig,
     pub outputs: [u32; 128],

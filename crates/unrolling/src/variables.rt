@@ -13,7 +13,7 @@ use literals::Literal;
 use words::wide;
 
 // A graph and literals of it; how many of them count, the caller knows.
-#[derive(Drop)]
+#[derive(Clone, Copy)]
 pub struct Literals {
     pub aig: Aig,
     pub literals: [u32; 128],

@@ -1,7 +1,7 @@
 -- What each outcome of a visit makes of the solver that the words stand for. Assumes nothing.
 use Rattle.std.proofs.Math.Path.{◌≡◌, refl, sym}
 use Rattle.std.proofs.Common.{ap, ◌∙◌, inl, eqb-true}
-use Rattle.std.specs.Prelude.{Bool, true, false, List, ◌∷◌, eqb, get_or, length}
+use Rattle.std.specs.Prelude.{Bool, true, false, List, ◌∷◌, eqb, get_or}
 use Rattle.std.proofs.Math.Option.{none, some}
 use Prim.Native.Nat.{ℕ, zero, suc, ◌+◌, ◌-◌, ◌*◌, ◌<◌, ◌≤◌}
 use native.Mathlib.Omega.{arith}
@@ -18,7 +18,6 @@ use Rattle.assignment.specs.declared.state.Value.TheVariants as Values
 use Rattle.clauses.specs.declared.state.Store.{Store}
 use Rattle.clauses.specs.declared.state.Clause.{Clause}
 use Rattle.watches.specs.declared.state.Pending.{Pending}
-use Rattle.watches.specs.declared.state.Propagation.{Propagation}
 use Rattle.clauses.specs.Queue.{HasRoom, queues_of, pushed_words, walk}
 use Rattle.clauses.specs.Sound.{lists, drop-sound}
 use Rattle.clauses.specs.Clauses.{clause_at, literals_of, place_in, Stands, half, queue-fits, clause-is}

@@ -15,6 +15,8 @@
 //
 // In FRAMES the rows of cycles 0 to 64 take 33,280 words; the other 32,256 are free, and so are words 385 to 511 of each row.
 // A new region needs a name here and in specs/Layout.antt; its size by its base is what `size_of` of specs/Region.antt says.
+#![tactic(auto)]
+
 ghost use Rattle.std.specs.Prelude.{◌≡◌, ◌+◌, ◌<◌, ◌≤◌, min, length, get_or, replicate, pos, false};
 ghost use Rattle.std.specs.Float.{fin};
 ghost use Rattle.words.specs.Layout.{LENT};

@@ -7,7 +7,7 @@ use Rattle.model.specs.Options.{Options}
 use Rattle.model.specs.Names.{Name, Place}
 use Rattle.model.specs.Netlist.{Node, Register, Design}
 use Rattle.model.specs.Record.{Step, got, refused, Reader, refuse, pure, go_on, ◌>>=◌, tested, guard, bytes, byte, number, code, code_below, name_bytes, name, name_if, value_if, numbers, node, nodes_from, nodes, enable_for, reset_for, register, registers_from, registers, end, version1, version_of, Read, parsed, refused_record, length_fits, finished, parse_fields, parse_sized, parse}
-use Rattle.model.specs.Validate.{◌otherwise◌, refuse_if, node_fault, nodes_fault, register_fault, registers_fault, connection_fault, reset_fault, clock_fault, clock_read_fault, validate, judged, validated, read_record}
+use Rattle.model.specs.Validate.{◌otherwise◌, refuse_if, node_fault, nodes_fault, register_fault, registers_fault, connection_fault, reset_fault, clock_fault, clock_read_fault, validate, judged, validated, read_record, add_name, port_name}
 use Rattle.model.specs.Pair.{Lent, interface_fault, resets_fault, initial_fault, check_fault, replay_fault, ReadPair, both, refused_pair, on_gate, with_gate, with_gold, read_pair, check_refusal_of, check_refusal}
 use Rattle.model.specs.Stepping.{bits_fault, begin_fault, step_fault}
 use Rattle.laws.specs.Terms.{Within, fault_to15, OfOne, of_fields, of_clock, OfRecord, OfCheck, of_either, of_list, of_limit, OfReplay, of_record, of_pair, of_claim, replay_refusal_of, replay_refusal}
@@ -211,7 +211,7 @@ or-within first last x y h k = or_every (Within first last) x y h k
 real_nodes : (i : ℕ) (names : List Name) (ns : List Node) → Every To15 (nodes_fault i names ns)
 unfolding nodes_fault node_fault
 real_nodes i names [] = tt
-real_nodes i names (n ∷ ns) = or_real _ _ (or_real _ _ (if_real 7 i _ (omega arith) (omega arith)) (if_real 8 i _ (omega arith) (omega arith))) (real_nodes _ _ ns)
+real_nodes i names (n ∷ ns) = or_real _ _ (or_real _ _ (if_real 7 i _ (omega arith) (omega arith)) (if_real 8 i _ (omega arith) (omega arith))) (real_nodes (suc i) (add_name (port_name n) names) ns)
 
 real_registers : (nodes : List Node) (i : ℕ) (names : List Name) (taken : List ℕ) (rs : List Register) → Every To15 (registers_fault nodes i names taken rs)
 unfolding registers_fault register_fault

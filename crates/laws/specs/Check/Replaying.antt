@@ -18,7 +18,7 @@ use Rattle.laws.specs.Names.Sets.{SameSet, increasing_unique, inputs-distinct, o
 use Rattle.laws.specs.Record.Accepted.{otherwise_none, refuse_if-none, accepted-parsed}
 use Rattle.laws.specs.Replay.{replays-yes}
 use Rattle.laws.specs.Induction.Chain.{output-length}
-use Rattle.laws.specs.Induction.Pairs.{read_pair-both, same_names, names-refl}
+use Rattle.laws.specs.Induction.Pairs.{read_pair-both, same_names_lem, names-refl}
 use Rattle.laws.specs.Check.Refusals.{replay-within, replay-not-zero}
 
 -- the output names of two designs that a replay does not refuse
@@ -27,7 +27,7 @@ unfolding replay_fault interface_fault outputs_differ
 names-alike gold gate cycle claim h =
     let face = (otherwise_none (interface_fault gold gate) _ h).0 in
     let n19 = (otherwise_none _ _ (otherwise_none _ _ face).1).0 in
-    same_names _ _ (not-false _ (refuse_if-none 19 0 0 _ n19))
+    same_names_lem _ _ (not-false _ (refuse_if-none 19 0 0 _ n19))
 
 -- a replay that is not refused says yes exactly where its claim is true of the two runs
 pub replay_rule : (a b : List ℕ) (cycle : ℕ) (claim : List ℕ) (gold gate : Design) → read_pair a b ≡ both gold gate → replay_fault gold gate cycle claim ≡ none
@@ -85,7 +85,7 @@ module _ (a b : List ℕ) (cycle : ℕ) (claim : List ℕ) where
 sets_compared : (ps qs : List Place) → Distinct ps → Distinct qs
     → (not (same_names (names_of (sort ps)) (names_of (sort qs))) ≡ false) ↔ ((x : Name) → member_name x (names_of (sort ps)) ≡ member_name x (names_of (sort qs)))
 sets_compared ps qs d e = (
-  λ h x. ap (member_name x) (same_names _ _ (not-false _ h)),
+  λ h x. ap (member_name x) (same_names_lem _ _ (not-false _ h)),
   λ s.
       let n : names_of (sort ps) ≡ names_of (sort qs) = increasing_unique (sort ps) (sort qs) (sort_increasing ps d) (sort_increasing qs e) (unfold SameSet in s) in
       ap not (subst (λ ns. same_names (names_of (sort ps)) ns ≡ true) n (names-refl (names_of (sort ps)))),

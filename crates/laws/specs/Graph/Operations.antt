@@ -56,7 +56,7 @@ order-snoc k (m ∷ ns) n w h = (w.0, order-snoc (suc k) ns n w.1 (rw (add-suc, 
 -- a graph whose node 0 is the constant and whose operands stand before their nodes
 pub record Formed (g : Aig) : Type 0 where
   pub order : InOrder 0 g
-  pub ground : get_elem? g 0 ≡ some Constant
+  pub grounding : get_elem? g 0 ≡ some Constant
 
 -- m has g's nodes with their values, and its literal's value is x
 pub record Means (environment : ℕ → Bool) (g : Aig) (x : Bool) (m : Built) : Type 0 where
@@ -66,13 +66,13 @@ pub record Means (environment : ℕ → Bool) (g : Aig) (x : Bool) (m : Built) :
   pub inside : node m.literal < length m.aig
   pub grows : length g ≤ length m.aig
 
-ground-snoc : (g : Aig) (n : Node) → get_elem? g 0 ≡ some Constant → get_elem? (snoc g n) 0 ≡ some Constant
+grounding-snoc : (g : Aig) (n : Node) → get_elem? g 0 ≡ some Constant → get_elem? (snoc g n) 0 ≡ some Constant
 unfolding snoc
-ground-snoc [] n e = absurd (let z : ◌≡◌ {A = ℕ} 0 1 = cc in omega arith)
-ground-snoc (m ∷ g) n e = e
+grounding-snoc [] n e = absurd (let z : ◌≡◌ {A = ℕ} 0 1 = cc in omega arith)
+grounding-snoc (m ∷ g) n e = e
 
 formed-snoc : (g : Aig) (n : Node) → Formed g → Below (length g) n → Formed (snoc g n)
-formed-snoc g n w h = record { order = order-snoc 0 g n w.order (rw zero-add h); ground = ground-snoc g n w.ground }
+formed-snoc g n w h = record { order = order-snoc 0 g n w.order (rw zero-add h); grounding = grounding-snoc g n w.grounding }
 
 module _ (environment : ℕ → Bool) where
   -- what stays the same: no new node
@@ -83,7 +83,7 @@ module _ (environment : ℕ → Bool) where
   -- node 0 of a formed graph is false
   pub grounded : (g : Aig) → Formed g → Grounded (aig_node_values environment g)
   unfolding aig_node_values aig_node_value
-  grounded g w = at-node environment g [] 0 Constant w.order w.ground
+  grounded g w = at-node environment g [] 0 Constant w.order w.grounding
 
   node_means : (g : Aig) → Formed g → (i a b : ℕ) → get_elem? g i ≡ some (And a b)
       → evaluate (aig_node_values environment g) (i * 2) ≡ evaluate (aig_node_values environment g) a && evaluate (aig_node_values environment g) b

@@ -66,12 +66,12 @@ free_of a b o lent gold gate h r = subst (λ (x : ReadPair). check_refusal_of x 
 -- ---- what an accepted pair has
 
 -- names that are tested to be the same are
-pub same_names : (xs ys : List Name) → same_names xs ys ≡ true → xs ≡ ys
+pub same_names_lem : (xs ys : List Name) → same_names xs ys ≡ true → xs ≡ ys
 unfolding same_names
-same_names [] [] h = refl
-same_names [] (y ∷ ys) h = absurd (let z : ◌≡◌ {A = ℕ} 0 1 = cc in omega arith)
-same_names (x ∷ xs) [] h = absurd (let z : ◌≡◌ {A = ℕ} 0 1 = cc in omega arith)
-same_names (x ∷ xs) (y ∷ ys) h = ap₂ ◌∷◌ (same_eq x y (and_left (same_name x y) _ h)) (same_names xs ys (and_right (same_name x y) _ h))
+same_names_lem [] [] h = refl
+same_names_lem [] (y ∷ ys) h = absurd (let z : ◌≡◌ {A = ℕ} 0 1 = cc in omega arith)
+same_names_lem (x ∷ xs) [] h = absurd (let z : ◌≡◌ {A = ℕ} 0 1 = cc in omega arith)
+same_names_lem (x ∷ xs) (y ∷ ys) h = ap₂ ◌∷◌ (same_eq x y (and_left (same_name x y) _ h)) (same_names_lem xs ys (and_right (same_name x y) _ h))
 
 -- what holds of a pair to which none of its refusals applies
 pub record Facts (gold gate : Design) (o : Options) (lent : Lent) : Type 0 where
@@ -127,8 +127,8 @@ comparable a b o lent gold gate h r =
     record {
       gold_valid = (accepted-parsed a gold x.0).1;
       gate_valid = (accepted-parsed b gate x.1).1;
-      input_names = same_names (names_of (inputs gold)) (names_of (inputs gate)) (not-false _ f.input_names);
-      output_names = same_names (names_of (outputs gold)) (names_of (outputs gate)) (not-false _ f.output_names);
+      input_names = same_names_lem (names_of (inputs gold)) (names_of (inputs gate)) (not-false _ f.input_names);
+      output_names = same_names_lem (names_of (outputs gold)) (names_of (outputs gate)) (not-false _ f.output_names);
     }
 
 -- and it is to depth 1 or more
@@ -162,12 +162,12 @@ names-refl [] = refl
 names-refl (x ∷ xs) = rw (same_refl x) (names-refl xs)
 
 names_swap : (xs ys : List Name) → not (same_names xs ys) ≡ false → not (same_names ys xs) ≡ false
-names_swap xs ys h = let e : xs ≡ ys = same_names xs ys (not-false _ h) in subst (λ (z : List Name). not (same_names z xs) ≡ false) e (ap not (names-refl xs))
+names_swap xs ys h = let e : xs ≡ ys = same_names_lem xs ys (not-false _ h) in subst (λ (z : List Name). not (same_names z xs) ≡ false) e (ap not (names-refl xs))
 
 -- lists of places with the same names are as long
 pub names-length : (ps qs : List Place) → not (same_names (names_of ps) (names_of qs)) ≡ false → length ps ≡ length qs
 unfolding names_of
-names-length ps qs h = sym (length-map ps _) ∙ ap length (same_names (names_of ps) (names_of qs) (not-false _ h)) ∙ length-map qs _
+names-length ps qs h = sym (length-map ps _) ∙ ap length (same_names_lem (names_of ps) (names_of qs) (not-false _ h)) ∙ length-map qs _
 
 edge_swap : (a b : Edge) → same_edge a b ≡ same_edge b a
 unfolding same_edge

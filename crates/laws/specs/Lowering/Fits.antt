@@ -46,7 +46,7 @@ NumberBelow k p = p.0 < k
 
 new-is-formed : Formed new
 unfolding new
-new-is-formed = record { order = (tt, tt); ground = refl }
+new-is-formed = record { order = (tt, tt); grounding = refl }
 
 -- no node: nothing to mean
 pub no-nodes_mean : (e : ℕ → Bool) (rs : List Register) (inp : InputBits) (stored : StoredBits) → WalkMeans e rs inp stored no_nodes []

@@ -96,7 +96,7 @@ module _ (e : ℕ → Bool) where
         → RegistersMean w.aig g ps → RegistersMean w.aig (lower_registers w g rs) (ps ++ register_places k rs)
     unfolding lower_registers register_places
     registers_mean w g k [] ps n q h = rw (append-nil ps) h
-    registers_mean w g k (r ∷ rs) ps n q h = rw append_assoc at (registers_mean w _ (suc k) rs _ n q.1 (one-register w g k r ps n q.0 h))
+    registers_mean w g k (r ∷ rs) ps n q h = rw append_assoc at (registers_mean w (lower_register w.nets g r (lookup FALSE w.state_variables r.output)) (suc k) rs _ n q.1 (one-register w g k r ps n q.0 h))
 
   -- ---- a register's state variable
 
@@ -169,7 +169,7 @@ states_keep : (w : Lowering) (g : Registers) (rs : List Register) (k : ℕ) → 
     → In k (map (λ (s : StateBit). s.variable) (lower_registers w g rs).states)
 unfolding lower_registers lower_register with_state snoc
 states_keep w g [] k h = h
-states_keep w g (r ∷ rs) k h = states_keep w _ rs k (in_map-left (λ (s : StateBit). s.variable) k g.states _ h)
+states_keep w g (r ∷ rs) k h = states_keep w (lower_register w.nets g r (lookup FALSE w.state_variables r.output)) rs k (in_map-left (λ (s : StateBit). s.variable) k g.states _ h)
 
 -- each register's variable is some state's
 pub states-listed : (w : Lowering) (g : Registers) (rs : List Register) (net : ℕ) → In net (map (λ (r : Register). r.output) rs)
@@ -178,4 +178,4 @@ unfolding lower_registers lower_register with_state snoc
 states-listed w g [] net i = absurd i
 states-listed w g (r ∷ rs) net (inl q) =
     states_keep w _ rs _ (in_map-right (λ (s : StateBit). s.variable) _ g.states _ (inl (ap (λ (k : ℕ). node (lookup FALSE w.state_variables k)) q)))
-states-listed w g (r ∷ rs) net (inr i) = states-listed w _ rs net i
+states-listed w g (r ∷ rs) net (inr i) = states-listed w (lower_register w.nets g r (lookup FALSE w.state_variables r.output)) rs net i

@@ -100,7 +100,7 @@ module _ (environment : ℕ → Bool) where
     -- the empty graph is in order
     pub new-formed : Formed new
     unfolding new
-    new-formed = record { order = (tt, tt); ground = refl }
+    new-formed = record { order = (tt, tt); grounding = refl }
 
     -- query 1's assumption, under any values of its variables: the outputs differ in a cycle from 0 to depth
     pub query_1_means : (depth : ℕ)

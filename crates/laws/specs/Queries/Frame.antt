@@ -63,7 +63,7 @@ module _ (environment : ℕ → Bool) where
   -- FALSE has the value false
   pub has-false : (g : Aig) → Formed g → Has g FALSE false
   unfolding node
-  has-false g w = (lit_0 (aig_node_values environment g) (grounded environment g w), omega (arith, positive g Constant w.ground))
+  has-false g w = (lit_0 (aig_node_values environment g) (grounded environment g w), omega (arith, positive g Constant w.grounding))
 
   -- a negation has the other value
   pub has-negate : (g : Aig) (l : Literal) (x : Bool) → Has g l x → Has g (negate l) (not x)

@@ -1,6 +1,6 @@
 -- Every input sequence is what some values of query 1's variables give. Assumes nothing.
 use Rattle.std.specs.Prelude.{ℕ, zero, suc, ◌+◌, ◌-◌, ◌≤◌, ◌<◌, ◌≡◌, refl, Bool, true, false, cond, List, [], ◌∷◌, ◌++◌, length, get_or, ltb}
-use Rattle.std.proofs.Common.{arith, add-zero, ap₂, ◌∙◌, append_assoc, length-append, lt-ltb, le-ltb}
+use Rattle.std.proofs.Common.{subst, arith, add-zero, ap₂, ◌∙◌, append_assoc, length-append, lt-ltb, le-ltb}
 use Rattle.std.proofs.Math.Option.{Option, none, some}
 use Rattle.std.proofs.Math.Seq.{get_or-append_seam}
 use Rattle.model.specs.Literal.{Literal, FALSE, negate}
@@ -35,7 +35,7 @@ xor_extends g a b = xor_unless_extends g a b (xor_shortcut a b)
 pub difference_extends : (m : Built) (ps : List (Literal × Literal)) → Extends m.aig (any_difference m ps).aig
 unfolding any_difference or_mismatch
 difference_extends m [] = extends_refl m.aig
-difference_extends m (p ∷ ps) = extends_trans (xor_extends m.aig _ _) (extends_trans (or_extends _ _ _) (difference_extends _ ps))
+difference_extends m (p ∷ ps) = extends_trans (xor_extends m.aig _ _) (extends_trans (or_extends _ _ _) (difference_extends (or_mismatch m.literal (xor m.aig p.0 p.1)) ps))
 
 -- so does an imported cycle
 pub frame_extends : (system : TransitionSystem) (g : Aig) (inputs states : List Literal) → Extends g (import_frame system g inputs states).aig
@@ -97,9 +97,10 @@ row-bits n done (x ∷ row) e =
     let t : ltb (n + length done) (n + length (done ++ (x ∷ row))) ≡ true = lt-ltb (n + length done) (n + length (done ++ (x ∷ row))) i in
     let d : (n + length done) - n ≡ length done = omega arith in
     let q : (done ++ (x ∷ [])) ++ row ≡ done ++ (x ∷ row) = append_assoc done (x ∷ []) row in
-    let s : suc (n + length done) ≡ n + length (done ++ (x ∷ [])) = omega (arith, length-append done (x ∷ [])) in
+    let s : n + length (done ++ (x ∷ [])) ≡ suc (n + length done) = omega (arith, length-append done (x ∷ [])) in
     ap₂ ◌∷◌ (rw (t, d) (get_or-append_seam done x row false))
-    (rw (s, ← q) (row-bits n (done ++ (x ∷ [])) row e))
+    (subst (λ (k : ℕ). bits_from (row_then n (done ++ (x ∷ row)) e) k (length row) ≡ row) s
+    (subst (λ (r : List Bool). bits_from (row_then n r e) (n + length (done ++ (x ∷ []))) (length row) ≡ row) q (row-bits n (done ++ (x ∷ [])) row e)))
 
 -- past a row the rest is as it was
 pub past : (n : ℕ) (row : List Bool) (e : ℕ → Bool) (v : ℕ) → n + length row ≤ v → row_then n row e v ≡ e v

@@ -68,7 +68,7 @@ unshared S X (s ∷ ss) (y ∷ ys) n = (tt, unshared S X ss ys (omega arith))
 gate-count : (e : ℕ → Bool) (share : Bool) (S : List StateBit) (X : List Bool) (k : ℕ) (ss : List StateBit) → length (gate_bits e share S X k ss) ≡ length ss
 unfolding gate_bits
 gate-count e share S X k [] = refl
-gate-count e share S X k (s ∷ ss) = ap suc (gate-count e share S X _ ss)
+gate-count e share S X k (s ∷ ss) = ap suc (gate-count e share S X (shared_number (matched share s.name S X) k) ss)
 
 -- ---- assumptions and their bits
 

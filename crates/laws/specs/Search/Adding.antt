@@ -1,5 +1,5 @@
 -- Adding clauses learns nothing; an assumption FALSE makes `solve` answer no model, with no learned literal. Assumes nothing.
-use Rattle.std.specs.Prelude.{ℕ, zero, suc, ◌≡◌, refl, Bool, true, false, List, [], ◌∷◌, ◌++◌, length, drop}
+use Rattle.std.specs.Prelude.{ℕ, zero, suc, ◌≡◌, refl, Bool, true, false, List, [], ◌∷◌, ◌++◌, length, drop, ◌*◌}
 use Rattle.std.proofs.Common.{◌∙◌}
 use Rattle.std.proofs.Math.Option.{Option, none, some}
 use Rattle.model.specs.Literal.{Literal, FALSE}
@@ -46,12 +46,12 @@ node_added s l (And a b) = added_trans (added_trans (clause_added s _) (clause_a
 nodes_added : (s : Solver) (i : ℕ) (ns : List Node) → Added s (add_nodes s i ns)
 unfolding add_nodes
 nodes_added s i [] = added_refl s
-nodes_added s i (n ∷ ns) = added_trans (node_added s _ n) (nodes_added _ (suc i) ns)
+nodes_added s i (n ∷ ns) = added_trans (node_added s _ n) (nodes_added (add_node s (i * 2) n) (suc i) ns)
 
 assumptions_added : (s : Solver) (ls : List Literal) → Added s (add_assumptions s ls)
 unfolding add_assumptions
 assumptions_added s [] = added_refl s
-assumptions_added s (l ∷ ls) = added_trans (clause_added s _) (assumptions_added _ ls)
+assumptions_added s (l ∷ ls) = added_trans (clause_added s _) (assumptions_added (add_aig_clause s (l ∷ [])) ls)
 
 -- FALSE after other assumptions
 false-inconsistent : (s : Solver) (ls ks : List Literal) → (add_assumptions s (ls ++ (FALSE ∷ ks))).inconsistent ≡ true

@@ -181,9 +181,9 @@ module _ (vs : List Bool) where
   pub decode : (env : ℕ → Bool) → Grounded vs → (g : Aig) → Formed g → length vs ≡ length g → Fits env vs 0 g → (ls : List Literal) → Holds (encode g ls)
       → (aig_node_values env g ≡ vs) × All (λ l. evaluate vs l ≡ true) ls
   unfolding encode aig_node_values aig_node_value
-  decode env gr [] w size f ls h = absurd (let q = w.ground in let z : ◌≡◌ {A = ℕ} 0 1 = cc in omega arith)
-  decode env gr (Variable v ∷ ns) w size f ls h = absurd (let q = w.ground in let z : ◌≡◌ {A = ℕ} 0 1 = cc in omega arith)
-  decode env gr (And a b ∷ ns) w size f ls h = absurd (let q = w.ground in let z : ◌≡◌ {A = ℕ} 0 1 = cc in omega arith)
+  decode env gr [] w size f ls h = absurd (let q = w.grounding in let z : ◌≡◌ {A = ℕ} 0 1 = cc in omega arith)
+  decode env gr (Variable v ∷ ns) w size f ls h = absurd (let q = w.grounding in let z : ◌≡◌ {A = ℕ} 0 1 = cc in omega arith)
+  decode env gr (And a b ∷ ns) w size f ls h = absurd (let q = w.grounding in let z : ◌≡◌ {A = ℕ} 0 1 = cc in omega arith)
   decode env gr (Constant ∷ ns) w size f ls h =
       let a = assumptions_hold gr _ ls h in
       let r = nodes_hold gr env (new (length (Constant ∷ ns))) 1 ns f.1 a.0 in

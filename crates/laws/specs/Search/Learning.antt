@@ -226,7 +226,7 @@ module _ (n : ℕ) (C : List Clause) (s : Solver) (w : Stuck n C s) (some_level 
   )
 
   clause-true : (vs : List Bool) → Satisfied vs C → clause_value vs (sort_literals clause) ≡ true
-  clause-true vs sat = sort-value vs clause ∙ z.holds vs (w.core.follow vs sat) (w.core.justified.ground vs sat)
+  clause-true vs sat = sort-value vs clause ∙ z.holds vs (w.core.follow vs sat) (w.core.justified.grounding vs sat)
 
   learned_added : Added n C (before after) (add_sorted (with_total (before after) total) (sort_literals clause)) (sort_literals clause)
   learned_added =

@@ -33,7 +33,7 @@ consistent s limit k values total e = go s.inconsistent refl
 -- what the values of a model are, over the encoding
 pub record EncodingTrue (g : Aig) (assumptions : List Literal) (values : List Bool) : Type 0 where
   pub size : length values ≡ length g
-  pub ground : Grounded values
+  pub grounding : Grounded values
   pub clauses_true : Satisfied values (encode g assumptions).clauses
 
 -- what the values of a model are, over the graph: its evaluation under each environment that gives the variables these values
@@ -43,7 +43,7 @@ pub record GraphTrue (g : Aig) (assumptions : List Literal) (values : List Bool)
 
 -- a formed graph has a node
 pub formed-pos : (g : Aig) → Formed g → 0 < length g
-formed-pos [] w = absurd (let q = w.ground in let z : ◌≡◌ {A = ℕ} 0 1 = cc in omega arith)
+formed-pos [] w = absurd (let q = w.grounding in let z : ◌≡◌ {A = ℕ} 0 1 = cc in omega arith)
 formed-pos (n ∷ g) w = omega arith
 
 module _ (limit : ℕ) (g : Aig) (formed : Formed g) (assumptions : List Literal) (inside : All (λ l. node l < length g) assumptions)
@@ -58,7 +58,7 @@ module _ (limit : ℕ) (g : Aig) (formed : Formed g) (assumptions : List Literal
       let s = encode g assumptions in
       let m : ModelOk (length g) s.clauses values
       = subst (AnswerOk (length g) s.clauses) answer (search_answers (length g) s encoded limit (rounds limit g) (consistent s limit (rounds limit g) values total answer)) in
-      record { size = m.size; ground = m.ground; clauses_true = m.clauses_true }
+      record { size = m.size; grounding = m.grounding; clauses_true = m.clauses_true }
 
   holds : Holds values (encode g assumptions)
   unfolding solve
@@ -68,10 +68,10 @@ module _ (limit : ℕ) (g : Aig) (formed : Formed g) (assumptions : List Literal
   solve-model : GraphTrue g assumptions values
   solve-model =
       record {
-        evaluation = λ env f. (decode values env solve-clauses.ground g formed solve-clauses.size f assumptions holds).0;
+        evaluation = λ env f. (decode values env solve-clauses.grounding g formed solve-clauses.size f assumptions holds).0;
         assumed =
             λ env f.
-            let r = decode values env solve-clauses.ground g formed solve-clauses.size f assumptions holds in
+            let r = decode values env solve-clauses.grounding g formed solve-clauses.size f assumptions holds in
             subst (λ vs. All (λ l. evaluate vs l ≡ true) assumptions) (sym r.0) r.1;
       }
 
@@ -115,6 +115,6 @@ pub finds : (limit : ℕ) (g : Aig) (assumptions : List Literal) (values : List 
 finds limit g ls values n w o inside e =
     let c = solve-clauses limit g w ls inside values n e in
     let m = solve-model limit g w ls inside values n e in
-    let f = fits values c.ground 0 g o in
+    let f = fits values c.grounding 0 g o in
     let q : aig_node_values (environment_of values) g ≡ values = m.evaluation (environment_of values) f in
     (environment_of values, sym q, subst (λ (v : List Bool). All (λ (l : Literal). evaluate v l ≡ true) ls) q (m.assumed (environment_of values) f))

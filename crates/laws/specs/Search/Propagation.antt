@@ -146,7 +146,7 @@ module _ (n : ℕ) (C : List Clause) where
           strict = w.core.justified.strict;
           reasoned = taken-reasoned;
           reasons_in = w.core.justified.reasons_in;
-          ground = w.core.justified.ground;
+          grounding = w.core.justified.grounding;
         }
 
     taken-core : Core n C u

@@ -59,7 +59,7 @@ pub record Justified (n : ℕ) (C cs : List Clause) (t : Assignment) : Type 0 wh
   pub strict : Strict t
   pub reasoned : Reasoned t cs
   pub reasons_in : ReasonsIn t (length cs)
-  pub ground : (vs : List Bool) → Satisfied vs C → Ground vs t
+  pub grounding : (vs : List Bool) → Satisfied vs C → Ground vs t
 
 -- the clauses follow from the original ones
 abbrev pub Follow : List Clause → List Clause → Type 0
@@ -91,7 +91,7 @@ justified-clauses n C cs ds t h same w =
       strict = w.strict;
       reasoned = λ p q. go p (w.reasoned p q);
       reasons_in = λ v id e. omega (arith, w.reasons_in v id e);
-      ground = w.ground;
+      grounding = w.grounding;
     }
   where
     go : (p : ℕ) → Begins t p ⊎ Because t cs p → Begins t p ⊎ Because t ds p
@@ -164,9 +164,9 @@ module _ (n : ℕ) (t : Assignment) (cs : List Clause) (l : Literal) (r : Option
   reasons-assign k f g v = set_any (λ o. (id : ℕ) → o ≡ some id → id < k) t.reasons (node l) v r none (g v) f
 
   -- old places of level 0 are so still; the new one is asked for
-  ground-assign : (vs : List Bool) → Ground vs t → (Bottom t (length t.trail) → evaluate vs l ≡ true) → Ground vs (assign t l r)
+  grounding-assign : (vs : List Bool) → Ground vs t → (Bottom t (length t.trail) → evaluate vs l ≡ true) → Ground vs (assign t l r)
   unfolding assign
-  ground-assign vs g f p hp b =
+  grounding-assign vs g f p hp b =
       snoc-all 0 (λ q x. ((i : ℕ) → i < length t.trail_limits → q < limit_at t i) → evaluate vs x ≡ true) t.trail l g f p hp b
 
 some_same : (a b : ℕ) → some a ≡ some b → a ≡ b
@@ -182,10 +182,10 @@ justified-assign n C cs t l r follow w h u b =
       strict = strict-assign n t cs l r inv h u inv.fits;
       reasoned = reasoned-assign n t cs l r inv h u w.reasoned (inr b);
       reasons_in = reasons-assign n t cs l r inv h u (length cs) (λ id e. subst (λ k. k < length cs) (some_same b.0 id (sym b.2 ∙ e)) b.1) w.reasons_in;
-      ground =
+      grounding =
           λ vs sat.
-          ground-assign n t cs l r inv h u vs (w.ground vs sat)
-          (λ bottom. unit_true vs t (lits cs b.0) l (w.ground vs sat) bottom b.3 (follow vs sat b.0 b.1));
+          grounding-assign n t cs l r inv h u vs (w.grounding vs sat)
+          (λ bottom. unit_true vs t (lits cs b.0) l (w.grounding vs sat) bottom b.3 (follow vs sat b.0 b.1));
     }
 
 -- ---- a decision
@@ -234,7 +234,7 @@ module _ (n : ℕ) (t : Assignment) where
         strict = strict-assign n (push_limit t) cs l none inv h u inv.fits;
         reasoned = reasoned-assign n (push_limit t) cs l none inv h u (reasoned_push cs w.reasoned) (inl push_begins);
         reasons_in = reasons-assign n (push_limit t) cs l none inv h u (length cs) (λ id e. none-some id e) w.reasons_in;
-        ground = λ vs sat. ground-assign n (push_limit t) cs l none inv h u vs (ground_push vs (w.ground vs sat)) (λ b. absurd (not_bottom b));
+        grounding = λ vs sat. grounding-assign n (push_limit t) cs l none inv h u vs (ground_push vs (w.grounding vs sat)) (λ b. absurd (not_bottom b));
       }
 
 -- ---- the cut
@@ -280,8 +280,8 @@ module _ (n : ℕ) (C cs : List Clause) (t : Assignment) (w : Justified n C cs t
           side lt id i (inl e) = inl e
           side lt id i (inr e) = inr (e.0, e.1, cut-entry n t inv level inside e.0 (omega (arith, e.1)) ∙ e.2)
 
-  ground-cut : (vs : List Bool) → Ground vs t → Ground vs after
-  ground-cut vs g p h b =
+  grounding-cut : (vs : List Bool) → Ground vs t → Ground vs after
+  grounding-cut vs g p h b =
       let lt : p < place = omega (arith, cut-length n t inv level inside) in
       subst (λ k. evaluate vs k ≡ true) (sym (cut-entry n t inv level inside p lt)) (g p (omega (arith, cut_fits n t inv level inside)) (bottom lt))
     where
@@ -298,5 +298,5 @@ module _ (n : ℕ) (C cs : List Clause) (t : Assignment) (w : Justified n C cs t
         strict = cut-strict n t inv level inside;
         reasoned = reasoned-cut;
         reasons_in = λ v id e. w.reasons_in v id (cut-reason n t inv level inside v id e);
-        ground = λ vs sat. ground-cut vs (w.ground vs sat);
+        grounding = λ vs sat. grounding-cut vs (w.grounding vs sat);
       }

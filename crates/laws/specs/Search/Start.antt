@@ -50,7 +50,7 @@ module _ (n : ℕ) where
         strict = λ i h. absurd (omega arith);
         reasoned = λ p h. absurd (omega arith);
         reasons_in = λ v id e. absurd (let q : none ≡ some id = sym (get_or-replicate {A = Option ℕ} n v none) ∙ e in let z : ◌≡◌ {A = ℕ} 0 1 = cc in omega arith);
-        ground = λ vs sat p h. absurd (omega arith);
+        grounding = λ vs sat p h. absurd (omega arith);
       }
 
   -- ---- the unit clauses
@@ -96,7 +96,7 @@ module _ (n : ℕ) where
     unit_refutes t l id q z w e vs sat =
         let o = w.justified.trail_inv.on_trail (negate l) (negate-true t l e) in
         let x = true-literal vs (l ∷ []) (subst (λ ls. clause_value vs ls ≡ true) z (sat id q)) in
-        bottom_false vs t (length t.trail) l (w.justified.ground vs sat) (omega arith) (λ p h i k. absurd (omega (arith, ap length w.no-level))) (o.0, o.1, o.2)
+        bottom_false vs t (length t.trail) l (w.justified.grounding vs sat) (omega arith) (λ p h i k. absurd (omega (arith, ap length w.no-level))) (o.0, o.1, o.2)
         (first x.0 x.1 x.2)
       where
         first : (i : ℕ) → i < 1 → evaluate vs (get_or (l ∷ []) i 0) ≡ true → evaluate vs l ≡ true

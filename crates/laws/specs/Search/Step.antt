@@ -55,7 +55,7 @@ module _ (n : ℕ) (C : List Clause) where
   -- what a model's values are; no model: nothing makes the original clauses true
   pub record ModelOk (values : List Bool) : Type 0 where
     pub size : length values ≡ n
-    pub ground : Grounded values
+    pub grounding : Grounded values
     pub clauses_true : Satisfied values C
 
   -- what an answer must be
@@ -75,11 +75,11 @@ module _ (n : ℕ) (C : List Clause) where
     inv = w.idle.core.justified.trail_inv
 
     -- variable 0 is not assigned
-    ground-value : (v : Value) → get_or t.assignments 0 Unassigned ≡ v → is_true v ≡ false
+    grounding-value : (v : Value) → get_or t.assignments 0 Unassigned ≡ v → is_true v ≡ false
     unfolding is_true value node inverted literal_value
-    ground-value False e = refl
-    ground-value Unassigned e = refl
-    ground-value True e =
+    grounding-value False e = refl
+    grounding-value Unassigned e = refl
+    grounding-value True e =
         let o = inv.on_trail 0 (rw e) in
         absurd (omega (arith, (inv.range o.0 o.1).0, o.2))
 
@@ -124,7 +124,7 @@ module _ (n : ℕ) (C : List Clause) where
       model_ok =
           record {
             size = length-map t.assignments is_true ∙ inv.size;
-            ground = model_at t 0 ∙ ground-value (get_or t.assignments 0 Unassigned) refl;
+            grounding = model_at t 0 ∙ grounding-value (get_or t.assignments 0 Unassigned) refl;
             clauses_true = orig_true;
           }
 
@@ -244,7 +244,7 @@ module _ (n : ℕ) (C : List Clause) where
   conflict_refutes : (s : Solver) (id : ℕ) → length s.assignment.trail_limits ≡ 0 → (w : Stuck n C s) → Conflicting s id w.place → (vs : List Bool) → Satisfied vs C → ⊥
   conflict_refutes s id e w c vs sat =
       let x = true-literal vs (lits s.clauses id) (w.core.follow vs sat id c.known) in
-      bottom_false vs s.assignment (length s.assignment.trail) (get_or (lits s.clauses id) x.0 0) (w.core.justified.ground vs sat) (omega arith)
+      bottom_false vs s.assignment (length s.assignment.trail) (get_or (lits s.clauses id) x.0 0) (w.core.justified.grounding vs sat) (omega arith)
       (λ q h i k. absurd (omega arith)) (c.all x.0 x.1) x.2
 
   conflict-keeps : (limit : ℕ) (s : Solver) (id level : ℕ) → length s.assignment.trail_limits ≡ level → (w : Stuck n C s) → Conflicting s id w.place

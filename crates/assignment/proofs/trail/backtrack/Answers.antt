@@ -1,0 +1,11 @@
+-- `backtrack` meets its contract: by whether there is a level above. Assumes nothing.
+use Rattle.std.proofs.Common.{◌∙◌}
+use Rattle.assignment.specs.BacktrackLaws.{backtracks_not, backtracks}
+use Rattle.assignment.proofs.trail.backtrack.Goals as goal
+
+pub returns-then-t-level : goal.returns-then-t-level
+returns-then-t-level c = backtracks_not _ _ _ c.requires c.if-t-level.true
+
+pub returns : goal.returns
+returns c =
+    backtracks _ _ _ _ _ _ c.requires c.if-t-level.false (c.wide-head.ensures ∙ c.fetch_below.ensures) c.lower-length.ensures c.unassign_from.ensures

@@ -1,0 +1,19 @@
+-- The check: its course, what its verdict means, and the laws of demand 3 in its numbers. Assumes nothing.
+pub mod Course
+pub mod Ending
+pub mod Meaning
+pub mod Designs
+pub mod Records
+pub mod Clock
+pub mod Queries
+pub mod Walk
+pub mod Asked
+pub mod Learned
+pub mod Limited
+pub mod LargerLimit
+pub mod GiveUp
+pub mod Numbers
+pub mod Demand3
+pub mod Proved
+pub mod GoingOn
+pub mod Earliest

@@ -1,0 +1,15 @@
+-- `trace::write_marks` meets its contract. Assumes nothing.
+use Rattle.std.proofs.Common.{◌≡◌, ◌+◌, ◌-◌, ◌≤◌, length}
+use Rattle.assignment.specs.State.{model_of}
+use Rattle.words.specs.Layout.{FRAMES, GOLD-OUTPUTS, GATE-OUTPUTS}
+use Rattle.words.specs.Region.{region}
+use Rattle.trace.specs.Cycles.{marks_of}
+use Rattle.trace.specs.Writing.{Wrote}
+use Rattle.trace.proofs.write_marks.Given as goal
+
+abbrev pub invariant-loop-i : goal.invariant-loop-i
+invariant-loop-i l =
+    (l.i ≤ l.n) × (length l.trace ≡ length l.initial.trace) × Wrote l.place (marks_of (model_of l.nodes l.words) l.i (l.row + GOLD-OUTPUTS) (l.row + GATE-OUTPUTS) (region FRAMES l.words)) l.initial.trace l.trace
+
+abbrev pub decreases-loop-i : goal.decreases-loop-i
+decreases-loop-i l = l.n - l.i
