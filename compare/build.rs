@@ -1,4 +1,4 @@
-//! Links the static library that `rt staticlib solver` writes; the bindings link that of `rt staticlib struo_formal`.
+//! Links the static library that `tools/staticlib solver` writes; the bindings link that of `tools/staticlib struo_formal`.
 fn main() {
     let root = std::path::Path::new(env!("CARGO_MANIFEST_DIR")).join("../target/staticlib");
     println!("cargo:rustc-link-search=native={}", root.display());

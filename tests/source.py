@@ -96,15 +96,15 @@ def functions(path: str, text: str) -> List[Function]:
         opened = start.end()
         end = closing(code, opened)
         parameters = tuple(typed(part) for part in split(code[opened + 1:end]))
-        answer = re.compile(r"\s*->\s*([\w\[\]; ]+?)(?=\s*(?:requires|ensures|\{))").match(code, end + 1)
+        answer = re.compile(r"\s*->\s*([^{}]+?)(?=\s*(?:\b(?:requires|ensures|where)\b|\{))").match(code, end + 1)
         at = answer.end() if answer else end + 1
-        clauses = {"requires": "", "ensures": ""}
-        while clause := re.compile(r"\s*(requires|ensures)\s*\{").match(code, at):
+        clauses = {"requires": [], "ensures": []}
+        while clause := re.compile(r"\s*\b(requires|ensures)\b\*?(?:\s+\w+)?\s*\{").match(code, at):
             at = closing(code, clause.end() - 1)
-            clauses[clause[1]] += " ".join(code[clause.end():at].split())
+            clauses[clause[1]].append(" ".join(code[clause.end():at].split()))
             at += 1
         attributes, comment = above(text, start.start())
-        found.append(Function(path, start[2], bool(start[1]), attributes, comment, parameters, answer[1] if answer else "", **clauses))
+        found.append(Function(path, start[2], bool(start[1]), attributes, comment, parameters, answer[1] if answer else "", *(" × ".join(clauses[kind]) for kind in ("requires", "ensures"))))
     return found
 
 

@@ -1,4 +1,4 @@
-//! Links the static library that `rt staticlib struo_formal` writes: from the folder in `STRUO_LIB`, else from target/staticlib of this repository.
+//! Links the static library that `tools/staticlib struo_formal` writes: from the folder in `STRUO_LIB`, else from target/staticlib of this repository.
 use std::env;
 use std::path::PathBuf;
 use std::process::exit;
@@ -11,7 +11,7 @@ fn main() {
     println!("cargo:rerun-if-changed={}", library.display());
     if !library.is_file() {
         eprintln!("There is no {}.", library.display());
-        eprintln!("Run `./struo version` or `rt staticlib struo_formal` at the root of the repository, which prove and build it in about 8 minutes,");
+        eprintln!("Run `./struo version` or `tools/staticlib struo_formal` at the root of the repository, which prove and build it in about 8 minutes,");
         eprintln!("or set STRUO_LIB to a folder that has libstruo_formal.a.");
         exit(1);
     }

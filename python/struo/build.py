@@ -11,6 +11,8 @@ from typing import Dict, Iterator, List, Optional
 from .progress import BuildProgress, tell
 
 LIBRARY = "struo_formal"
+EXPORTS = f"{LIBRARY}_c"
+MAKER = "tools/staticlib"
 FILE = f"lib{LIBRARY}.so"
 FOLDERS = ("src", "specs", "proofs")
 
@@ -22,7 +24,7 @@ class LibraryMissing(Exception):
 def repository() -> Optional[Path]:
     """The repository that this package stands in, if it does."""
     root = Path(__file__).resolve().parents[2]
-    return root if (root / "crates" / LIBRARY / "src").is_dir() and (root / "crates.txt").is_file() else None
+    return root if (root / "crates" / EXPORTS / "src").is_dir() and (root / "crates.txt").is_file() else None
 
 
 def built_library() -> Path:
@@ -80,7 +82,7 @@ class Build:
             self.link()
 
     def crates(self) -> List[str]:
-        """The crates of the repository that the library needs, itself last."""
+        """The crates of the repository that the library needs, its exports last."""
         needs = self.needs()
         found: List[str] = []
 
@@ -92,14 +94,14 @@ class Build:
             if name not in found:
                 found.append(name)
 
-        visit(LIBRARY)
+        visit(EXPORTS)
         return found
 
     def needs(self) -> Dict[str, List[str]]:
         """What each crate of crates.txt depends on."""
         lines = (line.split("#")[0] for line in (self.root / "crates.txt").read_text().splitlines())
         pairs = (line.split(":", 1) for line in lines if ":" in line)
-        return {name.strip(): others.split() for name, others in pairs}
+        return {words.split()[0]: others.split() for words, others in pairs}
 
     def sources(self) -> Iterator[Path]:
         """The files from which the library is made."""
@@ -121,21 +123,18 @@ class Build:
         return self.fresh(self.object) and not (self.archive.exists() and self.archive.stat().st_mtime_ns > self.object.stat().st_mtime_ns)
 
     def prove(self) -> None:
-        """Proves what the library depends on, as many crates at a time as there are processors, and then the library."""
-        rt = shutil.which("rt")
-        if rt is None:
+        """Proves the library and what it depends on, as many crates at a time as there are processors, and builds the archive."""
+        if shutil.which("rt") is None:
             raise LibraryMissing("the library has to be proved first, and `rt`, the command of the Rattle toolchain, is not on the path")
         crates = self.crates()
         tell(f"struo: the checker's library is proved and built first, once: {len(crates)} crates, about 8 minutes on two processors.")
         tell(f"struo: what the prover says goes to {self.log.relative_to(self.root)}")
         with open(self.log, "wb") as log, BuildProgress(crates) as progress:
-            needs = self.needs()
-            for words in (["check", *(name for name in needs[LIBRARY] if name in needs)], ["staticlib", LIBRARY]):
-                self.run([rt, *words], log, progress)
+            self.run([MAKER, LIBRARY], log, progress)
         tell(f"struo: proved and built in {progress.time}.")
 
     def run(self, words: List[str], log, progress: BuildProgress) -> None:
-        """One command of the toolchain, its lines kept and counted."""
+        """One command, run at the root, its lines kept and counted."""
         with subprocess.Popen(words, cwd=self.root, stdin=subprocess.DEVNULL, stdout=subprocess.PIPE, stderr=subprocess.STDOUT) as child:
             assert child.stdout is not None
             for line in child.stdout:
@@ -143,9 +142,7 @@ class Build:
                 log.flush()
                 progress.line(line.decode("utf-8", "replace"))
         if child.returncode != 0:
-            raise LibraryMissing(f"the library is not built: `rt {words[1]}` ended with status {child.returncode}; what it said is in {self.log}")
-        if words[1] == "staticlib":
-            progress.line(f"rt: {LIBRARY} proved")
+            raise LibraryMissing(f"the library is not built: `{' '.join(words)}` ended with status {child.returncode}; what it said is in {self.log}")
 
     def link(self) -> None:
         """Links the archive whole as a shared object, put in place by a rename so that no run loads half of it."""
@@ -175,7 +172,7 @@ def plain_linkers() -> Iterator[str]:
     rt = shutil.which("rt")
     home = os.environ.get("RATTLE_HOME") or (rt and str(Path(rt).resolve().parents[1]))
     if home:
-        own = Path(home) / "on" / os.uname().machine / "toolchain" / "bin" / "ld.lld"
+        own = Path(home) / "toolchain" / "bin" / "ld.lld"
         if own.is_file():
             yield str(own)
     for name in ("ld.lld", "ld"):

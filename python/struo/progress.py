@@ -8,7 +8,10 @@ import time
 from types import TracebackType
 from typing import List, Optional, Set, Type
 
-_PROVED = re.compile(r"^rt: (\w+) proved\b")
+# A crate's lines begin with its name, and one of them is the verdict; the last lines sum all crates up.
+_BEGUN = re.compile(r"^== (\w+)$")
+_PROVED = re.compile(r"^logic=proved ")
+_SUMMED = re.compile(r"^(\w+): ok$")
 
 
 def tell(text: str) -> None:
@@ -98,6 +101,7 @@ class BuildProgress(Ticker):
         super().__init__()
         self.crates: Set[str] = set(crates)
         self.proved: Set[str] = set()
+        self.named = ""
 
     def text(self) -> str:
         """The crates proved of all, and the time so far."""
@@ -105,8 +109,11 @@ class BuildProgress(Ticker):
 
     def line(self, line: str) -> None:
         """Counts a line of the toolchain where it says that a crate is proved."""
-        found = _PROVED.match(line)
-        if found and found[1] in self.crates - self.proved:
-            self.proved.add(found[1])
+        begun, summed = _BEGUN.match(line), _SUMMED.match(line)
+        if begun:
+            self.named = begun[1]
+        name = summed[1] if summed else self.named if _PROVED.match(line) else ""
+        if name in self.crates - self.proved:
+            self.proved.add(name)
             if not on_terminal():
                 tell(self.text())

@@ -16,13 +16,18 @@ from struo.progress import duration
 
 ARCHIVE = ROOT / "target" / "staticlib" / "libstruo_formal.a"
 
-# Stands for the toolchain's command: says that crates are proved, and puts the archive where it belongs.
+# The crates of the stand-in repository, in the order in which they are proved.
+CRATES = "model checker struo_formal struo_formal_c"
+
+# Stands for the toolchain's command, run in a crate's folder: says that crates are proved, the last one only in the lines that sum up, and leaves the archive where the toolchain leaves it.
 FAKE = """#!/bin/sh
-echo "$*" >> "{folder}/calls"
-[ -f "{folder}/fail" ] && {{ echo "rt: model NOT PROVED (exit 1, 2 s)"; exit 1; }}
+echo "$(/usr/bin/basename "$PWD"): $*" >> "{folder}/calls"
+[ -f "{folder}/fail" ] && {{ echo "model: failed (1)"; exit 1; }}
 case $1 in
-check) shift; for name in "$@"; do echo "fn $name::one: proved"; echo "rt: $name proved (1 s)"; {sleep} done ;;
-staticlib) /bin/mkdir -p target/staticlib; /bin/cp "{archive}" target/staticlib/; /bin/touch target/staticlib/* ;;
+all) for name in {crates}; do
+    echo "== $name"; [ $name = struo_formal_c ] || {{ echo "fn $name::one: proved"; echo "logic=proved functions=1"; {sleep} }}
+done; echo "== summary"; for name in {crates}; do echo "$name: ok"; done ;;
+lib) /bin/mkdir -p out; /bin/cp "{archive}" out/libstruo_formal_c.a ;;
 esac
 """
 
@@ -40,23 +45,27 @@ class FirstUse(Case):
         self.root = self.folder / "repository"
         shutil.copytree(ROOT / "python", self.root / "python", ignore=shutil.ignore_patterns("__pycache__"))
         shutil.copy(ROOT / "struo", self.root / "struo")
-        (self.root / "crates.txt").write_text("# a comment\nmodel:\nchecker: model\nstruo_formal: model checker\nother: model\n")
-        for crate in ("model", "checker", "struo_formal", "other"):
+        (self.root / "crates.txt").write_text("# a comment\nmodel:\nchecker: model\nstruo_formal: model checker\nstruo_formal_c staticlib: model struo_formal\nother: model\n")
+        (self.root / "tools").mkdir()
+        shutil.copy(ROOT / "tools" / "staticlib", self.root / "tools")
+        for crate in (*CRATES.split(), "other"):
             (self.root / "crates" / crate / "src").mkdir(parents=True)
             (self.root / "crates" / crate / "src" / "lib.rt").write_text("// nothing\n")
         self.tools = self.folder / "tools"
         self.tools.mkdir()
+        for word in ("bash", "dirname", "mkdir", "cp", "mv"):
+            self.tools.joinpath(word).symlink_to(shutil.which(word))
         self.toolchain("")
 
     def toolchain(self, sleep: str) -> None:
         """The stand-in on the path."""
-        self.tools.joinpath("rt").write_text(FAKE.format(folder=self.folder, archive=ARCHIVE, sleep=sleep))
+        self.tools.joinpath("rt").write_text(FAKE.format(folder=self.folder, archive=ARCHIVE, crates=CRATES, sleep=sleep))
         self.tools.joinpath("rt").chmod(0o755)
 
     def environment(self, path: str = "") -> dict:
         """The environment with the stand-in first on the path."""
         kept = {name: value for name, value in os.environ.items() if name not in ("STRUO_LIBRARY", "RATTLE_HOME")}
-        return {**kept, "PATH": path or f"{self.tools}:{os.environ['PATH']}"}
+        return {**kept, "RT_JOBS": "2", "PATH": path or f"{self.tools}:{os.environ['PATH']}"}
 
     def struo(self, *words: str, **environment: str) -> Ended:
         """The command of this repository."""
@@ -72,12 +81,12 @@ class FirstUse(Case):
     def test_it_is_built_once(self):
         ended = self.struo("check", WIRE, WIRE)
         self.assertEqual((ended.status, ended.out[:12]), (0, "Equivalent: "))
-        self.assertEqual(self.calls(), ["check model checker", "staticlib struo_formal"])
+        self.assertEqual(self.calls(), ["struo_formal_c: all check --jobs 2", "struo_formal_c: lib"])
         self.assertTrue(ended.err.endswith(SAID), ended.err)
         lines = ended.err[:-len(SAID)].splitlines()
-        self.assertRegex(lines[0], "proved and built first, once: 3 crates, about 8 minutes on two processors")
+        self.assertRegex(lines[0], "proved and built first, once: 4 crates, about 8 minutes on two processors")
         self.assertEqual(lines[1], "struo: what the prover says goes to target/struo/build.log")
-        self.assertEqual([line.split(" crates")[0] for line in lines[2:5]], [f"struo: {count} of 3" for count in (1, 2, 3)])
+        self.assertEqual([line.split(" crates")[0] for line in lines[2:6]], [f"struo: {count} of 4" for count in (1, 2, 3, 4)])
         self.assertRegex(lines[-1], r"^struo: proved and built in \d+ s\.$")
         self.assertIn("fn model::one: proved", (self.root / "target" / "struo" / "build.log").read_text())
         again = self.struo("check", WIRE, WIRE)
@@ -112,8 +121,8 @@ class FirstUse(Case):
         (self.folder / "fail").touch()
         ended = self.struo("check", WIRE, WIRE)
         self.assertEqual((ended.status, ended.out), (69, ""))
-        self.assertIn(f"`rt check` ended with status 1; what it said is in {self.root}/target/struo/build.log", ended.err)
-        self.assertIn("model NOT PROVED", (self.root / "target" / "struo" / "build.log").read_text())
+        self.assertIn(f"`tools/staticlib struo_formal` ended with status 1; what it said is in {self.root}/target/struo/build.log", ended.err)
+        self.assertIn("model: failed", (self.root / "target" / "struo" / "build.log").read_text())
 
     def test_two_first_runs_build_once(self):
         self.toolchain("sleep 1.5;")
@@ -140,7 +149,7 @@ class FirstUse(Case):
     def test_the_toolchains_linker_where_there_is_no_compiler(self):
         rt = shutil.which("rt")
         home = rt and Path(rt).resolve().parents[1]
-        if not home or not (home / "on" / os.uname().machine / "toolchain" / "bin" / "ld.lld").exists():
+        if not home or not (home / "toolchain" / "bin" / "ld.lld").exists():
             self.skipTest("no toolchain with a linker")
         ended = self.struo("check", WIRE, WIRE, PATH=str(self.tools), RATTLE_HOME=str(home))
         self.assertEqual((ended.status, ended.out[:12]), (0, "Equivalent: "))
@@ -153,7 +162,7 @@ class FirstUse(Case):
     def test_a_changing_line_on_a_terminal(self):
         self.toolchain("sleep 1.3;")
         shown = self.on_terminal([sys.executable, str(self.root / "struo"), "check", WIRE, WIRE])
-        self.assertRegex(shown, r"\r\x1b\[Kstruo: [0123] of 3 crates proved, \d+ s so far")
+        self.assertRegex(shown, r"\r\x1b\[Kstruo: [01234] of 4 crates proved, \d+ s so far")
         self.assertIn("Equivalent: ", shown)
 
     def on_terminal(self, words: list) -> str:
@@ -194,7 +203,7 @@ class Progress(Case):
 
     def test_the_crates_that_the_library_needs(self):
         crates = Build(ROOT).crates()
-        self.assertEqual(crates[-1], "struo_formal")
+        self.assertEqual(crates[-2:], ["struo_formal", "struo_formal_c"])
         self.assertEqual(len(crates), len(set(crates)))
         self.assertIn("model", crates)
         self.assertNotIn("vectors", crates)

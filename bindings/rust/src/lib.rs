@@ -53,19 +53,19 @@ pub const BITS: usize = 256;
 pub const GATE_BITS: usize = 128;
 
 /// How many bytes of stack a read takes at most.
-pub const READ_STACK: usize = 70_000;
+pub const READ_STACK: usize = 120_000;
 
 /// How many bytes of stack a check takes at most.
-pub const CHECK_STACK: usize = 145_000;
+pub const CHECK_STACK: usize = 225_000;
 
 /// How many bytes of stack a replay takes at most.
-pub const REPLAY_STACK: usize = 170_000;
+pub const REPLAY_STACK: usize = 225_000;
 
 /// How many bytes of stack a begin takes at most.
-pub const BEGIN_STACK: usize = 145_000;
+pub const BEGIN_STACK: usize = 230_000;
 
 /// How many bytes of stack a step takes at most.
-pub const STEP_STACK: usize = 198_000;
+pub const STEP_STACK: usize = 255_000;
 
 /// Reads a design record: accepted, or the first refusal of 1 to 15, then 30, with its place.
 pub fn read(record: &[u8]) -> ReadAnswer {

@@ -10,7 +10,7 @@ use crate::refusal::{Refusal, told_refusal};
 use lender::text::{hex, number, space};
 
 // What a line asks for: the lengths of the records, the depth, the limit, 1 or 0 for the earliest cycle or not, and the lengths of the buffers; and the offset after them.
-#[derive(Drop)]
+#[derive(Clone, Copy)]
 pub struct Asked {
     pub gold: usize,
     pub gate: usize,
@@ -50,7 +50,7 @@ pub fn asked_of(line: &[u8], gold: &mut [u8], gate: &mut [u8]) -> Asked {
 }
 
 // Status, depth, mismatch and query of a recorded answer, and the offset after them.
-#[derive(Drop)]
+#[derive(Clone, Copy)]
 pub struct Verdict {
     pub status: u64,
     pub depth: u64,
@@ -60,7 +60,7 @@ pub struct Verdict {
 }
 
 // The most that a query learned, its depth and its number in a recorded answer, and the offset after them.
-#[derive(Drop)]
+#[derive(Clone, Copy)]
 pub struct Learned {
     pub total: u64,
     pub depth: u64,
@@ -69,7 +69,7 @@ pub struct Learned {
 }
 
 // Whether outputs are proved equal through a cycle, 0 or 1, and that cycle in a recorded answer, and the offset after them.
-#[derive(Drop)]
+#[derive(Clone, Copy)]
 pub struct Proved {
     pub equal: u64,
     pub through: u64,
@@ -113,7 +113,7 @@ fn told_proved(line: &[u8], from: usize) -> Proved {
 }
 
 // A recorded answer: its numbers, how many bytes of the trace are written, and the offset after it.
-#[derive(Drop)]
+#[derive(Clone, Copy)]
 pub struct Recorded {
     pub refusal: Refusal,
     pub verdict: Verdict,

@@ -1,4 +1,6 @@
 // The recorded list of calls: what each form of line asks for and has as its answer, how a difference is told, and the lines counted.
+#![tactic(auto)]
+
 pub mod check_line;
 pub mod lent;
 pub mod outcome;

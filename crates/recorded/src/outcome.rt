@@ -1,8 +1,8 @@
 // What comparing a line found, and how it is told.
-use libc::STDOUT_FILENO;
+use std::io;
 
 // A number that differs: which one, what it should be and what it is.
-#[derive(Drop)]
+#[derive(Clone, Copy)]
 pub struct Difference {
     pub what: u8,
     pub expected: u64,
@@ -10,7 +10,7 @@ pub struct Difference {
 }
 
 // A line agrees, is not in the form, or differs.
-#[derive(Drop)]
+#[derive(Clone, Copy)]
 pub enum Outcome {
     Same,
     Malformed,
@@ -69,44 +69,37 @@ pub fn compared(so_far: Outcome, what: u8, expected: u64, answered: u64) -> Outc
 }
 
 // The eight bytes of a list of names at a number.
-fn tell_name(names: &[u8], k: u8) {
+fn tell_name(rt: &impl Print, names: &[u8], k: u8) -> io::Result<()> {
     let from = (k % 16) as usize * 8;
     let end = from + 8;
     if end <= names.len() {
-        io::write_all(STDOUT_FILENO, &names[from..end]);
+        rt.write_all(&names[from..end])?;
     }
+    Ok(())
 }
 
 // The name of a part of an answer.
-fn tell_part(what: u8) {
+fn tell_part(rt: &impl Print, what: u8) -> io::Result<()> {
     tell_name(
+        rt,
         b"number  side    place   yes     status  depth   mismatchquery   learned ldepth  lquery  equal   through trace   word    score   ",
         what,
-    );
+    )
 }
 
 // A differing line: its number in the file and what differs; of a buffer the first place.
-pub fn tell_difference(line: u64, d: Difference) {
-    io::write_all(STDOUT_FILENO, b"line ");
-    io::print_decimal(STDOUT_FILENO, line);
-    io::write_all(STDOUT_FILENO, b": ");
-    tell_part(d.what);
+pub fn tell_difference(rt: &impl Print, line: u64, d: Difference) -> io::Result<()> {
+    let answered = d.answered;
+    let expected = d.expected;
+    print!(rt; "line {line}: ")?;
+    tell_part(rt, d.what)?;
     if TRACE <= d.what {
-        io::write_all(STDOUT_FILENO, b" differs at ");
-        io::print_decimal(STDOUT_FILENO, d.answered);
-        io::write_all(STDOUT_FILENO, b"\n");
-        return;
+        return println!(rt; " differs at {answered}");
     }
-    io::write_all(STDOUT_FILENO, b" is ");
-    io::print_decimal(STDOUT_FILENO, d.answered);
-    io::write_all(STDOUT_FILENO, b", expected ");
-    io::print_decimal(STDOUT_FILENO, d.expected);
-    io::write_all(STDOUT_FILENO, b"\n");
+    println!(rt; " is {answered}, expected {expected}")
 }
 
 // A line that is not in the form.
-pub fn tell_malformed(line: u64) {
-    io::write_all(STDOUT_FILENO, b"line ");
-    io::print_decimal(STDOUT_FILENO, line);
-    io::write_all(STDOUT_FILENO, b": malformed\n");
+pub fn tell_malformed(rt: &impl Print, line: u64) -> io::Result<()> {
+    println!(rt; "line {line}: malformed")
 }

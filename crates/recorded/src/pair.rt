@@ -2,7 +2,7 @@
 use lender::text::{hex, space};
 
 // The lengths of both records, and the offset after them.
-#[derive(Drop)]
+#[derive(Clone, Copy)]
 pub struct Pair {
     pub gold: usize,
     pub gate: usize,

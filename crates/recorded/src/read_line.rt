@@ -3,7 +3,7 @@ use crate::refusal::{Refusal, told_refusal};
 use lender::text::hex;
 
 // What a line asks for and has as its answer: the record's length, and the three numbers, after which the line ends.
-#[derive(Drop)]
+#[derive(Clone, Copy)]
 pub struct ReadLine {
     pub record: usize,
     pub refusal: Refusal,

@@ -3,7 +3,7 @@ use crate::outcome::{NUMBER, Outcome, PLACE, SIDE, compared};
 use lender::text::{equals, number, space};
 
 // Number, side and place of a recorded answer, and the offset after them.
-#[derive(Drop)]
+#[derive(Clone, Copy)]
 pub struct Refusal {
     pub number: u64,
     pub side: u64,

@@ -4,7 +4,7 @@ use crate::refusal::{Refusal, told_refusal};
 use lender::text::{hex, number, space, yes_or_no};
 
 // What a line asks for and has as its answer: the lengths of records and claim, the cycle; the three numbers, yes (1) or no (0), and the offset after them.
-#[derive(Drop)]
+#[derive(Clone, Copy)]
 pub struct ReplayLine {
     pub gold: usize,
     pub gate: usize,

@@ -2,10 +2,10 @@
 ghost use Rattle.std.specs.Prelude.{◌≡◌, length};
 
 use crate::outcome::{Outcome, tell_difference, tell_malformed};
-use libc::STDOUT_FILENO;
+use std::io;
 
 // How many bytes of a line are held, how many lines ended, and what came of those that make a call.
-#[derive(Drop)]
+#[derive(Clone, Copy)]
 pub struct Tally {
     pub held: usize,
     pub ended: u64,
@@ -25,22 +25,22 @@ pub fn more(n: u64) -> u64 {
     if n < u64::MAX { n + 1 } else { n }
 }
 
-// The tally after a line that made a call.
-pub fn counted(t: Tally, outcome: Outcome) -> Tally {
+// The tally after a line that made a call; an answer that differs is told.
+pub fn counted(rt: &impl Print, t: Tally, outcome: Outcome) -> io::Result<Tally> {
     let mut next = t;
     next.lines = more(t.lines);
     match outcome {
         Outcome::Same => {}
         Outcome::Malformed => {
             next.differ = more(t.differ);
-            tell_malformed(t.ended);
+            tell_malformed(rt, t.ended)?;
         }
         Outcome::Differs(d) => {
             next.differ = more(t.differ);
-            tell_difference(t.ended, d);
+            tell_difference(rt, t.ended, d)?;
         }
     }
-    next
+    Ok(next)
 }
 
 // One more byte of a line; a line that is longer than what can be held is counted as malformed.
@@ -57,9 +57,8 @@ pub fn keep(line: &mut [u8], t: Tally, b: u8) -> Tally {
 }
 
 // The closing line.
-pub fn tell(t: Tally) {
-    io::print_decimal(STDOUT_FILENO, t.lines);
-    io::write_all(STDOUT_FILENO, b" lines, ");
-    io::print_decimal(STDOUT_FILENO, t.differ);
-    io::write_all(STDOUT_FILENO, b" differ\n");
+pub fn tell(rt: &impl Print, t: Tally) -> io::Result<()> {
+    let lines = t.lines;
+    let differ = t.differ;
+    println!(rt; "{lines} lines, {differ} differ")
 }

@@ -1,37 +1,48 @@
 // Runs a file of recorded calls, compares every answer with the recorded one, and says how many lines differ.
+#![tactic(auto)]
+
 mod cases;
 mod checks;
 mod lines;
 
 use lines::{end_line, feed};
 use recorded::tally::{Tally, line, tell};
+use std::env::{Env, FillError};
+use std::fs::File;
+use std::io;
+use std::io::Read;
 
 // A part of the file, and whether it was the last one.
-#[derive(Drop)]
+#[derive(Clone, Copy)]
 struct Part {
     tally: Tally,
     more: bool,
 }
 
 // Reads once and runs the lines that end in what came.
-fn some_lines(fd: i32, line: &mut [u8], t: Tally) -> Part {
-    let mut buf = io::large_buffer();
-    let n = io::read_full(fd, &mut buf);
+fn some_lines(
+    rt: &impl Print,
+    file: &mut impl Read,
+    line: &mut [u8],
+    t: Tally,
+) -> io::Result<Part> {
+    let mut buf = [0; 65536];
+    let n = file.read(&mut buf)?;
     if n == 0 {
-        return Part {
+        return Ok(Part {
             tally: t,
             more: false,
-        };
+        });
     }
-    let next = feed(&buf[..n], line, t);
-    Part {
+    let next = feed(rt, &buf[..n], line, t)?;
+    Ok(Part {
         tally: next,
         more: true,
-    }
+    })
 }
 
 // The whole file. Nothing says that a file ends, so the turns are counted down from a number that no run uses up.
-fn all_lines(fd: i32, line: &mut [u8]) -> Tally {
+fn all_lines(rt: &impl Print, file: &mut impl Read, line: &mut [u8]) -> io::Result<Tally> {
     let mut t = Tally {
         held: 0,
         ended: 0,
@@ -40,31 +51,60 @@ fn all_lines(fd: i32, line: &mut [u8]) -> Tally {
     };
     let mut turns = u64::MAX;
     while 0 < turns {
-        let part = some_lines(fd, line, t);
+        let part = some_lines(rt, file, line, t)?;
         t = part.tally;
         if !part.more {
-            return t;
+            return Ok(t);
         }
         turns -= 1;
     }
-    t
+    Ok(t)
 }
 
-fn main() {
-    let mut path = io::buffer();
-    let length = os::arg(1, &mut path);
-    if os::errno() != 0 {
-        os::fail(b"path");
-        return;
+// The system's numbers of three errors: no such argument, an argument longer than a path can be, and one that is no text.
+const INVALID: i32 = 22;
+
+const TOO_LONG: i32 = 36;
+
+const NO_TEXT: i32 = 84;
+
+// What failed, and the system's words for why, as a line of the standard error.
+fn fail(rt: &(impl Eprint + AllocGlobal), what: &str, why: io::Error) -> io::Result<()> {
+    let text = why.to_string(rt.alloc())?;
+    let words = text.as_str();
+    let reason = match words.split_once(" (os error ") {
+        Some((before, _)) => before,
+        None => words,
+    };
+    eprintln!(rt; "{what}: {reason}")
+}
+
+// The first argument, put into the buffer.
+fn argument<'a>(rt: &impl Env, buf: &'a mut [u8]) -> io::Result<&'a str> {
+    let n = match rt.arg(1, buf) {
+        Ok(n) => n,
+        Err(FillError::NotPresent) => return Err(io::Error::from_raw_os_error(INVALID)),
+        Err(FillError::TooLong) => return Err(io::Error::from_raw_os_error(TOO_LONG)),
+    };
+    match std::str::from_utf8(&buf[..n]) {
+        Ok(path) => Ok(path),
+        Err(_) => Err(io::Error::from_raw_os_error(NO_TEXT)),
     }
-    let fd = os::open_read(&path[..length]);
-    if fd < 0 {
-        os::fail(&path[..length]);
-        return;
-    }
+}
+
+fn main(rt: HostRuntime) -> io::Result<()> {
+    let mut buf = [0; 4096];
+    let path = match argument(&rt, &mut buf) {
+        Ok(path) => path,
+        Err(why) => return fail(&rt, "path", why),
+    };
+    let mut file = match File::open(&rt, path) {
+        Ok(file) => file,
+        Err(why) => return fail(&rt, path, why),
+    };
     let mut held = line();
-    let t = all_lines(fd, &mut held);
-    libc::close(fd);
+    let t = all_lines(&rt, &mut file, &mut held)?;
     // A last line that the file does not end is run too.
-    tell(end_line(&held, t));
+    let whole = end_line(&rt, &held, t)?;
+    tell(&rt, whole)
 }
