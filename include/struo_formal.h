@@ -77,11 +77,11 @@ enum struo_refusal {
 #define STRUO_TRACE_LENGTH_MAX 4224
 
 /* How much of the stack each call takes at most, in bytes. No memory is allocated. */
-#define STRUO_READ_STACK 70000
-#define STRUO_CHECK_STACK 145000
-#define STRUO_REPLAY_STACK 170000
-#define STRUO_BEGIN_STACK 145000
-#define STRUO_STEP_STACK 198000
+#define STRUO_READ_STACK 120000
+#define STRUO_CHECK_STACK 225000
+#define STRUO_REPLAY_STACK 225000
+#define STRUO_BEGIN_STACK 230000
+#define STRUO_STEP_STACK 255000
 
 /* number: STRUO_ACCEPTED for an accepted record, else the refusal's number, 1 to 15 or 30 (of a begin also 18 to 22 and 24).
    side: 0 (of a begin as for a replay). place: a byte offset for 3 to 6, a node number for 7, 8, 13, 14 and 30, a register number for 9 to 12 and 15

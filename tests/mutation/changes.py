@@ -3,13 +3,14 @@ import re
 
 from mutation import source as src
 
-# Words that stand for each other, each with its whole name where a file may not import it.
-GROUPS = ["true:mathlib.Core.Bool.true false:mathlib.Core.Bool.false", "ltb:lib.Dec.ltb leb:lib.Dec.leb", "eqb:lib.Dec.eqb leb:lib.Dec.leb", "take:lib.ListN.take drop:lib.ListN.drop",
-          "min:Prim.Native.Nat.min max:Prim.Native.Nat.max", "Rising Falling", "High Low", "True False Unassigned", "slot0 slot1 neither",
-          "Equivalent NotEquivalent Inconclusive GaveUp", "noModel gaveUp outOfFuel", "And Or Xor", "Ordering·lt Ordering·eq Ordering·gt",
+PRELUDE = "Rattle.std.specs.Prelude."
+# Words that stand for each other, each with its whole name where a file may not import it: '$' for that of the Prelude, '@' for that of `model`.
+GROUPS = ["true:$true false:$false", "ltb:$ltb leb:$leb", "eqb:$eqb leb:$leb", "take:$take drop:$drop",
+          "min:$min max:$max", "Rising Falling", "High Low", "True False Unassigned", "slot0 slot1 neither",
+          "Equivalent NotEquivalent Inconclusive GaveUp", "no_model gave_up out_of_fuel", "And Or Xor", "Ordering.lt Ordering.eq Ordering.gt",
           "FALSE:@Literal.FALSE TRUE:@Literal.TRUE", "and:@Aig.and or:@Aig.or xor:@Aig.xor", "inputs:@Netlist.inputs outputs:@Netlist.outputs",
-          "inputName:@Netlist.inputName outputName:@Netlist.outputName", "inputCount:@Netlist.inputCount outputCount:@Netlist.outputCount",
-          "scoreZero:@Sat.scoreZero scoreOne:@Sat.scoreOne", "≤ <", "Ieee.add Ieee.mul Ieee.div", "ceiling rescaleFactor decay"]
+          "input_name:@Netlist.input_name output_name:@Netlist.output_name", "input_count:@Netlist.input_count output_count:@Netlist.output_count",
+          "score_zero:@Sat.score_zero score_one:@Sat.score_one", "≤ <", "Ieee.add Ieee.mul Ieee.div", "ceiling rescale_factor decay"]
 OPERATORS = ["&&", "||", "+", "-", "*", "/", "%", "++", "∷", "otherwise", ">>=", "≡", "≤", "<", "→", "×", "⊎", "↔", "≢"]
 BREAKS = ["=", "in", "let", "λ", ".", "↦", "|", ";", ",", "←", "do", ":"]
 
@@ -20,7 +21,7 @@ def words():
     for group in GROUPS:
         pairs = [word.partition(":") for word in group.split()]
         for word, other in zip(pairs, pairs[1:] + pairs[:1]):
-            table.setdefault(word[0], []).append((other[2] or other[0]).replace("@", "Rattle·model·specs.specs."))
+            table.setdefault(word[0], []).append((other[2] or other[0]).replace("@", "Rattle.model.specs.").replace("$", PRELUDE))
     return table
 
 
@@ -83,7 +84,7 @@ def application_changes(source, run, signatures):
     typed = list(zip(args[:cut], signatures.get(head, [])))
     for i, (x, kind) in enumerate(typed):
         if kind == "Bool":
-            yield "negated", [(x[1], x[2], f"(mathlib.Core.Bool.not {source[x[1]:x[2]]})")]
+            yield "negated", [(x[1], x[2], f"({PRELUDE}not {source[x[1]:x[2]]})")]
         for y, other in typed[i + 1:]:
             if kind == other and source[x[1]:x[2]] != source[y[1]:y[2]]:
                 yield "arguments exchanged", exchanged(source, (x[1], x[2]), (y[1], y[2]))
@@ -139,7 +140,7 @@ def level_changes(source, level, typed, siblings, signatures):
 
 def scoped(body, lhs, other):
     """Whether what a case's body uses of its own left-hand side is on the other one too."""
-    used, own, there = (set(re.findall(r"[^\s(){}\[\];,]+", text)) for text in (body, lhs, other))
+    used, own, there = ({t[0] for t in src.tokens(text, 0, len(text)) if t[0] not in "(){}[];,"} for text in (body, lhs, other))
     return used & own <= there
 
 

@@ -7,7 +7,8 @@ import tempfile
 
 from mutation import source as src
 
-SECONDS = 240
+SECONDS = 600
+CRATES = ("facts", "model", "laws")
 
 
 class Room:
@@ -18,8 +19,8 @@ class Room:
         for room in (self.cases, self.laws):
             os.makedirs(os.path.join(room, "crates"))
             write(os.path.join(room, "crates.txt"), "facts:\nmodel:\nlaws: facts model\n")
-            for crate in ("facts", "model", "laws"):
-                shutil.copytree(os.path.join(src.ROOT, "crates", crate), os.path.join(room, "crates", crate), ignore=shutil.ignore_patterns("must-fail", "model-edits"))
+            for crate in CRATES:
+                shutil.copytree(os.path.join(src.ROOT, "crates", crate), os.path.join(room, "crates", crate), ignore=shutil.ignore_patterns("out", "must-fail", "model-edits"))
         specs = os.path.join(self.laws, "crates", "model", "specs")
         lines = src.read(os.path.join(specs, "Lib.antt")).splitlines(keepends=True)
         write(os.path.join(specs, "Lib.antt"), "".join(line for line in lines if line.split()[-1] not in src.CASES))
@@ -29,33 +30,40 @@ class Room:
     def warm(self):
         """Proves the unchanged crates, and keeps what the prover has of them."""
         for room, crate in ((self.cases, "model"), (self.laws, "laws")):
-            status, said = run(room, ["rt", "dev", crate], 1800)
-            if status:
+            status, said = run(os.path.join(room, "crates", crate), ["rt", "check"], 1800)
+            if status != 0:
                 raise SystemExit(f"the unchanged {crate} is not proved:\n{said[-2000:]}")
-            os.rename(os.path.join(room, "target"), os.path.join(room, "kept"))
+            for name in CRATES:
+                if os.path.exists(out(room, name)):
+                    os.renames(out(room, name), os.path.join(room, "kept", name))
 
     def check(self, room, crate, change):
         """The change made in a copy, the crate checked over what was kept, and the file put back."""
-        shutil.rmtree(os.path.join(room, "target"), ignore_errors=True)
-        shutil.copytree(os.path.join(room, "kept"), os.path.join(room, "target"))
+        for name in os.listdir(os.path.join(room, "kept")):
+            shutil.rmtree(out(room, name), ignore_errors=True)
+            shutil.copytree(os.path.join(room, "kept", name), out(room, name))
         path = os.path.join(room, "crates", "model", "specs", change.d.file + ".antt")
         unchanged = src.read(path)
         write(path, change.text)
         try:
-            return run(room, ["rt", "dev", crate], SECONDS)
+            return run(os.path.join(room, "crates", crate), ["rt", "check"], SECONDS)
         finally:
             write(path, unchanged)
 
     def tried(self, change):
         """What became of a change: 'no definition', 'case FILE', 'law FILE', 'time' or 'survives'."""
         status, said = self.check(self.cases, "model", change)
-        where = first_error(said)
         if status:
-            return f"case {where[1]}" if where[1] in src.CASES else "no definition"
+            refused = errors(said)
+            return f"case {refused[0]}" if refused and all(name in src.CASES for name in refused) else "no definition"
         if status == 0:
             status, said = self.check(self.laws, "laws", change)
-            where = first_error(said)
-        return "time" if status is None else f"law {where[1]}" if status else "survives"
+        return "time" if status is None else f"law {(errors(said) or '?')[0]}" if status else "survives"
+
+
+def out(room, crate):
+    """What the prover keeps of a crate."""
+    return os.path.join(room, "crates", crate, "out")
 
 
 def write(path, text):
@@ -77,7 +85,6 @@ def run(folder, command, seconds):
         return status, said.read().decode("utf-8", "replace")
 
 
-def first_error(said):
-    """The crate and file of the first error."""
-    m = re.search(r"crates/(\w+)/specs/([\w/]+)\.antt:\d+:\d+: error", said)
-    return (m.group(1), m.group(2)) if m else ("?", "?")
+def errors(said):
+    """The files of the crate's definitions and theorems that have an error of their own, in the order of the report: what only uses a refused one is left out."""
+    return [name for name, what in re.findall(r"^\./(?:specs|proofs)/([\w/]+)\.antt:\d+:\d+: error: (.*)", said, re.M) if "not checked" not in what]

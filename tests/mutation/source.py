@@ -10,10 +10,11 @@ with open(os.path.join(SPECS, "Lib.antt"), encoding="utf-8") as lib:
 CASES = [name for name in MODULES if name.endswith(("Cases", "States"))]
 FILES = [name for name in MODULES if name not in CASES]
 # The types of the arguments of what the libraries have; those whose order is of no account are left out.
-LIBRARY = {"ltb": "ℕ ℕ", "leb": "ℕ ℕ", "lt": "Float Float", "compare": "ℕ ℕ", "cond": "Bool A A", "getD": "L ℕ A", "set": "L ℕ A", "take": "ℕ L", "drop": "ℕ L", "replicate": "ℕ A",
+LIBRARY = {"ltb": "ℕ ℕ", "leb": "ℕ ℕ", "lt": "Float Float", "compare": "ℕ ℕ", "cond": "Bool A A", "get_or": "L ℕ A", "set": "L ℕ A", "take": "ℕ L", "drop": "ℕ L", "replicate": "ℕ A",
            "Ieee.div": "F Float Float"}
-TOKEN = re.compile(r"[(){}\[\];,]|λ|[^\s(){}\[\];,]+")
-USE = re.compile(r"^(?:ghost )?use Rattle·model(?:·specs)?\.specs(?:\.specs)?\.(\w+)(?:\.\{([^}]*)\}| as (\w+))", re.M)
+# A projection is a token of its own (`.field`, also where it is written tight behind a value); a name of another file is one with its file.
+TOKEN = re.compile(r"[(){}\[\];,]|λ|\.[\w«»]+|(?:[A-Z]\w*\.)*[^\s(){}\[\];,.]+(?:\.(?=\s))?|\.")
+USE = re.compile(r"^(?:pub )?(?:ghost )?use Rattle\.model\.specs\.(\w+)(?:\.\{([^}]*)\}| as (\w+))", re.M)
 
 
 def read(path):
@@ -85,7 +86,7 @@ def tokens(source, start, end):
 
 
 def tree(toks):
-    """The tokens with what brackets hold in lists: a group is (bracket, start, end, children)."""
+    """The tokens with what brackets hold in lists: a group is (bracket, start, end, children), and so is a value with its projections, with '.' for the bracket."""
     stack, opens = [[]], []
     for t in toks:
         if t[0] in ("(", "[", "{"):
@@ -95,6 +96,9 @@ def tree(toks):
             children = stack.pop()
             o = opens.pop()
             stack[-1].append((o[0], o[1], t[2], children))
+        elif re.match(r"\.[\w«]", t[0]) and stack[-1] and stack[-1][-1][2] == t[1]:
+            of = stack[-1].pop()
+            stack[-1].append((".", of[1], t[2], [*(of[3] if of[0] == "." and len(of) == 4 else [of]), t]))
         else:
             stack[-1].append(t)
     return stack[0]
@@ -199,8 +203,8 @@ def signatures_of(texts, defs):
 
 def named_in(text, names, aliases):
     """The definitions that a text names, by a file's imports."""
-    words = re.findall(r"[^\s(){}\[\];,]+", text)
-    operators = [o for o in names if o.startswith("_") and o.strip("_") in words]
+    words = [t[0] for t in tokens(text, 0, len(text))]
+    operators = [o for o in names if o.startswith("◌") and o.strip("◌") in words]
     dotted = [(aliases[w.partition(".")[0]], w.partition(".")[2]) for w in words if "." in w and w.partition(".")[0] in aliases]
     return [names[w] for w in words + operators if w in names] + dotted
 
@@ -213,8 +217,8 @@ def roots():
             text = read(os.path.join(folder, f)) if f.endswith(".rt") else ""
             if 'pub extern "C"' in text:
                 found += named_in(text, *imports(text))
-    for f in ("Promises", "Terms"):
-        found += imports(read(os.path.join(ROOT, "crates", "laws", "specs", f + ".antt")))[0].values()
+    for f in (os.path.join("proofs", "Promises.antt"), os.path.join("specs", "Terms.antt")):
+        found += imports(read(os.path.join(ROOT, "crates", "laws", f)))[0].values()
     return found
 
 
