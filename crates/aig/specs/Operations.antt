@@ -1,6 +1,6 @@
 -- Each operation's cases put together: what the code made is what the model's operation gives. Assumes nothing.
-use Rattle.std.specs.Prelude.{◌≡◌, refl, Bool, true, false, not, List, map, eqb, take, get_or}
-use Rattle.std.proofs.Common.{ap, ap₂, sym, ◌∙◌, eq-eqb, ne_eqb, length-take, get_or-take}
+use Rattle.std.specs.Prelude.{◌≡◌, refl, Bool, false, List, map, eqb, take, get_or}
+use Rattle.std.proofs.Common.{ap, ap₂, sym, ◌∙◌, length-take, get_or-take}
 use Rattle.std.proofs.Math.Bool.{xor as xorBool}
 use Rattle.std.proofs.Math.Option.{Option, none, some}
 use Prim.Native.Nat.{ℕ, zero, suc, ◌*◌, ◌%◌, ◌≤◌, ◌<◌, min, max}
@@ -130,35 +130,16 @@ module _ (n : ℕ) (w : List ℕ) (ready : Ready n w) where
 
 -- ---- evaluate
 
-xor-true : (t : Bool) → xorBool true t ≡ not t
-unfolding xorBool
-xor-true true = refl
-xor-true false = refl
-
-xor-false : (t : Bool) → xorBool false t ≡ t
-unfolding xorBool
-xor-false true = refl
-xor-false false = refl
-
 -- the value of a literal, by its node's word
-module _ (values : List ℕ) (l v : ℕ) (e : v ≡ get_or values (node l) 0) where
-  by_word : xorBool (is_true v) (inverted l) ≡ evaluate (map is_true values) l
-  unfolding evaluate
-  by_word = rw e (ap (λ (t : Bool). xorBool t (inverted l)) (sym (get_or-map is_true values (node l) 0)))
-
-  -- of a true node
-  pub evaluate-true : v % 2 ≡ 1 → not (inverted l) ≡ evaluate (map is_true values) l
-  evaluate-true h = sym (xor-true (inverted l)) ∙ (rw (eq-eqb (v % 2) 1 h) at by_word)
-
-  -- of another
-  pub evaluate_other : (v % 2 ≡ 1 → ⊥) → inverted l ≡ evaluate (map is_true values) l
-  evaluate_other h = sym (xor-false (inverted l)) ∙ (rw (ne_eqb (v % 2) 1 h) at by_word)
+pub by_word : (values : List ℕ) (l v : ℕ) → v ≡ get_or values (node l) 0 → xorBool (is_true v) (inverted l) ≡ evaluate (map is_true values) l
+unfolding evaluate
+by_word values l v e = rw e (ap (λ (t : Bool). xorBool t (inverted l)) (sym (get_or-map is_true values (node l) 0)))
 
 -- a node's word among those of the nodes
 pub word_of : (nodes : ℕ) (values : List ℕ) (l i v : ℕ) → i ≡ node l → i < nodes → v ≡ get_or values i 0 → v ≡ get_or (take nodes values) (node l) 0
 word_of nodes values l i v e h f = f ∙ sym (get_or-take nodes values i 0 h) ∙ ap (λ (k : ℕ). get_or (take nodes values) k 0) e
 
 -- past the nodes
-pub evaluate-past : (nodes : ℕ) (values : List ℕ) (l : ℕ) → nodes ≤ node l → inverted l ≡ evaluate (map is_true (take nodes values)) l
+pub evaluate-past : (nodes : ℕ) (values : List ℕ) (l : ℕ) → nodes ≤ node l → xorBool false (inverted l) ≡ evaluate (map is_true (take nodes values)) l
 evaluate-past nodes values l h =
-    evaluate_other (take nodes values) l 0 (sym (get_or-eq_default (take nodes values) 0 (simp length-take (omega arith)))) (λ e. omega arith)
+    by_word (take nodes values) l 0 (sym (get_or-eq_default (take nodes values) 0 (simp length-take (omega arith))))

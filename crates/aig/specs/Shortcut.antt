@@ -7,13 +7,28 @@ use Rattle.std.proofs.lemmas.Bool.{eqb-false}
 use Rattle.model.specs.Literal.{negate, inverted}
 use Rattle.model.specs.Aig.{and_shortcut, xor_shortcut, mux_shortcut}
 use Rattle.aig.specs.Graph.{Ascending}
-use Rattle.aig.specs.declared.Shortcut.{Shortcut}
-use Rattle.aig.specs.declared.Shortcut.TheVariants.{Known, Unknown}
+use Rattle.aig.specs.Index.{place, place-some}
+use Rattle.std.specs.Prelude.{Some, None, Option as Answer}
+use Rattle.literals.specs.declared.Literal.{Literal}
 
 -- the model's answer that a shortcut stands for
-unfoldable pub shortcut_of : Shortcut → Option ℕ
-shortcut_of (Known l) = some l.0
-shortcut_of Unknown = none
+unfoldable pub shortcut_of : Answer Literal → Option ℕ
+shortcut_of (Some l) = some l.0
+shortcut_of None = none
+
+-- the model's place that a node found stands for
+unfoldable pub found_of : Answer ℕ → Option ℕ
+found_of (Some i) = some i
+found_of None = none
+
+-- a place that is one, and none
+pub found-some : (i : ℕ) → 0 < i → found_of (Some i) ≡ place i
+unfolding found_of
+found-some i h = place-some i h
+
+pub found-none : found_of None ≡ place 0
+unfolding found_of place
+found-none = refl
 
 -- an answer below m, or none
 abbrev pub Under : ℕ → Option ℕ → Type 0

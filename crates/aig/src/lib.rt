@@ -1,20 +1,20 @@
 // The and-inverter graph in lent words: aig.rs with its nodes in GRAPH_LHS and GRAPH_RHS, and the lookup of an earlier pair by chains.
 #![tactic(auto)]
 
-ghost use Rattle.std.specs.Prelude.{◌≡◌, map, ◌+◌, ◌*◌, ◌≤◌, ◌<◌, length, take};
+ghost use Rattle.std.specs.Prelude.{◌≡◌, map, ◌+◌, ◌*◌, ◌≤◌, ◌<◌, length, take, IfSome};
 ghost use Rattle.words.specs.Layout.{LENT, MOST-NODES, VALUES};
 ghost use Rattle.words.specs.Region.{region};
 ghost use Rattle.model.specs.Lists.{position};
 ghost use Rattle.model.specs.Aig.{is_and, new, variable, and_found, and_shortcut, and, or, xor_shortcut, xor, mux_shortcut, mux, evaluate};
 ghost use Rattle.std.proofs.Math.Option.{none};
-ghost use Rattle.aig.specs.Shortcut.{shortcut_of};
+ghost use Rattle.aig.specs.Shortcut.{shortcut_of, found_of};
 ghost use Rattle.aig.specs.Graph.{graph_of, Ascending};
 ghost use Rattle.aig.specs.Index.{place};
 ghost use Rattle.aig.specs.Operations.{or_of_ands, is_true};
 ghost use Rattle.aig.specs.Made.{Ready, Same, Made, outside, opened, pushed_leaf};
 
 use literals::Literal;
-use words::{AND_HEADS, AND_NEXT, DOUBLE, GRAPH_LHS, GRAPH_RHS, SMALL, VALUES, fetch, stash, wide};
+use words::{AND_HEADS, AND_NEXT, DOUBLE, GRAPH_LHS, GRAPH_RHS, SMALL, VALUES, fetch, stash};
 
 // The graph: how many nodes it has, node 0 among them; the nodes lie in the words.
 #[derive(Clone, Copy)]
@@ -34,7 +34,7 @@ fn open_chains(words: &mut [u32], node: u32)
     requires { LENT ≤ length words.old }
     ensures { (words.new ≡ opened words.old node) × (LENT ≤ length words.new) }
 {
-    let literal = wide(node) * 2;
+    let literal = node as usize * 2;
     stash(words, AND_HEADS, DOUBLE, literal, 0);
     stash(words, AND_HEADS, DOUBLE, literal + 1, 0);
 }
@@ -45,7 +45,7 @@ fn write_leaf(words: &mut [u32], node: u32)
     ensures { words.new ≡ pushed_leaf words.old node }
 {
     open_chains(words, node);
-    let at = wide(node);
+    let at = node as usize;
     stash(words, GRAPH_LHS, SMALL, at, 0);
     stash(words, GRAPH_RHS, SMALL, at, 0);
 }
@@ -73,19 +73,20 @@ impl Aig {
         }
     }
 
-    // The node of an earlier pair, by the chain of its larger literal; 0 where there is none.
-    fn earlier(self, words: &[u32], lhs: u32, rhs: u32) -> u32
+    // The node of an earlier pair, by the chain of its larger literal.
+    fn earlier(self, words: &[u32], lhs: u32, rhs: u32) -> Option<u32>
         requires { Ready self.count words.now × (0 < rhs) × (rhs < self.count * 2) }
-        ensures { (place result ≡ position (is_and lhs rhs) (graph_of self.count words.now)) × (result < self.count) }
+        ensures found { found_of result ≡ position (is_and lhs rhs) (graph_of self.count words.now) }
+        ensures below { IfSome result (λ at. (0 < at) × (at < self.count)) }
     {
-        let mut at = fetch(words, AND_HEADS, DOUBLE, wide(rhs));
+        let mut at = fetch(words, AND_HEADS, DOUBLE, rhs as usize);
         while at != 0 {
-            if fetch(words, GRAPH_LHS, SMALL, wide(at)) == lhs {
-                return at;
+            if fetch(words, GRAPH_LHS, SMALL, at as usize) == lhs {
+                return Some(at);
             }
-            at = fetch(words, AND_NEXT, SMALL, wide(at));
+            at = fetch(words, AND_NEXT, SMALL, at as usize);
         }
-        0
+        None
     }
 
     // A new conjunction, which did not stand in the graph: it heads the chain of its larger literal.
@@ -95,10 +96,10 @@ impl Aig {
     {
         let count = self.count;
         open_chains(words, count);
-        let at = wide(count);
+        let at = count as usize;
         stash(words, GRAPH_LHS, SMALL, at, lhs.0);
         stash(words, GRAPH_RHS, SMALL, at, rhs.0);
-        let chain = wide(rhs.0);
+        let chain = rhs.0 as usize;
         let head = fetch(words, AND_HEADS, DOUBLE, chain);
         stash(words, AND_NEXT, SMALL, at, head);
         stash(words, AND_HEADS, DOUBLE, chain, count);
@@ -113,14 +114,12 @@ impl Aig {
         requires { Ready self.count words.old × (self.count + 1 ≤ MOST-NODES) × Ascending lhs.0 rhs.0 × (lhs.0 < self.count * 2) × (rhs.0 < self.count * 2) }
         ensures { Made 1 self.count words.old result.aig.count words.new result.literal.0 (and_found (graph_of self.count words.old) lhs.0 rhs.0 (position (is_and lhs.0 rhs.0) (graph_of self.count words.old))) }
     {
-        let at = self.earlier(words, lhs.0, rhs.0);
-        if at == 0 {
-            self.push(words, lhs, rhs)
-        } else {
-            Built {
+        match self.earlier(words, lhs.0, rhs.0) {
+            Some(at) => Built {
                 aig: self,
                 literal: Literal::of(at),
-            }
+            },
+            None => self.push(words, lhs, rhs),
         }
     }
 
@@ -129,13 +128,9 @@ impl Aig {
         requires { Ready self.count words.old × (self.count + 1 ≤ MOST-NODES) × (lhs.0 < self.count * 2) × (rhs.0 < self.count * 2) }
         ensures { Made 1 self.count words.old result.aig.count words.new result.literal.0 (and (graph_of self.count words.old) lhs.0 rhs.0) }
     {
-        let short = and_shortcut(lhs, rhs);
-        match short {
-            Shortcut::Known(literal) => Built {
-                aig: self,
-                literal: literal,
-            },
-            Shortcut::Unknown => {
+        match and_shortcut(lhs, rhs) {
+            Some(literal) => Built { aig: self, literal },
+            None => {
                 if lhs.0 <= rhs.0 {
                     self.pair(words, lhs, rhs)
                 } else {
@@ -150,11 +145,9 @@ impl Aig {
         requires { Ready self.count words.old × (self.count + 1 ≤ MOST-NODES) × (lhs.0 < self.count * 2) × (rhs.0 < self.count * 2) }
         ensures { Made 1 self.count words.old result.aig.count words.new result.literal.0 (or (graph_of self.count words.old) lhs.0 rhs.0) }
     {
-        let neither = self.and(words, lhs.negate(), rhs.negate());
-        let aig = neither.aig;
-        let literal = neither.literal;
+        let Built { aig, literal } = self.and(words, lhs.negate(), rhs.negate());
         Built {
-            aig: aig,
+            aig,
             literal: literal.negate(),
         }
     }
@@ -165,10 +158,8 @@ impl Aig {
         ensures { Made 3 self.count words.old result.aig.count words.new result.literal.0 (or_of_ands (graph_of self.count words.old) a.0 b.0 c.0 d.0) }
     {
         let first = self.and(words, a, b);
-        let aig = first.aig;
-        let second = aig.and(words, c, d);
-        let aig = second.aig;
-        aig.or(words, first.literal, second.literal)
+        let second = first.aig.and(words, c, d);
+        second.aig.or(words, first.literal, second.literal)
     }
 
     // The exclusive or: its shortcuts, else lhs_only or rhs_only.
@@ -176,13 +167,9 @@ impl Aig {
         requires { Ready self.count words.old × (self.count + 3 ≤ MOST-NODES) × (lhs.0 < self.count * 2) × (rhs.0 < self.count * 2) }
         ensures { Made 3 self.count words.old result.aig.count words.new result.literal.0 (xor (graph_of self.count words.old) lhs.0 rhs.0) }
     {
-        let short = xor_shortcut(lhs, rhs);
-        match short {
-            Shortcut::Known(literal) => Built {
-                aig: self,
-                literal: literal,
-            },
-            Shortcut::Unknown => self.or_of_ands(words, lhs, rhs.negate(), lhs.negate(), rhs),
+        match xor_shortcut(lhs, rhs) {
+            Some(literal) => Built { aig: self, literal },
+            None => self.or_of_ands(words, lhs, rhs.negate(), lhs.negate(), rhs),
         }
     }
 
@@ -197,19 +184,9 @@ impl Aig {
         requires { Ready self.count words.old × (self.count + 3 ≤ MOST-NODES) × (condition.0 < self.count * 2) × (then_value.0 < self.count * 2) × (else_value.0 < self.count * 2) }
         ensures { Made 3 self.count words.old result.aig.count words.new result.literal.0 (mux (graph_of self.count words.old) condition.0 then_value.0 else_value.0) }
     {
-        let short = mux_shortcut(condition, then_value, else_value);
-        match short {
-            Shortcut::Known(literal) => Built {
-                aig: self,
-                literal: literal,
-            },
-            Shortcut::Unknown => self.or_of_ands(
-                words,
-                condition,
-                then_value,
-                condition.negate(),
-                else_value,
-            ),
+        match mux_shortcut(condition, then_value, else_value) {
+            Some(literal) => Built { aig: self, literal },
+            None => self.or_of_ands(words, condition, then_value, condition.negate(), else_value),
         }
     }
 
@@ -218,75 +195,60 @@ impl Aig {
         requires { LENT ≤ length words.now }
         ensures { result ≡ evaluate (map is_true (take nodes (region VALUES words.now))) literal.0 }
     {
-        let node = wide(literal.node());
-        if node >= nodes {
-            return literal.inverted();
-        }
-        if fetch(words, VALUES, SMALL, node) % 2 == 1 {
-            !literal.inverted()
-        } else {
-            literal.inverted()
-        }
+        let node = literal.node() as usize;
+        let value = node < nodes && fetch(words, VALUES, SMALL, node) % 2 == 1;
+        value ^ literal.inverted()
     }
 }
 
-// What an operation answers without a node.
-#[derive(Clone, Copy)]
-pub enum Shortcut {
-    Known(Literal),
-    Unknown,
-}
-
-// The tests of `and`, in aig.rs's order.
-fn and_shortcut(lhs: Literal, rhs: Literal) -> Shortcut
+// What `and` answers without a node: its tests, in aig.rs's order.
+#[tactic(auto, unfolding(model::specs::Aig::and_shortcut, crate::specs::Shortcut::shortcut_of))]
+fn and_shortcut(lhs: Literal, rhs: Literal) -> Option<Literal>
     ensures { shortcut_of result ≡ and_shortcut lhs.0 rhs.0 }
 {
-    if lhs.0 == Literal::FALSE.0 || rhs.0 == Literal::FALSE.0 {
-        return Shortcut::Known(Literal::FALSE);
+    if lhs == Literal::FALSE || rhs == Literal::FALSE {
+        Some(Literal::FALSE)
+    } else if lhs == Literal::TRUE {
+        Some(rhs)
+    } else if rhs == Literal::TRUE || lhs == rhs {
+        Some(lhs)
+    } else if lhs == rhs.negate() {
+        Some(Literal::FALSE)
+    } else {
+        None
     }
-    if lhs.0 == Literal::TRUE.0 {
-        return Shortcut::Known(rhs);
-    }
-    if rhs.0 == Literal::TRUE.0 || lhs.0 == rhs.0 {
-        return Shortcut::Known(lhs);
-    }
-    if lhs.0 == rhs.negate().0 {
-        return Shortcut::Known(Literal::FALSE);
-    }
-    Shortcut::Unknown
 }
 
-// The tests of `xor`.
-fn xor_shortcut(lhs: Literal, rhs: Literal) -> Shortcut
+// What `xor` answers without a node.
+#[tactic(auto, unfolding(model::specs::Aig::xor_shortcut, crate::specs::Shortcut::shortcut_of))]
+fn xor_shortcut(lhs: Literal, rhs: Literal) -> Option<Literal>
     ensures { shortcut_of result ≡ xor_shortcut lhs.0 rhs.0 }
 {
-    if lhs.0 == rhs.0 {
-        return Shortcut::Known(Literal::FALSE);
+    if lhs == rhs {
+        Some(Literal::FALSE)
+    } else if lhs == rhs.negate() {
+        Some(Literal::TRUE)
+    } else {
+        None
     }
-    if lhs.0 == rhs.negate().0 {
-        return Shortcut::Known(Literal::TRUE);
-    }
-    Shortcut::Unknown
 }
 
-// The tests of `mux`, in aig.rs's order.
-fn mux_shortcut(condition: Literal, then_value: Literal, else_value: Literal) -> Shortcut
+// What `mux` answers without a node: its tests, in aig.rs's order.
+#[tactic(auto, unfolding(model::specs::Aig::mux_shortcut, crate::specs::Shortcut::shortcut_of))]
+fn mux_shortcut(condition: Literal, then_value: Literal, else_value: Literal) -> Option<Literal>
     ensures { shortcut_of result ≡ mux_shortcut condition.0 then_value.0 else_value.0 }
 {
-    if condition.0 == Literal::TRUE.0 {
-        return Shortcut::Known(then_value);
+    if condition == Literal::TRUE {
+        Some(then_value)
+    } else if condition == Literal::FALSE {
+        Some(else_value)
+    } else if then_value == else_value {
+        Some(then_value)
+    } else if then_value == Literal::TRUE && else_value == Literal::FALSE {
+        Some(condition)
+    } else if then_value == Literal::FALSE && else_value == Literal::TRUE {
+        Some(condition.negate())
+    } else {
+        None
     }
-    if condition.0 == Literal::FALSE.0 {
-        return Shortcut::Known(else_value);
-    }
-    if then_value.0 == else_value.0 {
-        return Shortcut::Known(then_value);
-    }
-    if then_value.0 == Literal::TRUE.0 && else_value.0 == Literal::FALSE.0 {
-        return Shortcut::Known(condition);
-    }
-    if then_value.0 == Literal::FALSE.0 && else_value.0 == Literal::TRUE.0 {
-        return Shortcut::Known(condition.negate());
-    }
-    Shortcut::Unknown
 }

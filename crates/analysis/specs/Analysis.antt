@@ -55,11 +55,15 @@ PoolBelow end n w = (i : ℕ) → i < end → get_or (region LITERALS w) i 0 < n
 abbrev pub ClausesBelow : ℕ → ℕ → List ℕ → Type 0
 ClausesBelow count n w = (id : ℕ) → id < count → PoolBelow (get_or (region CLAUSE-STARTS w) (id + 1) 0) n w
 
+-- those of the trail
+abbrev pub TrailBelow : Trail → List ℕ → Type 0
+TrailBelow t w = (i : ℕ) → i < t.length → get_or (region TRAIL w) i 0 < t.variables * 2
+
 -- the literals of the clauses and of the trail are of the variables
 pub record Ranged (count : ℕ) (t : Trail) (w : List ℕ) : Type 0 where
   pub some : 0 < t.variables
   pub clauses : ClausesBelow count t.variables w
-  pub trail : (i : ℕ) → i < t.length → get_or (region TRAIL w) i 0 < t.variables * 2
+  pub trail : TrailBelow t w
 
 -- the words, the scores and the numbers are within the layout, with room for one more literal
 pub record Able (t : Trail) (a : Analysis) (w : List ℕ) (s : List Float) : Type 0 where

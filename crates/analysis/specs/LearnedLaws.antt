@@ -14,9 +14,6 @@ pub record Rising (t : Trail) (w : List ℕ) (count highest i : ℕ) : Type 0 wh
   pub inside : i ≤ count
   pub left : max highest (Sat.highest_level (assignment_of t w) (drop i (column count LEARNED w))) ≡ Sat.highest_level (assignment_of t w) (column count LEARNED w)
 
-pub rising_start : (t : Trail) (w : List ℕ) (count : ℕ) → Rising t w count 0 0
-rising_start t w count = record { inside = omega arith; left = omega arith }
-
 highest_next : (t : Sat.Assignment) (ls : List ℕ) (i : ℕ) → i < length ls
     → Sat.highest_level t (drop i ls) ≡ max (get_or t.levels (Literals.node (get_or ls i 0)) 0) (Sat.highest_level t (drop (i + 1) ls))
 unfolding Sat.highest_level

@@ -1,5 +1,5 @@
 -- Laws of the rounds of an analysis in lent words: a clause's literals, the pivot, and its reason. Assumes nothing.
-use Rattle.std.specs.Prelude.{◌≡◌, refl, List, [], ◌∷◌, length, Float}
+use Rattle.std.specs.Prelude.{◌≡◌, refl, List, [], ◌∷◌, length}
 use Rattle.std.proofs.Common.{◌∙◌, ⊎_elim, lt-ltb, le-ltb, take_all}
 use Rattle.std.proofs.Math.Bool.{true, false}
 use Rattle.std.proofs.Math.Option.{none}
@@ -17,8 +17,7 @@ use Rattle.assignment.specs.StateLaws.{get_or-past, unchanged_none, unchanged_st
 use Rattle.assignment.specs.KnownLaws.{cached-kept}
 use Rattle.assignment.specs.declared.state.Trail.{Trail}
 use Rattle.analysis.specs.declared.state.Analysis.{Analysis}
-use Rattle.analysis.specs.declared.state.Bounds.{Bounds}
-use Rattle.analysis.specs.Analysis.{is_stamp, seen_of, analysis_of, analysis_regions, Ranged, Sees, literals_at, Spans, Closes}
+use Rattle.analysis.specs.Analysis.{is_stamp, seen_of, analysis_of, analysis_regions, TrailBelow, Ranged, literals_at, Spans, Closes}
 use Rattle.analysis.specs.SeeLaws.{stamp-here, stamp-not, stamp-none, mark_is, seen-is, unmarked_stored, node-below, word_at}
 
 -- ---- where a clause lies
@@ -39,12 +38,6 @@ unfolding literals_at
 spans count w id s e f h k a b c =
     let n : length (region LITERALS w) ≡ POOL = length-region LITERALS w (omega arith) in
     record { is = rw (lt-ltb id count k, ← a, ← b, c) (slice-min s e (region LITERALS w) POOL n); inside = omega arith; below = λ m z i l. z id k i (omega (arith, b, c)) }
-
--- a clause that was found is seen
-pub sees_clause : (count : ℕ) (t : Trail) (v id : ℕ) (b : Bounds) (a r : Analysis) (w w' : List ℕ) (s s' : List Float) → Spans count w id b
-    → Sees POOL t a w s (Sat.see_literals (assignment_of t w) v (analysis_of t a w s) (slice b.start b.end (region LITERALS w))) r w' s'
-    → Sees POOL t a w s (Sat.see_literals (assignment_of t w) v (analysis_of t a w s) (literals_at count w id)) r w' s'
-sees_clause count t v id b a r w w' s s' e q = rw e.is at q
 
 -- ---- the reason of a variable
 
@@ -97,60 +90,47 @@ pub record Found (stamp : ℕ) (t : Trail) (w : List ℕ) (o j p : ℕ) : Type 0
   pub range : p < t.variables * 2
 
 -- a place below the trail's end has a literal of a variable
-pub entry-low : (count : ℕ) (t : Trail) (w : List ℕ) (i k v : ℕ) → Ranged count t w → i < t.length → k ≡ get_or (region TRAIL w) i 0 → v ≡ Literals.node k → v < t.variables
-entry-low count t w i k v r h e d = rw (d, e) (node-below _ t.variables (r.trail i h))
+pub entry-low : (t : Trail) (w : List ℕ) (i k v : ℕ) → TrailBelow t w → i < t.length → k ≡ get_or (region TRAIL w) i 0 → v ≡ Literals.node k → v < t.variables
+entry-low t w i k v r h e d = rw (d, e) (node-below _ t.variables (r i h))
 
-module _ (stamp count : ℕ) (t : Trail) (w : List ℕ) (some : 0 < stamp) (ranged : Ranged count t w) where
+module _ (stamp : ℕ) (t : Trail) (w : List ℕ) (some : 0 < stamp) (low : TrailBelow t w) where
   -- whether the literal at a place is seen
   seen_at : (i k v m : ℕ) → i < t.length → k ≡ get_or (region TRAIL w) i 0 → v ≡ Literals.node k → m ≡ get_or (region SEEN w) v 0
       → get_or (seen_of stamp t w) (Literals.node (get_or (assignment_of t w).trail i 0)) false ≡ is_stamp stamp m
   seen_at i k v m h e d f =
       let x = e ∙ word_at t.length TRAIL w i h in
-      let y = f ∙ word_at t.variables SEEN w v (entry-low count t w i k v ranged h e d) in
+      let y = f ∙ word_at t.variables SEEN w v (entry-low t w i k v low h e d) in
       rw (trail_is t w, ← x, ← d, y) (seen-is stamp t w v some)
 
-  pub pivot_back : (i k v m : ℕ) → i ≤ t.length → (i ≡ 0 → ⊥) → k ≡ get_or (region TRAIL w) (i - 1) 0 → v ≡ Literals.node k → m ≡ get_or (region SEEN w) v 0 → (m ≡ stamp → ⊥)
+  pub pivot_back : (i k v m : ℕ) → i ≤ t.length → 0 < i → k ≡ get_or (region TRAIL w) (i - 1) 0 → v ≡ Literals.node k → m ≡ get_or (region SEEN w) v 0 → (m ≡ stamp → ⊥)
       → pivot_from stamp t w (i - 1) ≡ pivot_from stamp t w i
   unfolding Sat.pivot_index
-  pivot_back zero k v m h n e d f z = absurd (n refl)
+  pivot_back zero k v m h n e d f z = absurd (omega arith)
   pivot_back (suc i) k v m h n e d f z =
       let x : suc i - 1 ≡ i = omega arith in
       let y : get_or (seen_of stamp t w) (Literals.node (get_or (assignment_of t w).trail i 0)) false ≡ false = seen_at i k v m (omega arith) (rw x at e) d f ∙ stamp-not stamp m z in
       rw (x, y, Sat.pivot_index)
 
-  pivot-here : (i k v m : ℕ) → i ≤ t.length → (i ≡ 0 → ⊥) → k ≡ get_or (region TRAIL w) (i - 1) 0 → v ≡ Literals.node k → m ≡ get_or (region SEEN w) v 0 → m ≡ stamp
+  pub pivot-here : (i k v m : ℕ) → i ≤ t.length → 0 < i → k ≡ get_or (region TRAIL w) (i - 1) 0 → v ≡ Literals.node k → m ≡ get_or (region SEEN w) v 0 → m ≡ stamp
       → i - 1 ≡ pivot_from stamp t w i
   unfolding Sat.pivot_index
-  pivot-here zero k v m h n e d f z = absurd (n refl)
+  pivot-here zero k v m h n e d f z = absurd (omega arith)
   pivot-here (suc i) k v m h n e d f z =
       let x : suc i - 1 ≡ i = omega arith in
       let y : get_or (seen_of stamp t w) (Literals.node (get_or (assignment_of t w).trail i 0)) false ≡ true = seen_at i k v m (omega arith) (rw x at e) d f ∙ stamp-here stamp m z in
       rw (x, y, Sat.pivot_index)
 
-  pivot-none : (i : ℕ) → i ≡ 0 → 0 ≡ pivot_from stamp t w i
+  pub pivot-none : (i : ℕ) → i ≤ 0 → 0 ≡ pivot_from stamp t w i
   unfolding Sat.pivot_index
-  pivot-none i e = rw e
+  pivot-none i h = let e : i ≡ 0 = omega arith in rw e
 
-  -- the literal at the first place, which is 0 where the trail has none
-  first-low : get_or (column t.length TRAIL w) 0 0 < t.variables * 2
-  first-low =
-      ⊎_elim (λ (h : 0 < t.length). rw (← word_at t.length TRAIL w 0 h) (ranged.trail 0 h)) (λ (h : t.length ≤ 0). omega (arith, get_or-past t.length (region TRAIL w) 0 h, ranged.some)) (below 0 t.length)
-
-  -- the search for the pivot began at place o and stands at i
-  module _ (o i : ℕ) (inv : pivot_from stamp t w i ≡ pivot_from stamp t w o) (inside : i ≤ t.length) where
-    pub met_none : (j p q : ℕ) → i ≡ 0 → j ≡ i → q ≡ get_or (column t.length TRAIL w) 0 0 → p ≡ q → Found stamp t w o j p
-    met_none j p q z e f g = record { at = e ∙ z ∙ pivot-none i z ∙ inv; is = g ∙ f ∙ rw (trail_is t w, e, z); place = omega arith; range = omega (arith, first-low, g, f) }
-
-    pub met_here : (j p k v m : ℕ) → (i ≡ 0 → ⊥) → k ≡ get_or (region TRAIL w) (i - 1) 0 → v ≡ Literals.node k → m ≡ get_or (region SEEN w) v 0 → m ≡ stamp → j ≡ i - 1 → p ≡ k → Found stamp t w o j p
-    met_here j p k v m n e d f z x y =
-        let h : i - 1 < t.length = below_end i n inside in
-        record {
-          at = x ∙ pivot-here i k v m inside n e d f z ∙ inv;
-          is = y ∙ e ∙ word_at t.length TRAIL w (i - 1) h ∙ rw (trail_is t w, x);
-          place = omega arith;
-          range = omega (arith, y, e, ranged.trail (i - 1) h);
-        }
-      where
-        below_end : (i : ℕ) → (i ≡ 0 → ⊥) → i ≤ t.length → i - 1 < t.length
-        below_end zero n h = absurd (n refl)
-        below_end (suc i) n h = omega arith
+-- the literal of the pivot's place, which is 0 where the trail has none
+pub found : (stamp count : ℕ) (t : Trail) (w : List ℕ) (o j p : ℕ) → Ranged count t w → o ≤ t.length → (j ≡ pivot_from stamp t w o) × (j ≤ o) → p ≡ get_or (column t.length TRAIL w) j 0 → Found stamp t w o j p
+found stamp count t w o j p r h m e =
+    record {
+      at = m.0;
+      is = e ∙ rw (trail_is t w);
+      place = omega (arith, m.1);
+      range =
+          ⊎_elim (λ (k : j < t.length). rw (e, ← word_at t.length TRAIL w j k) (r.trail j k)) (λ (k : t.length ≤ j). omega (arith, e, get_or-past t.length (region TRAIL w) j k, r.some)) (below j t.length);
+    }

@@ -21,7 +21,7 @@ use Rattle.assignment.specs.KnownLaws.{cached-kept}
 use Rattle.assignment.specs.declared.state.Trail.{Trail}
 use Rattle.assignment.specs.declared.state.Activity.{Activity}
 use Rattle.analysis.specs.declared.state.Analysis.{Analysis}
-use Rattle.analysis.specs.Analysis.{is_stamp, seen_of, Unmarked, analysis_of, analysis_regions, PoolBelow, Able, Sees, saw}
+use Rattle.analysis.specs.Analysis.{is_stamp, seen_of, Unmarked, analysis_of, analysis_regions, Able, Sees, saw}
 
 -- ---- marks
 
@@ -245,27 +245,6 @@ pub record Seeing (t : Trail) (v start end : ℕ) (a₀ : Analysis) (w₀ : List
   pub cached : Cached t w₀ a₀.activity s₀ → Cached t w a.activity s
   pub left : Sat.see_literals (assignment_of t w₀) v (analysis_of t a w s) (slice i end (region LITERALS w₀))
       ≡ Sat.see_literals (assignment_of t w₀) v (analysis_of t a₀ w₀ s₀) (slice start end (region LITERALS w₀))
-
-pub seeing_start : (t : Trail) (v start end : ℕ) (a : Analysis) (w : List ℕ) (s : List Float) → Able t a w s → Seeing t v start end a w s start a w s
-seeing_start t v start end a w s able =
-    record {
-      after = omega arith;
-      inside = omega arith;
-      able = able;
-      long = refl;
-      frame = unchanged_none analysis_regions w;
-      others = others-none t.variables s;
-      opened = omega arith;
-      stamp = refl;
-      marks = λ k h m. m;
-      cached = λ c. c;
-      left = refl;
-    }
-
--- the literal at place i is of a variable
-pub seeing_low : (t : Trail) (v start end : ℕ) (a₀ : Analysis) (w₀ : List ℕ) (s₀ : List Float) (i l : ℕ) (a : Analysis) (w : List ℕ) (s : List Float)
-    → Seeing t v start end a₀ w₀ s₀ i a w s → PoolBelow end t.variables w₀ → i < end → l ≡ get_or (region LITERALS w) i 0 → l < t.variables * 2
-seeing_low t v start end a₀ w₀ s₀ i l a w s g b h e = rw (e, g.frame.same LITERALS refl) (b i h)
 
 module _ (t : Trail) (v start end : ℕ) (a₀ : Analysis) (w₀ : List ℕ) (s₀ : List Float)
     (few : a₀.open_at_level + POOL < 1152921504606846976) (h : end ≤ POOL)

@@ -6,7 +6,7 @@ ghost use Rattle.words.specs.Region.{region};
 ghost use Rattle.model.specs.Sat as Sat;
 ghost use Rattle.assignment.specs.State.{assignment_of, TrailReady};
 ghost use Rattle.assignment.specs.Scores.{Fixed};
-ghost use Rattle.analysis.specs.Analysis.{seen_of, Unmarked, analysis_of, saw, PoolBelow, ClausesBelow, Ranged, Able, Sees, literals_at, view_of, Spans, Begins, Closes, Bounded, Analyzes};
+ghost use Rattle.analysis.specs.Analysis.{seen_of, Unmarked, analysis_of, saw, PoolBelow, ClausesBelow, TrailBelow, Ranged, Able, Sees, literals_at, view_of, Spans, Begins, Closes, Bounded, Analyzes};
 
 use crate::state::{Analysis, Analyzed, Bounds};
 use assignment::scores::bump_activity;
@@ -15,7 +15,7 @@ use assignment::trail::fetch_below;
 use literals::Literal;
 use words::{
     CLAUSE_STARTS, LEARNED, LEVELS, LITERALS, POOL, REASONS, SEEN, SMALL, STARTS, TRAIL, fetch,
-    load, lower, put, wide,
+    load, put,
 };
 
 // Whether a literal is skipped: the resolved variable, a seen one, or one of level 0.
@@ -23,14 +23,8 @@ fn skipped(words: &[u32], t: Trail, stamp: u32, resolved: usize, literal: Litera
     requires { TrailReady t words.now × (0 < stamp) × (literal.0 < t.variables * 2) }
     ensures { (a : Sat.Analysis) → a.seen ≡ seen_of stamp t words.now → result ≡ Sat.skipped (assignment_of t words.now) resolved a literal.0 }
 {
-    let v = wide(literal.node());
-    if v == resolved {
-        return true;
-    }
-    if load(words, SEEN, v) == stamp {
-        return true;
-    }
-    load(words, LEVELS, v) == 0
+    let v = literal.node() as usize;
+    v == resolved || load(words, SEEN, v) == stamp || load(words, LEVELS, v) == 0
 }
 
 // A variable seen for the first time: open where it is of the current level, else its literal is learned.
@@ -46,24 +40,21 @@ fn see_variable(
         (Sat.see_unless (assignment_of t words.old) (analysis_of t a words.old scores.old) literal.0 false)
         result words.new scores.new }
 {
-    let v = wide(literal.node());
-    let learned = a.learned;
+    let v = literal.node() as usize;
     let activity = bump_activity(words, scores, t, a.activity, v);
     put(words, SEEN, v, a.stamp);
-    if wide(load(words, LEVELS, v)) == t.level {
+    if load(words, LEVELS, v) as usize == t.level {
         return Analysis {
             activity,
-            learned,
             open_at_level: a.open_at_level + 1,
-            stamp: a.stamp,
+            ..a
         };
     }
-    put(words, LEARNED, learned, literal.0);
+    put(words, LEARNED, a.learned, literal.0);
     Analysis {
         activity,
-        learned: learned + 1,
-        open_at_level: a.open_at_level,
-        stamp: a.stamp,
+        learned: a.learned + 1,
+        ..a
     }
 }
 
@@ -82,9 +73,10 @@ fn see_literal(
         result words.new scores.new }
 {
     if skipped(words, t, a.stamp, resolved, literal) {
-        return a;
+        a
+    } else {
+        see_variable(words, scores, t, a, literal)
     }
-    see_variable(words, scores, t, a, literal)
 }
 
 // The literals of a clause in turn, those of the pool from `start` up to `end`.
@@ -104,11 +96,9 @@ fn see_literals(
         result words.new scores.new }
 {
     let mut a = earlier;
-    let mut i = start;
-    while i < end {
+    for i in start..end {
         let literal = Literal(load(words, LITERALS, i));
         a = see_literal(words, scores, t, a, resolved, literal);
-        i += 1;
     }
     a
 }
@@ -121,10 +111,12 @@ fn bounds(words: &[u32], clauses: usize, id: usize) -> Bounds
     if clauses <= id {
         return Bounds { start: 0, end: 0 };
     }
-    let start = wide(fetch(words, CLAUSE_STARTS, STARTS, id));
-    let end = wide(fetch(words, CLAUSE_STARTS, STARTS, id + 1));
-    let stop = lower(end, POOL);
-    Bounds { start, end: stop }
+    let start = fetch(words, CLAUSE_STARTS, STARTS, id) as usize;
+    let end = fetch(words, CLAUSE_STARTS, STARTS, id + 1) as usize;
+    Bounds {
+        start,
+        end: end.min(POOL),
+    }
 }
 
 // The literals of a clause, given by its number.
@@ -147,19 +139,26 @@ fn see_clause(
     see_literals(words, scores, t, a, resolved, place.start, place.end)
 }
 
-// One less, and 0 at 0.
-fn one_less(x: usize) -> usize
-    ensures { result ≡ x - 1 }
-{
-    if x == 0 { 0 } else { x - 1 }
-}
-
 // The reason clause of a variable; 0 where it has none.
 fn reason_of(words: &[u32], t: Trail, variable: usize) -> usize
     requires { TrailReady t words.now × (variable < t.variables) }
     ensures { result ≡ Sat.reason_of (assignment_of t words.now) variable }
 {
-    one_less(wide(load(words, REASONS, variable)))
+    (load(words, REASONS, variable) as usize).saturating_sub(1)
+}
+
+// The place of the last literal of the trail below `end` whose variable is seen; 0 where there is none, as the definition has it.
+fn pivot_index(words: &[u32], t: Trail, stamp: u32, end: usize) -> usize
+    requires { TrailReady t words.now × TrailBelow t words.now × (0 < stamp) × (end ≤ t.length) }
+    ensures { (result ≡ Sat.pivot_index (assignment_of t words.now) (seen_of stamp t words.now) end) × (result ≤ end) }
+{
+    for i in (0..end).rev() {
+        let candidate = Literal(load(words, TRAIL, i));
+        if load(words, SEEN, candidate.node() as usize) == stamp {
+            return i;
+        }
+    }
+    0
 }
 
 // The pivot no longer seen, and one less open.
@@ -167,14 +166,10 @@ fn close_pivot(words: &mut [u32], t: Trail, a: Analysis, pivot: Literal) -> Anal
     requires { TrailReady t words.old × (0 < a.stamp) × (pivot.0 < t.variables * 2) }
     ensures { Closes t a words.old pivot.0 result words.new }
 {
-    let activity = a.activity;
-    let open_at_level = one_less(a.open_at_level);
-    put(words, SEEN, wide(pivot.node()), 0);
+    put(words, SEEN, pivot.node() as usize, 0);
     Analysis {
-        activity,
-        learned: a.learned,
-        open_at_level,
-        stamp: a.stamp,
+        open_at_level: a.open_at_level.saturating_sub(1),
+        ..a
     }
 }
 
@@ -183,12 +178,11 @@ fn start(activity: Activity, clauses: usize) -> Analysis
     requires { clauses < STARTS }
     ensures { Begins activity clauses result }
 {
-    let stamp = (clauses + 1) as u32;
     Analysis {
         activity,
         learned: 0,
         open_at_level: 0,
-        stamp,
+        stamp: (clauses + 1) as u32,
     }
 }
 
@@ -206,29 +200,20 @@ pub fn analyze(
         × Bounded (Sat.analyze (view_of clauses t activity words.old scores.old) conflict) }
     ensures { Analyzes clauses t activity conflict words.old scores.old result words.new scores.new }
 {
-    let length = t.length;
     let mut a = start(activity, clauses);
-    let mut trail_index = length;
-    let mut rounds = length;
+    let mut trail_index = t.length;
+    let mut rounds = t.length;
     let mut clause = conflict;
-    let mut resolved: usize = 0;
+    let mut resolved = 0;
     loop {
         a = see_clause(words, scores, t, a, resolved, clauses, clause);
-        let pivot = loop {
-            if trail_index == 0 {
-                break Literal(fetch_below(words, TRAIL, SMALL, length, 0));
-            }
-            trail_index -= 1;
-            let candidate = Literal(load(words, TRAIL, trail_index));
-            if load(words, SEEN, wide(candidate.node())) == a.stamp {
-                break candidate;
-            }
-        };
+        trail_index = pivot_index(words, t, a.stamp, trail_index);
+        let pivot = Literal(fetch_below(words, TRAIL, SMALL, t.length, trail_index));
         a = close_pivot(words, t, a, pivot);
         if a.open_at_level == 0 {
             return Analyzed { analysis: a, pivot };
         }
-        resolved = wide(pivot.node());
+        resolved = pivot.node() as usize;
         clause = reason_of(words, t, resolved);
         rounds -= 1;
     }

@@ -75,9 +75,6 @@ pub record Undoing (t : Trail) (w₀ : List ℕ) (from i : ℕ) (w : List ℕ) :
   pub ready : TrailReady t w
   pub known : (s : List Float) → KnownIn t w₀ s → KnownIn t w s
 
-pub undoing_start : (t : Trail) (w : List ℕ) (from : ℕ) → from ≤ t.length → TrailReady t w → Undoing t w from from w
-undoing_start t w from h r = record { inside = h; long = refl; trail = refl; left = refl; frame = unchanged_none (BLOCKS ∷ assignment_regions) w; ready = r; known = λ s k. k }
-
 unassign-trail : (a : Sat.Assignment) (l : ℕ) → (Sat.unassign a l).trail ≡ a.trail
 unfolding Sat.unassign
 unassign-trail a l = refl

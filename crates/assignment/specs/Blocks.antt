@@ -1,5 +1,5 @@
 -- The choice among the unassigned variables of a range, what the words of the blocks of variables say of it, and what the functions over them promise. Definitions only.
-use Rattle.std.specs.Prelude.{◌≡◌, true, false, cond, List, [], ◌∷◌, ℕ, zero, suc, ◌+◌, ◌-◌, ◌*◌, ◌/◌, ◌<◌, ◌≤◌, min, max, get_or, take, drop, Float}
+use Rattle.std.specs.Prelude.{◌≡◌, true, false, cond, List, [], ◌∷◌, ℕ, zero, suc, ◌+◌, ◌-◌, ◌*◌, ◌/◌, ◌<◌, ◌≤◌, min, max, get_or, take, drop, Float, Option}
 use Rattle.std.specs.Float.{nan}
 use Rattle.std.specs.Float.Ieee.{lt}
 use Rattle.facts.specs.Floats.{unsigned}
@@ -9,7 +9,6 @@ use Rattle.model.specs.Sat as Sat
 use Rattle.assignment.specs.State.{assignment_of, assignment_regions, Unchanged, TrailReady}
 use Rattle.assignment.specs.Scores.{Bumped, Added, choice_of, one_of}
 use Rattle.assignment.specs.declared.state.Activity.{Activity}
-use Rattle.assignment.specs.declared.state.Choice.{Choice}
 use Rattle.assignment.specs.declared.state.Trail.{Trail}
 
 -- ---- the choice
@@ -125,7 +124,7 @@ pub record BlockChosen (t : Trail) (w : List ℕ) (s : List Float) (b r : ℕ) (
   pub known : KnownIn t w' s
 
 -- of `choose_variable`
-pub record Chooses (t : Trail) (w : List ℕ) (s : List Float) (r : Choice) (w' : List ℕ) : Type 0 where
+pub record Chooses (t : Trail) (w : List ℕ) (s : List Float) (r : Option ℕ) (w' : List ℕ) : Type 0 where
   pub is : choice_of (take t.variables s) r
       ≡ Sat.choose_from 1 (drop 1 (assignment_of t w).assignments) (drop 1 (take t.variables s)) Sat.no_choice
   pub below : one_of t.variables r

@@ -1,5 +1,5 @@
 -- Laws of the choice of a variable in lent words: a variable more, a block, and the blocks in turn. Assumes nothing.
-use Rattle.std.specs.Prelude.{◌≡◌, refl, Bool, true, false, cond, List, [], ◌∷◌, ℕ, zero, suc, ◌+◌, ◌-◌, ◌*◌, ◌<◌, ◌≤◌, min, max, length, take, drop, get_or, Float}
+use Rattle.std.specs.Prelude.{◌≡◌, refl, Bool, true, false, cond, List, [], ◌∷◌, ℕ, zero, suc, ◌+◌, ◌-◌, ◌*◌, ◌<◌, ◌≤◌, min, max, length, take, drop, get_or, Float, Some, None}
 use Rattle.std.proofs.Math.Path.{sym}
 use Rattle.std.proofs.Common.{◌∙◌, arith, length-take-le, get_or-set_same, get_or-set_other}
 use Rattle.std.specs.Float.{nan}
@@ -12,10 +12,9 @@ use Rattle.assignment.specs.State.{assignment_of, column, Unchanged, TrailReady}
 use Rattle.assignment.specs.StateLaws.{variables_are, unchanged_none, unchanged_both, unchanged_stored, assignment-kept}
 use Rattle.assignment.specs.Scores.{best_of, choice_of}
 use Rattle.assignment.specs.Blocks.{Unsigned, first_of, end_of, Known, KnownIn, LeadsIn, higher_of, Betters, Current, BlockChosen, Chooses}
-use Rattle.assignment.specs.BlockLaws.{leads-nothing, leads_assigned, leads-free, join, join_left, best_some, leads-chosen}
+use Rattle.assignment.specs.BlockLaws.{leads_assigned, leads-free, join, join_left, best_some, leads-chosen}
 use Rattle.assignment.specs.KnownLaws.{free_word, assigned_word}
 use Rattle.assignment.specs.declared.state.Trail.{Trail}
-use Rattle.assignment.specs.declared.state.Choice.TheVariants as Choices
 
 -- ---- the choice of two
 
@@ -23,10 +22,10 @@ pub higher-none : (s : List Float) (a b : ℕ) → b ≡ 0 → a ≡ higher_of s
 unfolding higher_of
 higher-none s a b z = rw z
 
-pub higher-first : (s : List Float) (a b : ℕ) → (b ≡ 0 → ⊥) → a ≡ 0 → b ≡ higher_of s a b
+pub higher-first : (s : List Float) (a b : ℕ) → a ≡ 0 → b ≡ higher_of s a b
 unfolding higher_of
-higher-first s a zero n z = absurd (n refl)
-higher-first s a (suc b) n z = rw z
+higher-first s a zero z = sym z
+higher-first s a (suc b) z = rw z
 
 -- both are variables, and are compared
 pub higher_compared : (s : List Float) (a b : ℕ) (q : Bool) → (b ≡ 0 → ⊥) → (a ≡ 0 → ⊥) → lt (get_or s a nan) (get_or s b nan) ≡ q → cond q b a ≡ higher_of s a b
@@ -71,22 +70,9 @@ pub record Scanning (t : Trail) (w : List ℕ) (s : List Float) (b best v : ℕ)
   pub high : v ≤ max (end_of t.variables b) (first_of b)
   pub leads : LeadsIn t w s (first_of b) v best
 
-pub scanning_start : (t : Trail) (w : List ℕ) (s : List Float) (b v : ℕ) → v ≡ first_of b → Scanning t w s b 0 v
-scanning_start t w s b v e = record { low = omega arith; first = omega arith; high = omega arith; leads = leads-nothing _ _ (first_of b) v (omega arith) }
-
-pub scanning_step : (t : Trail) (w : List ℕ) (s : List Float) (b best v r : ℕ) → Scanning t w s b best v → v < end_of t.variables b → Betters t w s best v r → Scanning t w s b r (v + 1)
-scanning_step t w s b best v r c h g =
-    record { low = omega (arith, g.low); first = omega (arith, c.first); high = omega arith; leads = g.leads (first_of b) c.first c.leads }
-
-pub scanned : (t : Trail) (w : List ℕ) (s : List Float) (b best v : ℕ) → b * BLOCK < t.variables → Scanning t w s b best v → end_of t.variables b ≤ v → LeadsIn t w s (first_of b) (end_of t.variables b) best
-scanned t w s b best v i c h = let e : v ≡ end_of t.variables b = omega (arith, c.high) in rw e at c.leads
-
 -- what a block's word says is so
-pub current-none : (t : Trail) (w : List ℕ) (k j : ℕ) → (k ≡ 0 → ⊥) → j ≡ k → j - 1 ≡ 0 → Current t w k
-current-none t w k j n e z = record { some = omega arith; free = λ p. absurd (omega arith) }
-
-pub current-free : (t : Trail) (w : List ℕ) (k j x : ℕ) → (k ≡ 0 → ⊥) → j ≡ k → x ≡ get_or (column t.variables VALUES w) (j - 1) 0 → x ≡ 0 → Current t w k
-current-free t w k j x n e f z = record { some = omega arith; free = λ p. rw (← e) (free_word t w (j - 1) x f z) }
+pub current-free : (t : Trail) (w : List ℕ) (k x : ℕ) → 0 < k → x ≡ get_or (column t.variables VALUES w) (k - 1) 0 → x ≡ 0 → Current t w k
+current-free t w k x n f z = record { some = n; free = λ p. free_word t w (k - 1) x f z }
 
 -- the word of a block, kept
 module _ (t : Trail) (w w' : List ℕ) (s : List Float) (b best : ℕ) (r : TrailReady t w) (i : b * BLOCK < t.variables) (e : w' ≡ stored BLOCKS w b (best + 1)) (l : LENT ≤ length w')
@@ -126,19 +112,6 @@ module _ (t : Trail) (w w' : List ℕ) (s : List Float) (b best : ℕ) (r : Trai
         known = rw same known-own;
       }
 
-pub chosen-known : (t : Trail) (w : List ℕ) (s : List Float) (b j r : ℕ) → TrailReady t w → b * BLOCK < t.variables → j ≡ get_or (region BLOCKS w) b 0 → r ≡ j - 1 → Current t w j → KnownIn t w s → BlockChosen t w s b r w
-chosen-known t w s b j r y i e q c k =
-    record {
-      leads = rw (q, e) (k.leads b i (omega (arith, e, c.some)) (rw e at c.free));
-      frame = unchanged_none (BLOCKS ∷ []) w;
-      ready = y;
-      known = k;
-    }
-
--- a choice is one of the variables
-pub leads-below : (t : Trail) (w : List ℕ) (s : List Float) (b v : ℕ) → b * BLOCK < t.variables → LeadsIn t w s (first_of b) (end_of t.variables b) v → v < t.variables
-leads-below t w s b v i f = by_lt 0 v (λ p. omega (arith, (f.own p).1)) (λ p. omega arith)
-
 -- ---- all blocks
 
 -- what the blocks before b give
@@ -150,10 +123,6 @@ pub record Choosing (t : Trail) (w₀ : List ℕ) (s : List Float) (b best : ℕ
   pub frame : Unchanged (BLOCKS ∷ []) w₀ w
   pub ready : TrailReady t w
   pub known : KnownIn t w s
-
-pub choosing_start : (t : Trail) (w : List ℕ) (s : List Float) → 0 < t.variables → TrailReady t w → KnownIn t w s → Choosing t w s 0 0 w
-choosing_start t w s h r k =
-    record { long = refl; low = h; few = omega arith; leads = leads-nothing _ _ 1 (max 1 (min t.variables (0 * BLOCK))) (omega arith); frame = unchanged_none (BLOCKS ∷ []) w; ready = r; known = k }
 
 module _ (t : Trail) (w₀ w w' : List ℕ) (s : List Float) (b best c r : ℕ) (h : t.variables ≤ length s) (u : Unsigned (take t.variables s)) (i : b * BLOCK < t.variables) where
   same_choice : Choosing t w₀ s b best w → BlockChosen t w s b c w' → LeadsIn t w₀ s (first_of b) (end_of t.variables b) c
@@ -184,11 +153,11 @@ module _ (t : Trail) (w₀ w : List ℕ) (s : List Float) (b best : ℕ) (y : Tr
       let m : max 1 (min t.variables (b * BLOCK)) ≡ t.variables = omega arith in
       leads-chosen (assignment_of t w₀).assignments (take t.variables s) t.variables (variables_are t w₀ y) (length-take-le t.variables s h) u p best (rw m at o.leads)
 
-  pub chooses_none : best ≡ 0 → Chooses t w₀ s Choices.Nothing w
+  pub chooses_none : best ≡ 0 → Chooses t w₀ s None w
   unfolding choice_of best_of
   chooses_none z = record { is = rw z at chosen_is; below = tt; frame = o.frame; ready = o.ready; known = o.known }
 
-  pub chooses_one : (best ≡ 0 → ⊥) → Chooses t w₀ s (Choices.Variable best) w
+  pub chooses_one : (best ≡ 0 → ⊥) → Chooses t w₀ s (Some best) w
   unfolding choice_of
   chooses_one n =
       record { is = sym (best_some (take t.variables s) best (omega arith)) ∙ chosen_is; below = o.low; frame = o.frame; ready = o.ready; known = o.known }

@@ -9,9 +9,9 @@ use Rattle.words.specs.Region.{region}
 use Rattle.model.specs.Literal as Literals
 use Rattle.model.specs.Sat as Sat
 use Rattle.assignment.specs.State.{Unchanged, TrailReady}
-use Rattle.assignment.specs.StateLaws.{unchanged_none, unchanged_both}
+use Rattle.assignment.specs.StateLaws.{unchanged_both}
 use Rattle.assignment.specs.Scores.{Raised, Others}
-use Rattle.assignment.specs.ScoreLaws.{others-none, others-both}
+use Rattle.assignment.specs.ScoreLaws.{others-both}
 use Rattle.assignment.specs.Blocks.{score, Cached, Forgets, AddsOnes}
 use Rattle.assignment.specs.OrderLaws.{one-unsigned, raise_unsigned}
 use Rattle.assignment.specs.declared.state.Activity.{Activity}
@@ -30,9 +30,6 @@ pub record AddingOnes (t : Trail) (start end : ℕ) (w₀ : List ℕ) (s₀ : Li
   pub frame : Unchanged (BLOCKS ∷ []) w₀ w
   pub ready : TrailReady t w
   pub cached : (a : Activity) → Cached t w₀ a s₀ → Cached t w a s
-
-pub adding_start : (t : Trail) (start end : ℕ) (w : List ℕ) (s : List Float) → start ≤ end → TrailReady t w → AddingOnes t start end w s start w s
-adding_start t start end w s h r = record { inside = h; left = refl; others = others-none _ s; frame = unchanged_none _ w; ready = r; cached = λ a c. c }
 
 module _ (t : Trail) (start end : ℕ) (w₀ w w' : List ℕ) (s₀ s s' : List Float) (i v : ℕ) where
   -- one score raised, and its block forgotten

@@ -1,7 +1,8 @@
 -- Laws of the scores: a score raised, all of them rescaled, a bump, and the start. Assumes nothing.
-use Rattle.std.specs.Prelude.{◌≡◌, refl, true, false, List, [], ◌∷◌, map, ℕ, zero, suc, ◌+◌, ◌<◌, ◌≤◌, length, take, drop, set, replicate, Float}
-use Rattle.std.proofs.Common.{ap, sym, ◌∙◌, arith, add-one, length-set, take-suc, take-suc-set, drop-set-lt, get_or-take, get_or-drop, drop-drop, get_or-set_same, length-take-le}
-use Rattle.std.proofs.lemmas.List.{map-append}
+use Rattle.std.specs.Prelude.{◌≡◌, refl, true, false, List, ◌++◌, ℕ, ◌<◌, ◌≤◌, length, take, drop, set, replicate, Float}
+use Rattle.std.proofs.Common.{ap, sym, ◌∙◌, arith, length-set, drop-set-lt, get_or-take, get_or-set_same, length-take-le}
+use Rattle.std.proofs.lemmas.Grind.{common_steps}
+use Rattle.std.proofs.lemmas.List.{length-replicate, get_or_default}
 use Rattle.std.proofs.Math.ListN.{get_or, length-take, get_or-eq_default}
 use Rattle.std.proofs.Math.Seq.{set_out}
 use Rattle.std.specs.Float.{nan, binary64}
@@ -25,17 +26,11 @@ others-set n s i x h = record { long = length-set s i x; same = drop-set-lt n s 
 
 -- ---- a score
 
--- what stands at a place that is there does not hang on the default
-get_or-any : (s : List Float) (i : ℕ) (x y : Float) → i < length s → get_or s i x ≡ get_or s i y
-get_or-any [] i x y h = absurd (omega arith)
-get_or-any (z ∷ s) zero x y h = refl
-get_or-any (z ∷ s) (suc i) x y h = get_or-any s i x y (omega arith)
-
 -- the score of a variable, one of n
 pub score-is : (n : ℕ) (s : List Float) (v : ℕ) → n ≤ length s → v < n → get_or s v nan ≡ get_or (take n s) v Sat.score_zero
 score-is n s v h k =
     let l : v < length s = omega arith in
-    get_or-any s v nan Sat.score_zero l ∙ sym (get_or-take n s v Sat.score_zero k)
+    get_or_default s v nan Sat.score_zero l ∙ sym (get_or-take n s v Sat.score_zero k)
 
 pub raised : (n : ℕ) (s : List Float) (v : ℕ) (x : Float) → n ≤ length s → v < n → Raised n v x s (set s v (Ieee.add binary64 (get_or s v nan) x))
 unfolding Sat.add_score
@@ -49,46 +44,17 @@ pub raised_not : (n : ℕ) (s : List Float) (v : ℕ) (x : Float) → n ≤ v �
 unfolding Sat.add_score
 raised_not n s v x h = record { is = sym (set_out (take n s) v _ (simp length-take (omega arith))); others = others-none n s }
 
--- ---- a function of each of the first n scores, in turn
+-- ---- the first n scores, written anew
 
--- the first i of n scores mapped, the scores being s
-pub record Mapping (f : Float → Float) (n : ℕ) (s₀ : List Float) (i : ℕ) (s : List Float) : Type 0 where
-  pub inside : i ≤ n
-  pub long : length s ≡ length s₀
-  pub done : take i s ≡ map f (take i s₀)
-  pub left : drop i s ≡ drop i s₀
+-- they are the new ones, and the others stay
+replaced : (n : ℕ) (s z : List Float) → n ≤ length s → length z ≡ n → (take n (z ++ drop n s) ≡ z) × Others n s (z ++ drop n s)
+replaced n s z h k = (grind (arith, common_steps), record { long = grind (arith, common_steps); same = grind (arith, common_steps) })
 
-pub mapping_start : (f : Float → Float) (n : ℕ) (s : List Float) → Mapping f n s 0 s
-mapping_start f n s = record { inside = omega arith; long = refl; done = refl; left = refl }
-
-pub mapping_step : (f : Float → Float) (n : ℕ) (s₀ s : List Float) (i : ℕ) (x : Float) → n ≤ length s₀ → Mapping f n s₀ i s → i < n → x ≡ f (get_or s i nan) → Mapping f n s₀ (i + 1) (set s i x)
-mapping_step f n s₀ s i x h m k e =
-    let l : i < length s = omega (arith, m.long) in
-    let l₀ : i < length s₀ = omega arith in
-    let same : get_or s i nan ≡ get_or s₀ i nan =
-    ap (λ (j : ℕ). get_or s j nan) (omega arith) ∙ sym (get_or-drop i s 0 nan) ∙ ap (λ (d : List Float). get_or d 0 nan) m.left ∙ get_or-drop i s₀ 0 nan ∙ ap (λ (j : ℕ). get_or s₀ j nan) (omega arith) in
-    record {
-      inside = omega arith;
-      long = length-set s i x ∙ m.long;
-      done = rw (add-one, take-suc-set s i x l, take-suc s₀ i nan l₀, map-append, m.done, e, same);
-      left = rw (add-one, drop-set-lt (suc i) s i x (omega arith), ← add-one, ← drop-drop 1 i s, m.left, drop-drop 1 i s₀);
-    }
-
-mapped_others : (f : Float → Float) (n : ℕ) (s₀ s : List Float) (i : ℕ) → Mapping f n s₀ i s → n ≤ i → Others n s₀ s
-mapped_others f n s₀ s i m h = let e : i ≡ n = omega arith in record { long = m.long; same = rw e at m.left }
-
-pub rescaled : (n : ℕ) (s₀ s : List Float) (i : ℕ) → Mapping (λ (x : Float). Ieee.mul binary64 x Sat.rescale_factor) n s₀ i s → n ≤ i → Rescaled n s₀ s
-rescaled n s₀ s i m h = let e : i ≡ n = omega arith in record { is = rw e at m.done; others = mapped_others _ n s₀ s i m h }
-
-map_same : (x : Float) (s : List Float) → map (λ (y : Float). x) s ≡ replicate (length s) x
-map_same x [] = refl
-map_same x (y ∷ s) = ap (λ (l : List Float). x ∷ l) (map_same x s)
-
-pub zeroed : (n : ℕ) (s₀ s : List Float) (i : ℕ) → n ≤ length s₀ → Mapping (λ (x : Float). Sat.score_zero) n s₀ i s → n ≤ i → ZeroScores n s₀ s
-zeroed n s₀ s i h m k =
-    let e : i ≡ n = omega arith in
-    let d : take n s ≡ map (λ (x : Float). Sat.score_zero) (take n s₀) = rw e at m.done in
-    record { is = d ∙ map_same Sat.score_zero (take n s₀) ∙ ap (λ (j : ℕ). replicate j Sat.score_zero) (length-take-le n s₀ h); others = mapped_others _ n s₀ s i m k }
+pub zeroed : (n : ℕ) (s z : List Float) → n ≤ length s → z ≡ replicate (length (take n s)) Sat.score_zero → ZeroScores n s (z ++ drop n s)
+zeroed n s z h e =
+    let k : z ≡ replicate n Sat.score_zero = rw (← length-take-le n s h) e in
+    let l : length z ≡ n = rw k (length-replicate n Sat.score_zero) in
+    record { is = (replaced n s z h l).0 ∙ k; others = (replaced n s z h l).1 }
 
 -- ---- a bump
 

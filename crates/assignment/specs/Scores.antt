@@ -1,11 +1,9 @@
 -- What lent scores stand for: the definition's scores; and what the functions over them promise. Definitions only.
-use Rattle.std.specs.Prelude.{◌≡◌, List, map, ℕ, zero, suc, ◌<◌, length, take, drop, get_or, replicate, Float}
+use Rattle.std.specs.Prelude.{◌≡◌, List, map, ℕ, zero, suc, ◌<◌, length, take, drop, get_or, replicate, Float, Option, Some, None}
 use Rattle.std.specs.Float.{binary64}
 use Rattle.std.specs.Float.Ieee as Ieee
 use Rattle.model.specs.Sat as Sat
 use Rattle.assignment.specs.declared.state.Activity.{Activity}
-use Rattle.assignment.specs.declared.state.Choice.{Choice}
-use Rattle.assignment.specs.declared.state.Choice.TheVariants as Choices
 
 -- THE ABSTRACTION: the scores of n variables
 unfoldable pub scores_of : ℕ → Activity → List Float → Sat.Scores
@@ -65,11 +63,11 @@ best_of s zero = Sat.no_choice
 best_of s (suc v) = Sat.chosen (suc v) (get_or s (suc v) Sat.score_zero)
 
 -- an answer of `choose_variable` as the definition has it
-unfoldable pub choice_of : List Float → Choice → Sat.Choice
-choice_of s Choices.Nothing = Sat.no_choice
-choice_of s (Choices.Variable v) = Sat.chosen v (get_or s v Sat.score_zero)
+unfoldable pub choice_of : List Float → Option ℕ → Sat.Choice
+choice_of s None = Sat.no_choice
+choice_of s (Some v) = Sat.chosen v (get_or s v Sat.score_zero)
 
 -- the chosen variable is one of n
-abbrev pub one_of : ℕ → Choice → Type 0
-one_of n Choices.Nothing = Unit
-one_of n (Choices.Variable v) = v < n
+abbrev pub one_of : ℕ → Option ℕ → Type 0
+one_of n None = Unit
+one_of n (Some v) = v < n

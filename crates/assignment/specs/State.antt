@@ -1,13 +1,12 @@
 -- What the lent words of a search stand for: the definition's assignment; and what the functions over them promise. Definitions only.
 use Rattle.std.specs.Prelude.{◌≡◌, Bool, true, false, ◌&&◌, ◌||◌, cond, List, [], ◌∷◌, map, ℕ, zero, suc, ◌%◌, ◌≤◌, eqb, take, replicate}
+use Rattle.std.specs.Prelude as Std
 use Rattle.std.proofs.Math.Option.{Option, none, some}
 use Rattle.std.proofs.Math.ListN as Lists
 use Rattle.words.specs.Layout.{LENT, SMALL, MOST-NODES, VALUES, LEVELS, REASONS, PHASES, TRAIL, LIMITS}
 use Rattle.words.specs.Region.{region, apart}
 use Rattle.model.specs.Sat as Sat
 use Rattle.model.specs.Sat.{Assignment}
-use Rattle.assignment.specs.declared.state.Value.{Value}
-use Rattle.assignment.specs.declared.state.Value.TheVariants as Variants
 use Rattle.assignment.specs.declared.state.Trail.{Trail}
 
 -- ---- words
@@ -51,10 +50,10 @@ abbrev pub model_of : ℕ → List ℕ → List Bool
 model_of n w = map Sat.is_true (map word_value (column n VALUES w))
 
 -- the definition's value of an answer
-abbrev pub value_of : Value → Sat.Value
-value_of Variants.False = Sat.False
-value_of Variants.Unassigned = Sat.Unassigned
-value_of Variants.True = Sat.True
+abbrev pub value_of : Std.Option Bool → Sat.Value
+value_of Std.None = Sat.Unassigned
+value_of (Std.Some false) = Sat.False
+value_of (Std.Some true) = Sat.True
 
 -- ---- what is asked and promised
 
@@ -102,9 +101,14 @@ pub record Assigns (t : Trail) (w : List ℕ) (l reason : ℕ) (r : Trail) (w' :
   pub level : r.level ≡ t.level
 
 -- an answer of `enqueue` as the definition has it
-unfoldable pub enqueued : Bool → Assignment → Option Assignment
-enqueued true a = some a
-enqueued false a = none
+unfoldable pub enqueued : Std.Result Trail Trail → List ℕ → Option Assignment
+enqueued (Std.Ok t) w = some (assignment_of t w)
+enqueued (Std.Err t) w = none
+
+-- the trail of an answer of `enqueue`, whether the literal is true or false
+abbrev pub trail_after : Std.Result Trail Trail → Trail
+trail_after (Std.Ok t) = t
+trail_after (Std.Err t) = t
 
 -- of a function that makes the assignment another one, for the same variables
 pub record Becomes (t : Trail) (w : List ℕ) (a : Assignment) (r : Trail) (w' : List ℕ) : Type 0 where

@@ -1,5 +1,5 @@
 -- Laws of the assignment in lent words: what a read finds, and what a store makes of it. Assumes nothing.
-use Rattle.std.specs.Prelude.{◌≡◌, refl, Bool, true, false, not, cond, List, [], ◌∷◌, ◌++◌, map, ℕ, zero, suc, ◌+◌, ◌-◌, ◌*◌, ◌%◌, ◌<◌, ◌≤◌, eqb, length, take, set, get_or}
+use Rattle.std.specs.Prelude.{◌≡◌, refl, Bool, true, false, not, cond, List, [], ◌∷◌, ◌++◌, map, ℕ, zero, suc, ◌+◌, ◌-◌, ◌*◌, ◌%◌, ◌<◌, ◌≤◌, eqb, length, take, set, get_or, Option, Some, None, unwrap_or}
 use Rattle.std.proofs.Common.{ap, sym, ◌∙◌, ⊎_elim, arith, eqb-true, length-take, get_or-take, length-take-le}
 use Rattle.std.specs.Bool.{beq}
 use mir.Val.{bool_byte}
@@ -13,7 +13,7 @@ use Rattle.words.specs.Region.{region, size_of, apart, stored, stores, stored_ou
 use Rattle.model.specs.Literal as Literals
 use Rattle.model.specs.Lists as Lists
 use Rattle.model.specs.Sat as Sat
-use Rattle.assignment.specs.State.{word_value, word_reason, word_bit, assignment_of, column, apart_from, lists, within, spares, Unchanged, TrailReady, assignment_regions, Assigns}
+use Rattle.assignment.specs.State.{word_value, word_reason, word_bit, value_of, assignment_of, column, apart_from, lists, within, spares, Unchanged, TrailReady, assignment_regions, Assigns}
 use Rattle.assignment.specs.declared.state.Trail.{Trail}
 
 -- ---- lists
@@ -37,11 +37,6 @@ get_or-past n l i h = sym (get_or-eq_default (take n l) 0 (simp length-take (ome
 
 -- ---- literals
 
--- a sign as a number is 0 or 1
-pub sign_low : (b : Bool) → bool_byte b ≤ 1
-sign_low true = omega arith
-sign_low false = omega arith
-
 -- the word that makes a literal true; the argument: inverted
 pub making_true_lem : (b : Bool) → word_value (bool_byte b + 1) ≡ Sat.making_true b
 unfolding word_value Sat.making_true
@@ -59,31 +54,26 @@ pub word_unassigned : (v : ℕ) (b : Bool) → v ≡ 0 → Sat.literal_value b (
 unfolding word_value Sat.literal_value
 word_unassigned v b e = rw e
 
--- a variable that is true, or not, and a literal that is inverted just then is false; else it is true
-sign_same : (q b : Bool) → beq q b ≡ true → Sat.literal_value b (cond q Sat.True Sat.False) ≡ Sat.False
+-- a variable that is true, or not: its literal is true just where it is inverted and the variable is not, or the other way round
+sign_value : (q b : Bool) → value_of (Some (not (beq q b))) ≡ Sat.literal_value b (cond q Sat.True Sat.False)
 unfolding Sat.literal_value
-sign_same true true e = refl
-sign_same false false e = refl
-sign_same true false e = absurd (let z : ◌≡◌ {A = ℕ} 0 1 = cc e in omega arith)
-sign_same false true e = absurd (let z : ◌≡◌ {A = ℕ} 0 1 = cc e in omega arith)
+sign_value true true = refl
+sign_value true false = refl
+sign_value false true = refl
+sign_value false false = refl
 
-sign_other : (q b : Bool) → beq q b ≡ false → Sat.literal_value b (cond q Sat.True Sat.False) ≡ Sat.True
-unfolding Sat.literal_value
-sign_other true false e = refl
-sign_other false true e = refl
-sign_other true true e = absurd (let z : ◌≡◌ {A = ℕ} 0 1 = cc e in omega arith)
-sign_other false false e = absurd (let z : ◌≡◌ {A = ℕ} 0 1 = cc e in omega arith)
-
--- a word of an assigned variable: the literal is false, or true
-pub word_false : (v : ℕ) (b : Bool) → (v ≡ 0 → ⊥) → beq (eqb (v % 2) 1) b ≡ true → Sat.literal_value b (word_value v) ≡ Sat.False
+-- a word of an assigned variable: whether the literal is true
+pub word_known : (v : ℕ) (b : Bool) → (v ≡ 0 → ⊥) → value_of (Some (not (beq (eqb (v % 2) 1) b))) ≡ Sat.literal_value b (word_value v)
 unfolding word_value
-word_false zero b n e = absurd (n refl)
-word_false (suc k) b n e = sign_same (eqb (suc k % 2) 1) b e
+word_known zero b n = absurd (n refl)
+word_known (suc k) b n = sign_value (eqb (suc k % 2) 1) b
 
-pub word_true : (v : ℕ) (b : Bool) → (v ≡ 0 → ⊥) → beq (eqb (v % 2) 1) b ≡ false → Sat.literal_value b (word_value v) ≡ Sat.True
-unfolding word_value
-word_true zero b n e = absurd (n refl)
-word_true (suc k) b n e = sign_other (eqb (suc k % 2) 1) b e
+-- a value that is none counts as not false
+pub unless_false : (o : Option Bool) → unwrap_or o true ≡ Sat.not_false (value_of o)
+unfolding Sat.not_false
+unless_false None = refl
+unless_false (Some true) = refl
+unless_false (Some false) = refl
 
 -- ---- reads
 

@@ -11,8 +11,7 @@ pub fn forget(words: &mut [u32], t: Trail, variable: usize)
     requires { TrailReady t words.old }
     ensures { Forgets t words.old variable words.new }
 {
-    let n = t.variables;
-    if fetch_below(words, VALUES, SMALL, n, variable) == 0 {
+    if fetch_below(words, VALUES, SMALL, t.variables, variable) == 0 {
         stash(words, BLOCKS, SMALL, variable / BLOCK, 0);
     }
 }
@@ -22,6 +21,5 @@ pub fn forget_all(words: &mut [u32], t: Trail)
     requires { TrailReady t words.old }
     ensures { ForgetsAll t words.old words.new }
 {
-    let n = t.variables;
-    clear(words, BLOCKS, SMALL, n / BLOCK + 1);
+    clear(words, BLOCKS, SMALL, t.variables / BLOCK + 1);
 }

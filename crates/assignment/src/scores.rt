@@ -1,6 +1,5 @@
 // The scores of the variables: bumps, the rescaling and the decay, bit for bit as sat.rs rounds them.
-ghost use Rattle.std.specs.Prelude.{◌≡◌, ◌+◌, ◌<◌, ◌≤◌, length};
-ghost use Rattle.model.specs.Sat as Sat;
+ghost use Rattle.std.specs.Prelude.{◌+◌, ◌<◌, ◌≤◌, length};
 ghost use Rattle.std.proofs.Math.Seq.{slice};
 ghost use Rattle.words.specs.Layout.{POOL, LITERALS};
 ghost use Rattle.words.specs.Region.{region};
@@ -11,7 +10,7 @@ ghost use Rattle.assignment.specs.Blocks.{Bumps, AddsOnes};
 use crate::blocks::{forget, forget_all};
 use crate::state::{Activity, Trail};
 use literals::Literal;
-use words::{LITERALS, load, wide};
+use words::{LITERALS, load};
 
 // The increment, decay and ceiling of a new search.
 pub fn start() -> Activity
@@ -31,28 +30,20 @@ pub fn decay_activity(activity: Activity) -> Activity
 {
     Activity {
         increment: activity.increment / activity.decay,
-        decay: activity.decay,
-        ceiling: activity.ceiling,
+        ..activity
     }
 }
 
 // What all scores and the increment are multiplied by above the ceiling.
-fn rescale_factor() -> f64
-    ensures { result ≡ Sat.rescale_factor }
-{
-    1.0e-100
-}
+const RESCALE_FACTOR: f64 = 1.0e-100;
 
 // The first n scores multiplied by the factor.
 fn rescale(scores: &mut [f64], n: usize)
     requires { n ≤ length scores.old }
     ensures { Rescaled n scores.old scores.new }
 {
-    let factor = rescale_factor();
-    let mut i: usize = 0;
-    while i < n {
-        scores[i] = scores[i] * factor;
-        i += 1;
+    for score in scores[..n].iter_mut() {
+        *score *= RESCALE_FACTOR;
     }
 }
 
@@ -62,7 +53,7 @@ fn add_score(scores: &mut [f64], n: usize, variable: usize, x: f64)
     ensures { Raised n variable x scores.old scores.new }
 {
     if variable < n {
-        scores[variable] = scores[variable] + x;
+        scores[variable] += x;
     }
 }
 
@@ -86,11 +77,9 @@ pub fn bump_activity(
     if activity.ceiling < x {
         rescale(scores, n);
         forget_all(words, t);
-        let factor = rescale_factor();
         return Activity {
-            increment: activity.increment * factor,
-            decay: activity.decay,
-            ceiling: activity.ceiling,
+            increment: activity.increment * RESCALE_FACTOR,
+            ..activity
         };
     }
     forget(words, t, variable);
@@ -102,11 +91,7 @@ pub fn clear_scores(scores: &mut [f64], n: usize)
     requires { n ≤ length scores.old }
     ensures { ZeroScores n scores.old scores.new }
 {
-    let mut i: usize = 0;
-    while i < n {
-        scores[i] = 0.0;
-        i += 1;
-    }
+    scores[..n].fill(0.0);
 }
 
 // 1.0 added to the score of each literal's variable, the literals being those of the pool from `start` up to `end`.
@@ -114,13 +99,10 @@ pub fn add_ones(words: &mut [u32], scores: &mut [f64], t: Trail, start: usize, e
     requires { TrailReady t words.old × (t.variables ≤ length scores.old) × (start ≤ end) × (end ≤ POOL) }
     ensures { AddsOnes t (slice start end (region LITERALS words.old)) words.old scores.old words.new scores.new }
 {
-    let n = t.variables;
-    let mut i = start;
-    while i < end {
+    for i in start..end {
         let literal = Literal(load(words, LITERALS, i));
-        let variable = wide(literal.node());
-        add_score(scores, n, variable, 1.0);
+        let variable = literal.node() as usize;
+        add_score(scores, t.variables, variable, 1.0);
         forget(words, t, variable);
-        i += 1;
     }
 }

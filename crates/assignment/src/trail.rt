@@ -6,11 +6,11 @@ ghost use Rattle.model.specs.Sat as Sat;
 ghost use Rattle.assignment.specs.State.{assignment_of, value_of, TrailReady, Assigns, Becomes, decided};
 ghost use Rattle.assignment.specs.Blocks.{Undoes, News};
 
-use crate::state::{Trail, Value};
+use crate::state::Trail;
 use literals::Literal;
 use words::{
-    BLOCK, BLOCKS, LEVELS, LIMITS, PHASES, REASONS, SMALL, TRAIL, VALUES, clear, fetch, load,
-    lower, put, stash, wide,
+    BLOCK, BLOCKS, LEVELS, LIMITS, PHASES, REASONS, SMALL, TRAIL, VALUES, clear, fetch, load, put,
+    stash,
 };
 
 // A word of the first `count` of a region; 0 past them.
@@ -33,19 +33,16 @@ pub fn load_below(words: &[u32], base: usize, count: usize, i: usize) -> u32
     load(words, base, i)
 }
 
-// The value of a literal of the variables.
-pub fn value(words: &[u32], t: Trail, literal: Literal) -> Value
+// The value of a literal of the variables; none where it is unassigned.
+pub fn value(words: &[u32], t: Trail, literal: Literal) -> Option<bool>
     requires { TrailReady t words.now × (literal.0 < t.variables * 2) }
     ensures { value_of result ≡ Sat.value (assignment_of t words.now) literal.0 }
 {
-    let word = load(words, VALUES, wide(literal.node()));
+    let word = load(words, VALUES, literal.node() as usize);
     if word == 0 {
-        return Value::Unassigned;
-    }
-    if (word % 2 == 1) == literal.inverted() {
-        Value::False
+        None
     } else {
-        Value::True
+        Some((word % 2 == 1) != literal.inverted())
     }
 }
 
@@ -54,35 +51,24 @@ pub fn not_false(words: &[u32], t: Trail, literal: Literal) -> bool
     requires { TrailReady t words.now × (literal.0 < t.variables * 2) }
     ensures { result ≡ Sat.not_false (Sat.value (assignment_of t words.now) literal.0) }
 {
-    let word = load(words, VALUES, wide(literal.node()));
-    if word == 0 {
-        return true;
-    }
-    if (word % 2 == 1) == literal.inverted() {
-        return false;
-    }
-    true
+    value(words, t, literal).unwrap_or(true)
 }
 
-// An unassigned literal made true; a reason is 0 for none, and one more than the number of its clause.
+// An unassigned literal made true. The reason is the word that REASONS holds: 0 for none, else one more than the number of its clause.
 pub fn assign(words: &mut [u32], t: Trail, literal: Literal, reason: u32) -> Trail
     requires { TrailReady t words.old × (t.length < SMALL) × (literal.0 < DOUBLE) }
     ensures { Assigns t words.old literal.0 reason result words.new }
 {
-    let v = wide(literal.node());
-    let sign = literal.inverted() as u32;
-    let n = t.length;
-    let level = t.level as u32;
+    let v = literal.node() as usize;
+    let sign = u32::from(literal.inverted());
     put(words, VALUES, v, sign + 1);
-    put(words, LEVELS, v, level);
+    put(words, LEVELS, v, t.level as u32);
     put(words, REASONS, v, reason);
     put(words, PHASES, v, 1 - sign);
-    put(words, TRAIL, n, literal.0);
+    put(words, TRAIL, t.length, literal.0);
     Trail {
-        variables: t.variables,
-        length: n + 1,
-        head: t.head,
-        level: t.level,
+        length: t.length + 1,
+        ..t
     }
 }
 
@@ -91,7 +77,7 @@ fn unassign(words: &mut [u32], t: Trail, literal: Literal)
     requires { TrailReady t words.old }
     ensures { Undoes t words.old (Sat.unassign (assignment_of t words.old) literal.0) t words.new }
 {
-    let v = wide(literal.node());
+    let v = literal.node() as usize;
     stash(words, VALUES, SMALL, v, 0);
     stash(words, LEVELS, SMALL, v, 0);
     stash(words, REASONS, SMALL, v, 0);
@@ -103,12 +89,9 @@ fn unassign_from(words: &mut [u32], t: Trail, from: usize)
     requires { TrailReady t words.old × (from ≤ t.length) }
     ensures { Undoes t words.old (Sat.unassign_all (assignment_of t words.old) (drop from (assignment_of t words.old).trail)) t words.new }
 {
-    let n = t.length;
-    let mut i = from;
-    while i < n {
+    for i in from..t.length {
         let literal = Literal(fetch(words, TRAIL, SMALL, i));
         unassign(words, t, literal);
-        i += 1;
     }
 }
 
@@ -120,16 +103,14 @@ pub fn backtrack(words: &mut [u32], t: Trail, level: usize) -> Trail
     if t.level <= level {
         return t;
     }
-    let levels = t.level;
-    let n = t.length;
-    let head = wide(fetch_below(words, LIMITS, SMALL, levels, level));
-    let length = lower(head, n);
+    let head = fetch_below(words, LIMITS, SMALL, t.level, level) as usize;
+    let length = head.min(t.length);
     unassign_from(words, t, length);
     Trail {
-        variables: t.variables,
         length,
         head,
         level,
+        ..t
     }
 }
 
@@ -138,11 +119,12 @@ fn decision(words: &[u32], t: Trail, variable: u32) -> Literal
     requires { TrailReady t words.now × (variable < MOST-NODES) }
     ensures { result.0 ≡ Sat.decision (assignment_of t words.now) variable }
 {
-    let n = t.variables;
-    if fetch_below(words, PHASES, SMALL, n, wide(variable)) == 0 {
-        return Literal::of(variable).negate();
+    let literal = Literal::of(variable);
+    if fetch_below(words, PHASES, SMALL, t.variables, variable as usize) == 0 {
+        literal.negate()
+    } else {
+        literal
     }
-    Literal::of(variable)
 }
 
 // One more decision level, which begins at the trail's end.
@@ -150,14 +132,10 @@ fn push_limit(words: &mut [u32], t: Trail) -> Trail
     requires { TrailReady t words.old × (t.level < SMALL) }
     ensures { Becomes t words.old (Sat.push_limit (assignment_of t words.old)) result words.new × (result.length ≡ t.length) }
 {
-    let level = t.level;
-    let limit = t.length as u32;
-    stash(words, LIMITS, SMALL, level, limit);
+    stash(words, LIMITS, SMALL, t.level, t.length as u32);
     Trail {
-        variables: t.variables,
-        length: t.length,
-        head: t.head,
-        level: level + 1,
+        level: t.level + 1,
+        ..t
     }
 }
 

@@ -1,13 +1,12 @@
 -- What the calls answer, in the specification's numbers. Definitions only.
 use Rattle.std.specs.Prelude.{List, ℕ, Float}
+use Rattle.std.specs.Prelude as Code
 use Rattle.std.proofs.Math.Option.{Option, none, some}
 use Rattle.model.specs.Answers as Answers
 use Rattle.model.specs.Check.{CheckResult}
 use Rattle.calls.specs.declared.answers.ReadAnswer.{ReadAnswer}
 use Rattle.calls.specs.declared.answers.ReplayAnswer.{ReplayAnswer}
 use Rattle.calls.specs.declared.answers.Asked.{Asked}
-use Rattle.calls.specs.declared.answers.Proved.{Proved}
-use Rattle.calls.specs.declared.answers.Proved.TheVariants.{Nothing, Through}
 use Rattle.calls.specs.declared.answers.CheckAnswer.{CheckAnswer}
 
 -- the three numbers of a read
@@ -23,9 +22,9 @@ unfoldable pub asked_of : Asked → Answers.Asked
 asked_of a = record { depth = a.depth; query = a.query; learned = a.learned }
 
 -- through which cycle outputs are proved equal, or none
-unfoldable pub proved_of : Proved → Option ℕ
-proved_of Nothing = none
-proved_of (Through c) = some c
+unfoldable pub proved_of : Code.Option ℕ → Option ℕ
+proved_of Code.None = none
+proved_of (Code.Some c) = some c
 
 -- the twelve numbers of a check
 unfoldable pub check_of : CheckAnswer → Answers.CheckAnswer

@@ -1,25 +1,24 @@
--- A check, then those after it: as what the code found, and at one place. Assumes nothing.
-use Rattle.std.specs.Prelude.{ℕ, ◌≡◌, Bool, true, false}
+-- A check, then those after it: as `?` passes a refusal on, and at one place. Assumes nothing.
+use Rattle.std.specs.Prelude.{ℕ, ◌≡◌, Bool, true, false, Result}
+use Rattle.std.specs.Result.{IsErrAnd}
 use Rattle.std.proofs.Common.{sym, ◌∙◌}
-use Rattle.std.proofs.Math.Option.{Option, some}
+use Rattle.std.proofs.Math.Option.{Option, none, some}
 use Rattle.model.specs.Answers.{Refusal}
 use Rattle.model.specs.Validate.{◌otherwise◌, refuse_if}
-use Rattle.calls.specs.Faults.{refusal, fault_of, first-refuses, second-decides, found_nothing, found-refused}
-use Rattle.calls.specs.declared.fault.Fault.{Fault}
-use Rattle.calls.specs.declared.fault.Fault.TheVariants.{Nothing, Refused}
+use Rattle.calls.specs.Faults.{refusal, first-refuses, second-decides}
+use Rattle.calls.specs.Causes.{numbers_of, fault_of, fault_passed}
+use Rattle.calls.specs.declared.refusal.Refusal as Code
 
 -- ---- one check after the other
 
-module _ (f : Fault) (check next : Option Refusal) (h : fault_of f ≡ check) where
+module _ (check next : Option Refusal) where
   -- the first refuses
-  pub stops : (number side place : ℕ) → f ≡ Refused number side place → fault_of f ≡ (check otherwise next)
-  stops number side place e =
-      let found : fault_of f ≡ some (refusal number side place) = found-refused f number side place e in
-      found ∙ first-refuses check next (refusal number side place) (sym h ∙ found)
+  pub stops : {A : Type 0} (f : Result A Code.Refusal) (x : Code.Refusal) → IsErrAnd f (λ y. y ≡ x) → some (numbers_of x) ≡ check → fault_of f ≡ (check otherwise next)
+  stops f x h e = fault_passed f x h ∙ first-refuses check next (numbers_of x) (sym e)
 
   -- it finds nothing: the checks after it decide
-  pub goes_on : f ≡ Nothing → (g : Fault) → fault_of g ≡ next → fault_of g ≡ (check otherwise next)
-  goes_on e g k = k ∙ second-decides check next (sym h ∙ found_nothing f e)
+  pub goes_on : none ≡ check → (g : Option Refusal) → g ≡ next → g ≡ (check otherwise next)
+  goes_on e g k = k ∙ second-decides check next (sym e)
 
 -- ---- one check at one place
 

@@ -1,10 +1,13 @@
 // What the calls answer, as C has it.
 ghost use Rattle.std.specs.Prelude.{◌≡◌, ◌≤◌};
-ghost use Rattle.model.specs.Answers.{is_proved, proved_cycle, accepted_answer};
+ghost use Rattle.model.specs.Answers.{accepted_answer};
 ghost use Rattle.model.specs.Check.{refused_check, check_answer};
 ghost use Rattle.model.specs.Replay.{refused_replay};
-ghost use Rattle.calls.specs.Answers.{replay_of, asked_of, proved_of, check_of};
+ghost use Rattle.calls.specs.Answers.{refusal_of, replay_of, asked_of, proved_of, check_of};
+ghost use Rattle.calls.specs.Causes.{numbers_of};
 ghost use Rattle.calls.specs.Faults.{refusal};
+
+use crate::refusal::Refusal;
 
 // What a read answers: 0 or the refusal's number, the side, which is 0, and the place.
 #[repr(C)]
@@ -33,13 +36,6 @@ pub struct Asked {
     pub learned: usize,
 }
 
-// What a check has proved of the outputs: nothing, or that they are equal in every cycle through this one.
-#[derive(Clone, Copy)]
-pub enum Proved {
-    Nothing,
-    Through(u32),
-}
-
 // What a check answers: 0 or the refusal's number, the side and the place; of an accepted check the status (0 Equivalent, 1 NotEquivalent,
 // 2 Inconclusive, 3 GaveUp), the depth, for NotEquivalent the first mismatching cycle and for GaveUp the query, and of the queries asked the
 // largest total of learned literals, with depth and number of the first that has it; for GaveUp also whether outputs are proved equal through a
@@ -61,6 +57,20 @@ pub struct CheckAnswer {
     pub through: u32,
 }
 
+// A read that a refusal ends.
+impl From<Refusal> for ReadAnswer {
+    ghost from_gives = { λ refusal answer. refusal_of answer ≡ numbers_of refusal };
+
+    #[tactic(auto, unfolding(crate::specs::Answers::refusal_of, crate::specs::Faults::refusal))]
+    fn from(refusal: Refusal) -> ReadAnswer {
+        ReadAnswer {
+            number: refusal.cause.number(),
+            side: refusal.side.number(),
+            place: refusal.place,
+        }
+    }
+}
+
 // A refused replay.
 pub fn refused_replay(number: u32, side: u32, place: u32) -> ReplayAnswer
     ensures { replay_of result ≡ refused_replay (refusal number side place) }
@@ -70,6 +80,15 @@ pub fn refused_replay(number: u32, side: u32, place: u32) -> ReplayAnswer
         side,
         place,
         yes: false,
+    }
+}
+
+// A replay that a refusal ends.
+impl From<Refusal> for ReplayAnswer {
+    ghost from_gives = { λ refusal answer. replay_of answer ≡ refused_replay (numbers_of refusal) };
+
+    fn from(refusal: Refusal) -> ReplayAnswer {
+        refused_replay(refusal.cause.number(), refusal.side.number(), refusal.place)
     }
 }
 
@@ -93,40 +112,27 @@ pub fn refused_check(number: u32, side: u32, place: u32) -> CheckAnswer
     }
 }
 
-// Whether outputs are proved equal through a cycle.
-fn is_proved(proved: Proved) -> bool
-    ensures { result ≡ is_proved (proved_of proved) }
-{
-    match proved {
-        Proved::Nothing => false,
-        Proved::Through(_) => true,
+// A check that a refusal ends.
+impl From<Refusal> for CheckAnswer {
+    ghost from_gives = { λ refusal answer. check_of answer ≡ check_answer (refused_check (numbers_of refusal)) };
+
+    fn from(refusal: Refusal) -> CheckAnswer {
+        refused_check(refusal.cause.number(), refusal.side.number(), refusal.place)
     }
 }
 
-// That cycle, 0 where there is none.
-fn proved_cycle(proved: Proved) -> u32
-    ensures { result ≡ proved_cycle (proved_of proved) }
-{
-    match proved {
-        Proved::Nothing => 0,
-        Proved::Through(cycle) => cycle,
-    }
-}
-
-// An accepted check, of whose queries `most` learned most, and what it has proved.
+// An accepted check, of whose queries `most` learned most; `proved` is the cycle through which it has proved the outputs equal.
 pub fn accepted_check(
     status: u32,
     depth: u32,
     mismatch: u32,
     query: u32,
     most: Asked,
-    proved: Proved,
+    proved: Option<u32>,
 ) -> CheckAnswer
     requires { most.learned ≤ 262144 }
     ensures { check_of result ≡ accepted_answer status depth mismatch query (asked_of most) (proved_of proved) }
 {
-    let equal = is_proved(proved);
-    let through = proved_cycle(proved);
     CheckAnswer {
         number: 0,
         side: 0,
@@ -138,7 +144,7 @@ pub fn accepted_check(
         learned: most.learned as u32,
         learned_depth: most.depth,
         learned_query: most.query,
-        equal,
-        through,
+        equal: proved.is_some(),
+        through: proved.unwrap_or(0),
     }
 }

@@ -7,19 +7,17 @@ ghost use Rattle.model.specs.Pair.{check_fault};
 ghost use Rattle.model.specs.Sat.{score_zero};
 ghost use Rattle.calls.specs.Answers.{checked_of};
 ghost use Rattle.calls.specs.Options.{options_of};
-ghost use Rattle.struo_ir.specs.Decoded.{decoded};
-ghost use Rattle.struo_ir.specs.Designs.{Sided};
+ghost use Rattle.pair.specs.PairReading.{said};
 ghost use Rattle.checker.specs.Results.{Cleared};
 
 use crate::answer::answered;
 use crate::sides::sides;
-use calls::answers::{CheckAnswer, refused_check};
-use calls::fault::Fault;
+use calls::answers::CheckAnswer;
 use calls::options::{Lent, Options};
 use depths::prove::prove_sequential_equivalence;
+use pair::accepted::Pair;
 use refusals::check_fault;
 use run::run::initial_row;
-use struo_ir::design::Design;
 use words::{clear_scores, clear_words};
 
 // All work memory becomes zero, whatever its length.
@@ -32,10 +30,7 @@ fn clear_memory(words: &mut [u32], scores: &mut [f64])
 
 // The check of an accepted pair begun at rows of stored bits; after it all work memory is zero.
 fn prove(
-    gold: &[u8],
-    gold_design: Design,
-    gate: &[u8],
-    gate_design: Design,
+    pair: &Pair,
     gold_row: [bool; 128],
     gate_row: [bool; 128],
     options: Options,
@@ -43,42 +38,31 @@ fn prove(
     words: &mut [u32],
     scores: &mut [f64],
 ) -> CheckAnswer
-    requires { (Sided gold.now gold_design) × (Sided gate.now gate_design)
-        × (check_fault (decoded gold.now gold_design.netlist) (decoded gate.now gate_design.netlist) (options_of options) (Model.lent_of trace.old words.old scores.old) ≡ none) }
+    requires { check_fault (said pair.now.gold) (said pair.now.gate) (options_of options) (Model.lent_of trace.old words.old scores.old) ≡ none }
     ensures { checked_of result trace.new words.new scores.new
-        ≡ check_result (accepted_check (check_designs (options_of options) (decoded gold.now gold_design.netlist) (decoded gate.now gate_design.netlist) gold_row gate_row))
+        ≡ check_result (accepted_check (check_designs (options_of options) (said pair.now.gold) (said pair.now.gate) gold_row gate_row))
         trace.old words.old scores.old }
 {
-    let problem = sides(
-        words,
-        gold,
-        gold_design,
-        gate,
-        gate_design,
-        gold_row,
-        gate_row,
-    );
-    let outcome = prove_sequential_equivalence(problem, words, scores, trace, options);
+    let problem = sides(words, pair, gold_row, gate_row);
+    let outcome = prove_sequential_equivalence(&problem, words, scores, trace, options);
     clear_memory(words, scores);
     let earliest = options.earliest;
     answered(outcome, earliest)
 }
 
 // The check of two accepted records from their initial states: the first refusal of 16, 17, 36 and 18 to 24, or the proof.
+// It is not inlined, so that what it holds is not on the stack while the records are read.
+#[inline(never)]
 pub fn check_pair(
-    gold: &[u8],
-    gold_design: Design,
-    gate: &[u8],
-    gate_design: Design,
+    pair: &Pair,
     options: Options,
     trace: &mut [u8],
     words: &mut [u32],
     scores: &mut [f64],
 ) -> CheckAnswer
-    requires { (Sided gold.now gold_design) × (Sided gate.now gate_design) }
     ensures { checked_of result trace.new words.new scores.new
-        ≡ check_result (check_pair (options_of options) (decoded gold.now gold_design.netlist) (decoded gate.now gate_design.netlist)
-        (check_fault (decoded gold.now gold_design.netlist) (decoded gate.now gate_design.netlist) (options_of options) (Model.lent_of trace.old words.old scores.old)))
+        ≡ check_result (check_pair (options_of options) (said pair.now.gold) (said pair.now.gate)
+        (check_fault (said pair.now.gold) (said pair.now.gate) (options_of options) (Model.lent_of trace.old words.old scores.old)))
         trace.old words.old scores.old }
 {
     let lent = Lent {
@@ -86,26 +70,12 @@ pub fn check_pair(
         words: words.len(),
         scores: scores.len(),
     };
-    let fault = check_fault(gold, gold_design, gate, gate_design, options, lent);
-    match fault {
-        Fault::Refused(number, side, place) => refused_check(number, side, place),
-        Fault::Nothing => {
-            let gold_netlist = gold_design.netlist;
-            let gate_netlist = gate_design.netlist;
-            let gold_row = initial_row(gold_netlist);
-            let gate_row = initial_row(gate_netlist);
-            prove(
-                gold,
-                gold_design,
-                gate,
-                gate_design,
-                gold_row,
-                gate_row,
-                options,
-                trace,
-                words,
-                scores,
-            )
+    match check_fault(pair, options, lent) {
+        Err(refusal) => CheckAnswer::from(refusal),
+        Ok(()) => {
+            let gold_row = initial_row(pair.gold.design.netlist);
+            let gate_row = initial_row(pair.gate.design.netlist);
+            prove(pair, gold_row, gate_row, options, trace, words, scores)
         }
     }
 }

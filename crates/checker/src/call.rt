@@ -5,8 +5,7 @@ ghost use Rattle.calls.specs.Answers.{checked_of};
 ghost use Rattle.calls.specs.Options.{options_of};
 
 use crate::accepted::check_pair;
-use calls::answers::{CheckAnswer, refused_check};
-use calls::fault::Fault;
+use calls::answers::CheckAnswer;
 use calls::options::Options;
 use pair::reading::read_pair;
 
@@ -22,23 +21,9 @@ pub fn check(
     ensures { checked_of result trace.new words.new scores.new
         ≡ Model.check gold.now gate.now (options_of options) trace.old words.old scores.old }
 {
-    let reading = read_pair(gold, gate);
-    let fault = reading.fault;
-    match fault {
-        Fault::Refused(number, side, place) => refused_check(number, side, place),
-        Fault::Nothing => {
-            let gold_design = reading.gold;
-            let gate_design = reading.gate;
-            check_pair(
-                gold,
-                gold_design,
-                gate,
-                gate_design,
-                options,
-                trace,
-                words,
-                scores,
-            )
-        }
+    let read = read_pair(gold, gate);
+    match &read {
+        Err(refusal) => CheckAnswer::from(*refusal),
+        Ok(pair) => check_pair(pair, options, trace, words, scores),
     }
 }

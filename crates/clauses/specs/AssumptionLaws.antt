@@ -1,5 +1,5 @@
 -- The clauses of the assumptions. Assumes nothing.
-use Rattle.std.specs.Prelude.{◌≡◌, refl, true, List, [], ◌∷◌, ℕ, ◌+◌, ◌*◌, ◌<◌, ◌≤◌, Float, get_or, length, take}
+use Rattle.std.specs.Prelude.{◌≡◌, refl, true, List, [], ◌∷◌, ℕ, ◌+◌, ◌<◌, ◌≤◌, Float, get_or, length, take}
 use Rattle.std.proofs.Math.Path.{sym}
 use Rattle.std.proofs.Common.{◌∙◌, arith, add-one}
 use Rattle.std.proofs.Math.Seq.{slice, slice-cons, slice_empty}
@@ -46,20 +46,7 @@ pub record Assuming (t : Trail) (ls : List ℕ) (count : ℕ) (e₀ : Encoding) 
   pub left : (s : Solver) → Sat.add_assumptions (encoded_of s e t w x) (slice i count ls) ≡ Sat.add_assumptions (encoded_of s e₀ t w₀ x₀) (take count ls)
 
 module _ (t : Trail) (ls : List ℕ) (count : ℕ) (e₀ : Encoding) (w₀ : List ℕ) (x₀ : List Float) (r : Roomy e₀.store t w₀ x₀ count count) (b : count ≤ length ls) where
-  pub assuming_start : Assuming t ls count e₀ w₀ x₀ e₀ w₀ x₀ 0
-  assuming_start = record {
-    most = omega arith;
-    grown = record { frame = unchanged_none add_regions w₀; sound = r.sound; clauses = omega arith; literals = omega arith; others = record { long = refl; same = refl }; cached = λ a c. c };
-    left = λ s. refl;
-  }
-
   module _ (e : Encoding) (w : List ℕ) (x : List Float) (i : ℕ) (a : Assuming t ls count e₀ w₀ x₀ e w x i) where
-    pub assuming_asked : i < count → ((i : ℕ) → i < count → get_or ls i 0 < t.variables * 2) → Roomy e.store t w x 1 1 × (get_or ls i 0 < t.variables * 2)
-    assuming_asked h g = (
-      record { sound = a.grown.sound; clauses = omega (arith, r.clauses, a.grown.clauses); literals = omega (arith, r.literals, a.grown.literals); scores = omega (arith, r.scores, a.grown.others.long) },
-      g i h,
-    )
-
     pub assuming_next : i < count → (e' : Encoding) (w' : List ℕ) (x' : List Float) → Grows e.store t w x 1 1 e'.store w' x'
         → ((s : Solver) → encoded_of s e' t w' x' ≡ Sat.add_aig_clause (encoded_of s e t w x) (get_or ls i 0 ∷ [])) → Assuming t ls count e₀ w₀ x₀ e' w' x' (i + 1)
     unfolding Sat.add_assumptions

@@ -1,8 +1,8 @@
 -- Laws of clauses that are read: their literals in the pool, and the search for a literal to watch instead. Assumes nothing.
-use Rattle.std.specs.Prelude.{◌≡◌, refl, Bool, not, List, ◌∷◌, eqb, take, drop}
+use Rattle.std.specs.Prelude.{◌≡◌, refl, Bool, List, ◌∷◌, eqb, take, drop}
 use Rattle.std.proofs.Math.Path.{ap, sym}
 use Rattle.std.proofs.Common.{◌∙◌, eq-eqb, ne_eqb, eqb-true, length-take, drop_of_length-le, get_or-take, get_or-drop, drop-cons}
-use Rattle.std.proofs.Math.Bool.{true, false, and-false, and-true}
+use Rattle.std.proofs.Math.Bool.{true, false}
 use Rattle.std.proofs.Math.Option.{none, some}
 use Prim.Native.Nat.{ℕ, suc, ◌+◌, ◌-◌, ◌*◌, ◌<◌, ◌≤◌}
 use native.Mathlib.Omega.{arith}
@@ -18,7 +18,7 @@ use Rattle.assignment.specs.State.{assignment_of}
 use Rattle.assignment.specs.declared.state.Trail.{Trail}
 use Rattle.clauses.specs.declared.state.Clause.{Clause}
 use Rattle.clauses.specs.Clauses.{clause_at, literals_of, place_in, Stands, stands_at, place_at}
-use Rattle.clauses.specs.State.{span_of, clause_of, is_spare, can_watch, Watchable}
+use Rattle.clauses.specs.State.{span_of, clause_of, can_watch, Watchable}
 
 -- ---- a literal at a place
 
@@ -51,25 +51,6 @@ module _ (c : Clause) (w : List ℕ) where
   read-clause i e a b = rw (e, a, b)
 
 -- ---- whether a literal can be watched instead
-
-module _ (c : Clause) (l : ℕ) where
-  pub is-first : l ≡ c.first.0 → false ≡ is_spare c l
-  unfolding is_spare
-  is-first e = rw (eq-eqb l c.first.0 e)
-
-  pub is-second : (l ≡ c.first.0 → ⊥) → {b : Bool} → b ≡ not (eqb l c.second.0) → b ≡ is_spare c l
-  unfolding is_spare
-  is-second n {b} e = rw (ne_eqb l c.first.0 n) e
-
-  -- a literal that is not false can be watched where it is none of them
-  pub watch_other : (t : Assignment) → true ≡ Sat.not_false (Sat.value t l) → {b : Bool} → b ≡ is_spare c l → b ≡ can_watch t c l
-  unfolding can_watch is_spare
-  watch_other t e {b} k = rw (← e, and-true) k
-
-  -- a false one cannot
-  pub watch_false : (t : Assignment) → false ≡ Sat.not_false (Sat.value t l) → false ≡ can_watch t c l
-  unfolding can_watch
-  watch_false t e = rw (← e, and-false)
 
 -- among distinct literals, the place of one that stands there is told by the literal
 same_place : (ls : List ℕ) (f i : ℕ) → Apart ls → Stands f ls → i < length ls → eqb i (place_in f ls) ≡ eqb (get_or ls i 0) f

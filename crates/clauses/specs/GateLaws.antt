@@ -16,8 +16,9 @@ use Rattle.assignment.specs.ScoreLaws.{others-both}
 use Rattle.assignment.specs.StateLaws.{unchanged_none, unchanged_both}
 use Rattle.assignment.specs.declared.state.Trail.{Trail}
 use Rattle.clauses.specs.declared.state.Store.{Store}
-use Rattle.clauses.specs.State.{solver_of, scored, AddedList, Room, Roomy, Grows, GateOf, Gates, Holds, node_of, node_in, add_regions}
+use Rattle.clauses.specs.State.{solver_of, scored, AddedList, Room, Roomy, Sorted, Grows, GateOf, Holds, node_of, node_in, add_regions}
 use Rattle.clauses.specs.EncodeLaws.{two-clause, three-clause}
+use Rattle.clauses.specs.PoolLaws.{sorted-two, sorted-three}
 
 -- the negation of a literal has the same variable
 negate-half : (l : ℕ) → negate l / 2 ≡ l / 2
@@ -28,32 +29,28 @@ module _ (m : Store) (t : Trail) (w : List ℕ) (x : List Float) (out lhs rhs : 
   one_more : n ≡ out + 1
   one_more = d ∙ negate-even out g.even
 
-  pub first-asked : Room m t w x 2 × (Literals.node lhs < Literals.node n) × (n < t.variables * 2)
+  pub first-asked : Room m t w x 2 × Sorted (t.variables * 2) (lhs ∷ n ∷ [])
   unfolding Literals.node
   first-asked = (
     record { sound = r.sound; clauses = omega (arith, r.clauses); literals = omega (arith, r.literals); scores = r.scores },
-    omega (arith, g.ascending, g.before, one_more),
-    omega (arith, g.even, g.within, one_more),
+    sorted-two (t.variables * 2) lhs n (omega (arith, g.ascending, g.before, one_more)) (omega (arith, g.even, g.within, one_more)),
   )
 
   module _ (m1 : Store) (w1 : List ℕ) (x1 : List Float) (a : AddedList m t w x (lhs ∷ n ∷ []) m1 w1 x1) where
-    pub second-asked : Room m1 t w1 x1 2 × (Literals.node rhs < Literals.node n) × (n < t.variables * 2)
+    pub second-asked : Room m1 t w1 x1 2 × Sorted (t.variables * 2) (rhs ∷ n ∷ [])
     unfolding Literals.node
     second-asked = (
       record { sound = a.sound; clauses = omega (arith, r.clauses, a.clauses); literals = omega (arith, r.literals, a.literals); scores = omega (arith, r.scores, a.others.long) },
-      omega (arith, g.before, one_more),
-      omega (arith, g.even, g.within, one_more),
+      sorted-two (t.variables * 2) rhs n (omega (arith, g.before, one_more)) (omega (arith, g.even, g.within, one_more)),
     )
 
     module _ (m2 : Store) (w2 : List ℕ) (x2 : List Float) (b : AddedList m1 t w1 x1 (rhs ∷ n ∷ []) m2 w2 x2) where
       pub third-asked : (p q : ℕ) → p ≡ negate lhs → q ≡ negate rhs
-          → Room m2 t w2 x2 3 × (Literals.node p < Literals.node q) × (Literals.node q < Literals.node out) × (out < t.variables * 2)
+          → Room m2 t w2 x2 3 × Sorted (t.variables * 2) (p ∷ q ∷ out ∷ [])
       unfolding Literals.node
       third-asked p q e f = (
         record { sound = b.sound; clauses = omega (arith, r.clauses, a.clauses, b.clauses); literals = omega (arith, r.literals, a.literals, b.literals); scores = omega (arith, r.scores, a.others.long, b.others.long) },
-        rw (e, f) (omega (arith, g.ascending, negate-half lhs, negate-half rhs)),
-        rw f (omega (arith, g.before, negate-half rhs)),
-        g.within,
+        sorted-three (t.variables * 2) p q out (rw (e, f) (omega (arith, g.ascending, negate-half lhs, negate-half rhs))) (rw f (omega (arith, g.before, negate-half rhs))) g.within,
       )
 
       module _ (p q : ℕ) (e : p ≡ negate lhs) (f : q ≡ negate rhs) (m3 : Store) (w3 : List ℕ) (x3 : List Float) (c : AddedList m2 t w2 x2 (p ∷ q ∷ out ∷ []) m3 w3 x3) where
@@ -94,11 +91,6 @@ module _ (m : Store) (t : Trail) (w : List ℕ) (x : List Float) (i rhs : ℕ) (
   )
 
   module _ (lhs : ℕ) (f : lhs ≡ get_or (region GRAPH-LHS w) i 0) (z : rhs ≡ 0 → ⊥) where
-    pub node-gate : Gates t.variables w → 0 < i → i < t.variables → GateOf t (i * 2) lhs rhs
-    node-gate g p h =
-        let k = g.at i p h (rw (← e) (omega arith)) in
-        record { variable = rw f k.0; ascending = rw (f, e) k.1; before = rw e (omega (arith, k.2)); even = omega arith; within = omega arith }
-
     pub node-is : node_in w i ≡ And lhs rhs
     unfolding node_of
     node-is = rw (← e, ← f) (go rhs z)
@@ -126,28 +118,12 @@ pub record Nodes (t : Trail) (m₀ : Store) (w₀ : List ℕ) (x₀ : List Float
       → Sat.add_nodes (solver_of (scored s t.variables x) m t w) i (drop i g) ≡ Sat.add_nodes (solver_of (scored s t.variables x₀) m₀ t w₀) 1 (drop 1 g)
 
 module _ (t : Trail) (m₀ : Store) (w₀ : List ℕ) (x₀ : List Float) (r : Roomy m₀ t w₀ x₀ (3 * t.variables) (7 * t.variables)) where
-  pub nodes-start : Nodes t m₀ w₀ x₀ m₀ w₀ x₀ 1
-  nodes-start = record {
-    one = omega arith;
-    most = omega (arith, r.sound.formed.some);
-    grown = record { frame = unchanged_none add_regions w₀; sound = r.sound; clauses = omega arith; literals = omega arith; others = record { long = refl; same = refl }; cached = λ a c. c };
-    left = λ s g h. refl;
-  }
-
   module _ (m : Store) (w : List ℕ) (x : List Float) (i : ℕ) (n : Nodes t m₀ w₀ x₀ m w x i) where
     same-lhs : region GRAPH-LHS w ≡ region GRAPH-LHS w₀
     same-lhs = n.grown.frame.same GRAPH-LHS refl
 
     same_rhs : region GRAPH-RHS w ≡ region GRAPH-RHS w₀
     same_rhs = n.grown.frame.same GRAPH-RHS refl
-
-    pub node-asked : Gates t.variables w₀ → i < t.variables → Roomy m t w x 3 7 × Gates t.variables w × (0 < i) × (i < t.variables)
-    node-asked g h = (
-      record { sound = n.grown.sound; clauses = omega (arith, r.clauses, n.grown.clauses, n.one); literals = omega (arith, r.literals, n.grown.literals, n.one); scores = omega (arith, r.scores, n.grown.others.long) },
-      record { at = rw (same-lhs, same_rhs) g.at },
-      n.one,
-      h,
-    )
 
     pub node-step : i < t.variables → (m' : Store) (w' : List ℕ) (x' : List Float) → Grows m t w x 3 7 m' w' x'
         → ((s : Solver) → solver_of (scored s t.variables x') m' t w' ≡ Sat.add_node (solver_of (scored s t.variables x) m t w) (i * 2) (node_in w i)) → Nodes t m₀ w₀ x₀ m' w' x' (i + 1)

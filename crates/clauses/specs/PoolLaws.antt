@@ -1,10 +1,10 @@
 -- Literals put into the pool after those of the clauses, and the clauses made of them. Assumes nothing.
 use Rattle.std.specs.Prelude.{◌≡◌, true, ℕ, zero, suc, ◌+◌, ◌-◌, ◌*◌, ◌<◌, ◌≤◌, Float, get_or, length, take}
-use Rattle.std.proofs.Math.Path.{refl, ap}
-use Rattle.std.proofs.Common.{◌∙◌, take-suc-set, get_or-set_other, length-take-le}
+use Rattle.std.proofs.Math.Path.{refl, sym}
+use Rattle.std.proofs.Common.{◌∙◌, add-one, take-suc-set, get_or-set_other, length-take-le}
 use mathlib.Core.List.{List, [], ◌∷◌}
 use native.Mathlib.Omega.{arith}
-use Rattle.std.proofs.Math.Seq.{slice_empty, length-slice, take-set-le}
+use Rattle.std.proofs.Math.Seq.{length-slice, take-set-le, take-suc, take-length}
 use Rattle.std.proofs.lemmas.List.{drop-append-le}
 use Rattle.words.specs.Layout.{LENT, STARTS, POOL, CLAUSE-STARTS, WATCHED, LITERALS}
 use Rattle.words.specs.Region.{region, stored, stores, stored_in, stored_out, length-stored, length-region}
@@ -12,7 +12,7 @@ use Rattle.model.specs.Lists.{snoc, member}
 use Rattle.model.specs.Literal as Literals
 use Rattle.model.specs.Sat.{Solver}
 use Rattle.laws.specs.Search.State.{Apart}
-use Rattle.laws.specs.Search.Sorting.{Ascending, ascending-apart}
+use Rattle.laws.specs.Search.Sorting.{ascending-apart}
 use Rattle.assignment.specs.State.{Unchanged}
 use Rattle.assignment.specs.StateLaws.{unchanged_none, unchanged_both, unchanged_stored, unchanged_within}
 use Rattle.assignment.specs.KnownLaws.{cached-kept}
@@ -21,7 +21,7 @@ use Rattle.clauses.specs.declared.state.Store.{Store}
 use Rattle.clauses.specs.Tabulate.{tabulate-same}
 use Rattle.clauses.specs.Queue.{queues_of}
 use Rattle.clauses.specs.Clauses.{clause_at, literals_of, clauses_of, same-watches}
-use Rattle.clauses.specs.State.{solver_of, SoundStore, watch_regions, add_regions, pool_literals, Attachable, AllBelow, Pooled, scored, clean, Added, AddedList, Room}
+use Rattle.clauses.specs.State.{solver_of, SoundStore, watch_regions, add_regions, pool_literals, Attachable, AllBelow, Pooled, scored, clean, Added, AddedList, Room, Sorted}
 use Rattle.clauses.specs.StepLaws.{same-assignment}
 use Rattle.clauses.specs.EncodeLaws.{clean-one, clean-two, clean-three}
 use Rattle.clauses.specs.ClauseLaws.{slice_in}
@@ -101,10 +101,6 @@ pooled m t w count v s k u e = record {
   literals = rw e (pool_more m w count v s.formed.ready.words k);
 }
 
--- no literal
-pub pool_none : (m : Store) (w : List ℕ) → pool_literals m 0 w ≡ []
-pool_none m w = let e : m.literals + 0 ≡ m.literals = omega arith in rw e (slice_empty m.literals (region LITERALS w))
-
 -- ---- several
 
 all-at : (b : ℕ) (xs : List ℕ) → AllBelow b xs → (i : ℕ) → i < length xs → get_or xs i 0 < b
@@ -137,49 +133,58 @@ added_list m t w u x ls count m' w' x' f k l n a = record {
   cached = λ b c. a.cached b (cached-kept watch_regions t b x refl f c);
 }
 
--- what `add_clause` asks, from the literals in the pool
-ready-clause : (m : Store) (t : Trail) (w u : List ℕ) (x : List Float) (ls : List ℕ) (count : ℕ) → Room m t w x count → SoundStore m t u [] → 0 < count → pool_literals m count u ≡ ls
-    → AllBelow (t.variables * 2) ls → Ascending ls → clean ls ≡ true → Attachable m t u count × (t.variables ≤ length x) × (clean (pool_literals m count u) ≡ true)
-ready-clause m t w u x ls count r s p e a o c = (attachable m t u count s r.clauses r.literals p (rw e a) (rw e (ascending-apart ls o)), r.scores, rw e c)
+-- sorted literals, from their variables in ascending order
+pub sorted-one : (v a : ℕ) → a < v → Sorted v (a ∷ [])
+sorted-one v a h = record { some = omega arith; below = (h, tt); ascending = (tt, tt); clean = clean-one a }
 
--- a clause of one, two or three literals that were put into the pool: what `add_clause` asks, and what it makes
-module _ (m : Store) (t : Trail) (w : List ℕ) (x : List Float) (a : ℕ) (u : List ℕ) (p : Pooled m t w 0 a u) where
-  one_pooled : pool_literals m 1 u ≡ a ∷ []
+pub sorted-two : (v a b : ℕ) → Literals.node a < Literals.node b → b < v → Sorted v (a ∷ b ∷ [])
+unfolding Literals.node
+sorted-two v a b h k = record { some = omega arith; below = (omega arith, (k, tt)); ascending = ((omega arith, tt), (tt, tt)); clean = clean-two a b h }
+
+pub sorted-three : (v a b c : ℕ) → Literals.node a < Literals.node b → Literals.node b < Literals.node c → c < v → Sorted v (a ∷ b ∷ c ∷ [])
+unfolding Literals.node
+sorted-three v a b c h i k = record {
+  some = omega arith;
+  below = (omega arith, (omega arith, (k, tt)));
+  ascending = ((omega arith, (omega arith, tt)), ((omega arith, tt), (tt, tt)));
+  clean = clean-three a b c h i;
+}
+
+-- ---- literals put into the pool one after another, and the clause that they become
+
+module _ (m : Store) (t : Trail) (w₀ : List ℕ) (ls : List ℕ) where
+  -- the first i are in the pool
+  pub record Pooling (i : ℕ) (w : List ℕ) : Type 0 where
+    pub inside : i ≤ length ls
+    pub long : length w ≡ length w₀
+    pub literals : pool_literals m i w ≡ take i ls
+    pub frame : Unchanged watch_regions w₀ w
+    pub sound : SoundStore m t w []
+    pub is : (s : Solver) → solver_of s m t w ≡ solver_of s m t w₀
+
+  pub pooling_step : (i l : ℕ) (w w' : List ℕ) → Pooling i w → i < length ls → l ≡ get_or ls i 0 → Pooled m t w i l w' → length w' ≡ length w → Pooling (i + 1) w'
   unfolding snoc
-  one_pooled = let e = p.literals in rw (pool_none m w) at e
+  pooling_step i l w w' g k e p n = record {
+    inside = omega arith;
+    long = n ∙ g.long;
+    literals = p.literals ∙ rw (g.literals, e, add-one) (sym (take-suc ls i 0 k));
+    frame = unchanged_both watch_regions g.frame p.frame;
+    sound = p.sound;
+    is = λ s. p.is s ∙ g.is s;
+  }
 
-  pub one-asked : Room m t w x 1 → a < t.variables * 2 → Attachable m t u 1 × (t.variables ≤ length x) × (clean (pool_literals m 1 u) ≡ true)
-  one-asked r h = ready-clause m t w u x (a ∷ []) 1 r p.sound (omega arith) one_pooled (h, tt) (tt, tt) (clean-one a)
+  module _ (w : List ℕ) (x : List Float) (g : Pooling (length ls) w) where
+    all_pooled : pool_literals m (length ls) w ≡ ls
+    all_pooled = g.literals ∙ take-length ls
 
-  pub one_added : (m' : Store) (w' : List ℕ) (x' : List Float) → Added m t u x 1 m' w' x' → AddedList m t w x (a ∷ []) m' w' x'
-  one_added m' w' x' d = added_list m t w u x (a ∷ []) 1 m' w' x' p.frame p.is one_pooled refl d
+    -- what `add_clause` asks
+    pub pooled_asked : Room m t w₀ x (length ls) → Sorted (t.variables * 2) ls → Attachable m t w (length ls) × (t.variables ≤ length x) × (clean (pool_literals m (length ls) w) ≡ true)
+    pooled_asked r s = (
+      attachable m t w (length ls) g.sound r.clauses r.literals s.some (rw all_pooled s.below) (rw all_pooled (ascending-apart ls s.ascending)),
+      r.scores,
+      rw all_pooled s.clean,
+    )
 
-  module _ (b : ℕ) (v : List ℕ) (q : Pooled m t u 1 b v) where
-    two_pooled : pool_literals m 2 v ≡ a ∷ b ∷ []
-    unfolding snoc
-    two_pooled = q.literals ∙ ap (λ (r : List ℕ). snoc r b) one_pooled
-
-    two-frame : Unchanged watch_regions w v
-    two-frame = unchanged_both watch_regions p.frame q.frame
-
-    two-same : (s : Solver) → solver_of s m t v ≡ solver_of s m t w
-    two-same s = q.is s ∙ p.is s
-
-    pub two-asked : Room m t w x 2 → Literals.node a < Literals.node b → b < t.variables * 2 → Attachable m t v 2 × (t.variables ≤ length x) × (clean (pool_literals m 2 v) ≡ true)
-    unfolding Literals.node
-    two-asked r h k = ready-clause m t w v x (a ∷ b ∷ []) 2 r q.sound (omega arith) two_pooled (omega arith, (k, tt)) ((omega arith, tt), (tt, tt)) (clean-two a b h)
-
-    pub two_added : (m' : Store) (w' : List ℕ) (x' : List Float) → Added m t v x 2 m' w' x' → AddedList m t w x (a ∷ b ∷ []) m' w' x'
-    two_added m' w' x' d = added_list m t w v x (a ∷ b ∷ []) 2 m' w' x' two-frame two-same two_pooled refl d
-
-    module _ (c : ℕ) (z : List ℕ) (r : Pooled m t v 2 c z) where
-      three_pooled : pool_literals m 3 z ≡ a ∷ b ∷ c ∷ []
-      unfolding snoc
-      three_pooled = r.literals ∙ ap (λ (r : List ℕ). snoc r c) two_pooled
-
-      pub three-asked : Room m t w x 3 → Literals.node a < Literals.node b → Literals.node b < Literals.node c → c < t.variables * 2 → Attachable m t z 3 × (t.variables ≤ length x) × (clean (pool_literals m 3 z) ≡ true)
-      unfolding Literals.node
-      three-asked o h i k = ready-clause m t w z x (a ∷ b ∷ c ∷ []) 3 o r.sound (omega arith) three_pooled (omega arith, (omega arith, (k, tt))) ((omega arith, (omega arith, tt)), ((omega arith, tt), (tt, tt))) (clean-three a b c h i)
-
-      pub three_added : (m' : Store) (w' : List ℕ) (x' : List Float) → Added m t z x 3 m' w' x' → AddedList m t w x (a ∷ b ∷ c ∷ []) m' w' x'
-      three_added m' w' x' d = added_list m t w z x (a ∷ b ∷ c ∷ []) 3 m' w' x' (unchanged_both watch_regions two-frame r.frame) (λ s. r.is s ∙ two-same s) three_pooled refl d
+    -- what it makes
+    pub pooled_added : (m' : Store) (w' : List ℕ) (x' : List Float) → Added m t w x (length ls) m' w' x' → AddedList m t w₀ x ls m' w' x'
+    pooled_added m' w' x' a = added_list m t w₀ w x ls (length ls) m' w' x' g.frame g.is all_pooled refl a

@@ -1,5 +1,5 @@
 -- The solver of a graph and its assumptions, from words that held anything. Assumes nothing.
-use Rattle.std.specs.Prelude.{◌≡◌, true, false, List, [], ◌∷◌, ℕ, zero, suc, ◌+◌, ◌*◌, ◌<◌, ◌≤◌, Float, get_or, take, drop, replicate}
+use Rattle.std.specs.Prelude.{◌≡◌, true, false, List, [], ◌∷◌, ℕ, zero, suc, ◌+◌, ◌*◌, ◌≤◌, Float, take, drop, replicate}
 use Rattle.std.proofs.Math.Path.{refl, ap, sym}
 use Rattle.std.proofs.Common.{◌∙◌, arith}
 use Rattle.std.proofs.Math.ListN.{length}
@@ -67,13 +67,6 @@ module _ (n : ℕ) (w : List ℕ) (x : List Float) (ls : List ℕ) (count : ℕ)
 
     module _ (m3 : Store) (w3 : List ℕ) (x3 : List Float) (d : Grows m2 t w2 x1 (3 * t.variables) (7 * t.variables) m3 w3 x3)
         (k : (s : Sat.Solver) (g : List Node) → Holds t.variables w2 g → solver_of (scored s t.variables x3) m3 t w3 ≡ Sat.add_nodes (solver_of (scored s t.variables x1) m2 t w2) 1 (drop 1 g)) where
-      pub assumptions-asked : Roomy m3 t w3 x3 count count × (count ≤ length ls) × ((i : ℕ) → i < count → get_or ls i 0 < t.variables * 2)
-      assumptions-asked = (
-        record { sound = d.sound; clauses = omega (arith, d.clauses, c.clauses, b.variables, a.variables, a.few); literals = omega (arith, d.literals, c.literals, b.variables, a.variables, a.few); scores = omega (arith, b.variables, a.scores, z.others.long, d.others.long) },
-        a.listed,
-        rw b.variables a.range,
-      )
-
       -- the nodes' clauses added to the new solver
       nodes-is : (g : List Node) → Holds n w g → encoded_of (Sat.new n) (record { store = m3; inconsistent = false }) t w3 x3 ≡ Sat.add_nodes (Sat.new n) 1 (drop 1 g)
       unfolding encoded_of solver_of flagged scored

@@ -1,6 +1,8 @@
 -- What a search's clauses, watch queues and numbers stand for: the definition's solver; what holds of them throughout; and what the functions over them promise. Definitions only.
-use Rattle.std.specs.Prelude.{◌≡◌, Bool, true, false, not, ◌&&◌, List, [], ◌∷◌, ◌++◌, ℕ, zero, suc, ◌+◌, ◌*◌, ◌/◌, ◌%◌, ◌<◌, ◌≤◌, eqb, get_or, length, take, replicate, Float}
-use Rattle.std.proofs.Math.Option.{Option, none, some}
+use Rattle.std.specs.Prelude.{◌≡◌, Bool, true, false, not, ◌&&◌, List, [], ◌∷◌, ◌++◌, ℕ, zero, suc, ◌+◌, ◌*◌, ◌/◌, ◌%◌, ◌<◌, ◌≤◌, eqb, get_or, length, map, take, replicate, Float}
+use Rattle.std.specs.Prelude.{Option, Some, None}
+use Rattle.std.proofs.Math.Option.{none, some}
+use Rattle.std.proofs.Math.Option as Maybe
 use Rattle.std.proofs.Math.Seq.{slice}
 use Rattle.facts.specs.Floats.{unsigned}
 use Rattle.words.specs.Layout.{LENT, STARTS, POOL, MOST-NODES, BLOCKS, GRAPH-LHS, GRAPH-RHS, WATCH-HEADS, WATCH-TAILS, WATCH-COUNTS, CLAUSE-STARTS, WATCHED, LINKS, LITERALS}
@@ -10,6 +12,7 @@ use Rattle.model.specs.Aig.{Node, Constant, Variable, And}
 use Rattle.model.specs.Sat as Sat
 use Rattle.model.specs.Sat.{Solver}
 use Rattle.laws.specs.Search.State.{Apart}
+use Rattle.laws.specs.Search.Sorting.{Ascending}
 use Rattle.assignment.specs.State.{assignment_of, assignment_regions, TrailReady, Unchanged}
 use Rattle.assignment.specs.Scores.{Others}
 use Rattle.assignment.specs.Blocks.{Cached, Grown}
@@ -19,8 +22,7 @@ use Rattle.clauses.specs.declared.state.Store.{Store}
 use Rattle.clauses.specs.declared.state.Clause.{Clause}
 use Rattle.clauses.specs.declared.state.Encoding.{Encoding}
 use Rattle.clauses.specs.declared.state.Encoded.{Encoded}
-use Rattle.clauses.specs.declared.state.Spare.{Spare}
-use Rattle.clauses.specs.declared.state.Spare.TheVariants as Found
+use Rattle.literals.specs.declared.Literal.{Literal}
 use Rattle.clauses.specs.Queue.{queues_of}
 use Rattle.clauses.specs.Sound.{SoundQueues}
 use Rattle.clauses.specs.Clauses.{clauses_of, watches_of, literals_of, place_in, Stands}
@@ -48,18 +50,14 @@ unfoldable pub clause_of : Clause → List ℕ → Sat.Clause
 clause_of c w = record { literals = span_of c w; watched = (place_in c.first.0 (span_of c w), place_in c.second.0 (span_of c w)) }
 
 -- the definition's place of a spare literal of a clause
-abbrev pub place_of : Spare → List ℕ → Option ℕ
-place_of (Found.Found l) ls = some (place_in l.0 ls)
-place_of Found.Nothing ls = none
+abbrev pub place_of : Option Literal → List ℕ → Maybe.Option ℕ
+place_of (Some l) ls = some (place_in l.0 ls)
+place_of None ls = none
 
 -- a spare literal that was found stands in the clause
-abbrev pub SpareStands : Spare → List ℕ → Type 0
-SpareStands (Found.Found l) ls = Stands l.0 ls
-SpareStands Found.Nothing ls = Unit {0}
-
--- whether a literal is none of the watched ones of a clause
-unfoldable pub is_spare : Clause → ℕ → Bool
-is_spare c l = not (eqb l c.first.0) && not (eqb l c.second.0)
+abbrev pub SpareStands : Option Literal → List ℕ → Type 0
+SpareStands (Some l) ls = Stands l.0 ls
+SpareStands None ls = Unit {0}
 
 -- whether a literal of a clause is neither watched nor false
 unfoldable pub can_watch : Sat.Assignment → Clause → ℕ → Bool
@@ -140,7 +138,7 @@ pub record Watchable (t : Trail) (w : List ℕ) (c : Clause) : Type 0 where
   pub range : (i : ℕ) → get_or (span_of c w) i 0 < t.variables * 2
 
 -- the spare literal of a clause is at the definition's place, and stands in the clause
-pub record Spares (t : Trail) (w : List ℕ) (c : Clause) (r : Spare) : Type 0 where
+pub record Spares (t : Trail) (w : List ℕ) (c : Clause) (r : Option Literal) : Type 0 where
   pub is : place_of r (span_of c w) ≡ Sat.replacement (assignment_of t w) (clause_of c w)
   pub found : SpareStands r (span_of c w)
 
@@ -234,6 +232,17 @@ pub record AddedList (m : Store) (t : Trail) (w : List ℕ) (x : List Float) (ls
   pub others : Others t.variables x x'
   pub is : (s : Solver) → solver_of (scored s t.variables x') m' t w' ≡ Sat.add_sorted (solver_of (scored s t.variables x) m t w) ls
   pub cached : (a : Activity) → Cached t w a x → Cached t w' a x'
+
+-- literals as numbers
+abbrev pub numbers : List Literal → List ℕ
+numbers ls = map (λ l. l.0) ls
+
+-- sorted literals that can become a clause as they stand: there is one, all are below b, and no two are of one variable
+pub record Sorted (b : ℕ) (ls : List ℕ) : Type 0 where
+  pub some : 0 < length ls
+  pub below : AllBelow b ls
+  pub ascending : Ascending ls
+  pub clean : clean ls ≡ true
 
 -- all is sound, and there is room for a clause of n literals
 pub record Room (m : Store) (t : Trail) (w : List ℕ) (x : List Float) (n : ℕ) : Type 0 where

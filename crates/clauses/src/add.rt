@@ -8,9 +8,10 @@ use crate::state::Store;
 use assignment::scores::add_ones;
 use assignment::state::Trail;
 use literals::Literal;
-use words::{CLAUSE_STARTS, LITERALS, WATCHED, load, put, wide};
+use words::{CLAUSE_STARTS, LITERALS, WATCHED, load, put};
 
 // The end of the clause id, and its watched literals.
+#[tactic(auto, unfolding(crate::specs::State::sealed_words))]
 fn seal(words: &mut [u32], id: usize, end: usize, first: Literal, second: Literal)
     requires { (LENT ≤ length words.old) × (id + 1 < STARTS) × (end ≤ POOL) }
     ensures { (words.new ≡ sealed_words words.old id end first.0 second.0) × (LENT ≤ length words.new) }
@@ -20,49 +21,28 @@ fn seal(words: &mut [u32], id: usize, end: usize, first: Literal, second: Litera
     put(words, WATCHED, id * 2 + 1, second.0);
 }
 
-// One literal of the pool becomes a clause.
-fn attach_unit(words: &mut [u32], store: Store, t: Trail) -> Store
-    requires { Attachable store t words.old 1 }
-    ensures { Attached store t words.old 1 result words.new }
-{
-    let id = store.clauses;
-    let start = store.literals;
-    let first = Literal(load(words, LITERALS, start));
-    seal(words, id, start + 1, first, first);
-    push_back(words, wide(first.0), (id * 2) as u32);
-    Store {
-        clauses: id + 1,
-        literals: start + 1,
-    }
-}
-
-// Two or more literals of the pool become a clause.
-fn attach_longer(words: &mut [u32], store: Store, t: Trail, count: usize) -> Store
-    requires { Attachable store t words.old count × (1 < count) }
-    ensures { Attached store t words.old count result words.new }
-{
-    let id = store.clauses;
-    let start = store.literals;
-    let first = Literal(load(words, LITERALS, start));
-    let second = Literal(load(words, LITERALS, start + 1));
-    seal(words, id, start + count, first, second);
-    push_back(words, wide(first.0), (id * 2) as u32);
-    push_back(words, wide(second.0), (id * 2 + 1) as u32);
-    Store {
-        clauses: id + 1,
-        literals: start + count,
-    }
-}
-
-// The literals that lie in the pool become a clause.
+// The literals that lie in the pool become a clause; one literal stands for both that are watched, and is watched once.
 fn attach(words: &mut [u32], store: Store, t: Trail, count: usize) -> Store
     requires { Attachable store t words.old count }
     ensures { Attached store t words.old count result words.new }
 {
+    let id = store.clauses;
+    let start = store.literals;
+    let attached = Store {
+        clauses: id + 1,
+        literals: start + count,
+    };
+    let first = Literal(load(words, LITERALS, start));
     if count == 1 {
-        return attach_unit(words, store, t);
+        seal(words, id, start + count, first, first);
+        push_back(words, first.0 as usize, (id * 2) as u32);
+        return attached;
     }
-    attach_longer(words, store, t, count)
+    let second = Literal(load(words, LITERALS, start + 1));
+    seal(words, id, start + count, first, second);
+    push_back(words, first.0 as usize, (id * 2) as u32);
+    push_back(words, second.0 as usize, (id * 2 + 1) as u32);
+    attached
 }
 
 // The literals that lie in the pool, sorted and of distinct variables, become a clause, and 1.0 is added to the score of each.

@@ -4,15 +4,16 @@ ghost use Rattle.words.specs.Layout.{LENT, STARTS, CLAUSE-STARTS, WATCHED};
 ghost use Rattle.words.specs.Region.{region};
 ghost use Rattle.assignment.specs.State.{assignment_of, TrailReady};
 ghost use Rattle.clauses.specs.Clauses.{literals_of};
-ghost use Rattle.clauses.specs.State.{span_of, is_spare, can_watch, Watchable, Spares};
+ghost use Rattle.clauses.specs.State.{span_of, can_watch, Watchable, Spares};
 
-use crate::state::{Clause, Spare};
+use crate::state::Clause;
 use assignment::state::Trail;
 use assignment::trail::not_false;
 use literals::Literal;
-use words::{CLAUSE_STARTS, LITERALS, WATCHED, load, wide};
+use words::{CLAUSE_STARTS, LITERALS, WATCHED, load};
 
 // The clause with a number.
+#[tactic(auto, using(crate::specs::ClauseLaws::read_span))]
 pub fn clause(words: &[u32], id: usize) -> Clause
     requires { (LENT ≤ length words.now) × (id + 1 < STARTS) }
     ensures { (span_of result words.now ≡ literals_of words.now id) × (result.end ≡ get_or (region CLAUSE-STARTS words.now) (id + 1) 0)
@@ -30,42 +31,25 @@ pub fn clause(words: &[u32], id: usize) -> Clause
     }
 }
 
-// Whether a literal is none of the watched ones of a clause.
-fn is_spare(c: Clause, l: Literal) -> bool
-    ensures { result ≡ is_spare c l.0 }
-{
-    let first = c.first;
-    let second = c.second;
-    if l.0 == first.0 {
-        return false;
-    }
-    l.0 != second.0
-}
-
 // Whether a literal of a clause is neither watched nor false. Most are false, so that is asked first.
+#[tactic(auto, unfolding(crate::specs::State::can_watch))]
 fn can_watch(words: &[u32], t: Trail, c: Clause, l: Literal) -> bool
     requires { TrailReady t words.now × (l.0 < t.variables * 2) }
     ensures { result ≡ can_watch (assignment_of t words.now) c l.0 }
 {
-    if not_false(words, t, l) {
-        return is_spare(c, l);
-    }
-    false
+    not_false(words, t, l) && l != c.first && l != c.second
 }
 
 // The first literal of a clause that is neither watched nor false.
-pub fn replacement(words: &[u32], t: Trail, c: Clause) -> Spare
+pub fn replacement(words: &[u32], t: Trail, c: Clause) -> Option<Literal>
     requires { Watchable t words.now c }
     ensures { Spares t words.now c result }
 {
-    let end = wide(c.end);
-    let mut at = wide(c.start);
-    while at < end {
+    for at in c.start as usize..c.end as usize {
         let l = Literal(load(words, LITERALS, at));
         if can_watch(words, t, c, l) {
-            return Spare::Found(l);
+            return Some(l);
         }
-        at += 1;
     }
-    Spare::Nothing
+    None
 }

@@ -1,10 +1,9 @@
 // The clauses of a graph's conjunctions and of the assumptions.
 ghost use Rattle.std.specs.Prelude.{◌≡◌, List, [], ◌∷◌, ℕ, ◌+◌, ◌*◌, ◌<◌, ◌≤◌, length, drop, get_or, take};
 ghost use Rattle.words.specs.Layout.{POOL};
-ghost use Rattle.model.specs.Literal.{node};
 ghost use Rattle.model.specs.Sat as Sat;
 ghost use Rattle.model.specs.Aig.{Node, And};
-ghost use Rattle.clauses.specs.State.{solver_of, scored, SoundStore, Pooled, AddedList, Room, Roomy, Grows, GateOf, Gates, Holds, node_in, encoded_of};
+ghost use Rattle.clauses.specs.State.{solver_of, scored, SoundStore, Pooled, AddedList, Room, Roomy, Sorted, Grows, GateOf, Gates, Holds, node_in, encoded_of, numbers};
 
 use crate::add::add_clause;
 use crate::state::{Encoding, Store};
@@ -20,49 +19,21 @@ pub fn push_literal(words: &mut [u32], store: Store, t: Trail, count: usize, l: 
     stash(words, LITERALS, POOL, store.literals + count, l.0);
 }
 
-// A clause of one literal.
-fn add_one(words: &mut [u32], scores: &mut [f64], store: Store, t: Trail, a: Literal) -> Store
-    requires { Room store t words.old scores.old 1 × (a.0 < t.variables * 2) }
-    ensures { AddedList store t words.old scores.old (a.0 ∷ []) result words.new scores.new }
-{
-    push_literal(words, store, t, 0, a);
-    add_clause(words, scores, store, t, 1)
-}
-
-// A clause of two literals of ascending variables.
-fn add_two(
+// A clause of literals of ascending variables.
+fn add_literals(
     words: &mut [u32],
     scores: &mut [f64],
     store: Store,
     t: Trail,
-    a: Literal,
-    b: Literal,
+    literals: &[Literal],
 ) -> Store
-    requires { Room store t words.old scores.old 2 × (node a.0 < node b.0) × (b.0 < t.variables * 2) }
-    ensures { AddedList store t words.old scores.old (a.0 ∷ b.0 ∷ []) result words.new scores.new }
+    requires { Room store t words.old scores.old (length literals.now) × Sorted (t.variables * 2) (numbers literals.now) }
+    ensures { AddedList store t words.old scores.old (numbers literals.now) result words.new scores.new }
 {
-    push_literal(words, store, t, 0, a);
-    push_literal(words, store, t, 1, b);
-    add_clause(words, scores, store, t, 2)
-}
-
-// A clause of three literals of ascending variables.
-fn add_three(
-    words: &mut [u32],
-    scores: &mut [f64],
-    store: Store,
-    t: Trail,
-    a: Literal,
-    b: Literal,
-    c: Literal,
-) -> Store
-    requires { Room store t words.old scores.old 3 × (node a.0 < node b.0) × (node b.0 < node c.0) × (c.0 < t.variables * 2) }
-    ensures { AddedList store t words.old scores.old (a.0 ∷ b.0 ∷ c.0 ∷ []) result words.new scores.new }
-{
-    push_literal(words, store, t, 0, a);
-    push_literal(words, store, t, 1, b);
-    push_literal(words, store, t, 2, c);
-    add_clause(words, scores, store, t, 3)
+    for (i, &l) in literals.iter().enumerate() {
+        push_literal(words, store, t, i, l);
+    }
+    add_clause(words, scores, store, t, literals.len())
 }
 
 // The three clauses of a conjunction whose literal is `out`.
@@ -80,9 +51,9 @@ fn add_and(
         × ((s : Sat.Solver) → solver_of (scored s t.variables scores.new) result t words.new ≡ Sat.add_node (solver_of (scored s t.variables scores.old) store t words.old) out.0 (And lhs.0 rhs.0)) }
 {
     let not_out = out.negate();
-    let first = add_two(words, scores, store, t, lhs, not_out);
-    let second = add_two(words, scores, first, t, rhs, not_out);
-    add_three(words, scores, second, t, lhs.negate(), rhs.negate(), out)
+    let first = add_literals(words, scores, store, t, &[lhs, not_out]);
+    let second = add_literals(words, scores, first, t, &[rhs, not_out]);
+    add_literals(words, scores, second, t, &[lhs.negate(), rhs.negate(), out])
 }
 
 // The clauses of node i of the graph; a variable has none.
@@ -92,7 +63,7 @@ fn add_node(words: &mut [u32], scores: &mut [f64], store: Store, t: Trail, i: us
         × ((s : Sat.Solver) → solver_of (scored s t.variables scores.new) result t words.new ≡ Sat.add_node (solver_of (scored s t.variables scores.old) store t words.old) (i * 2) (node_in words.old i)) }
 {
     let rhs = Literal(fetch(words, GRAPH_RHS, SMALL, i));
-    if rhs.0 == 0 {
+    if rhs == Literal::FALSE {
         return store;
     }
     let lhs = Literal(fetch(words, GRAPH_LHS, SMALL, i));
@@ -107,10 +78,8 @@ pub fn add_nodes(words: &mut [u32], scores: &mut [f64], start: Store, t: Trail) 
         → solver_of (scored s t.variables scores.new) result t words.new ≡ Sat.add_nodes (solver_of (scored s t.variables scores.old) start t words.old) 1 (drop 1 g)) }
 {
     let mut store = start;
-    let mut i: usize = 1;
-    while i < t.variables {
+    for i in 1..t.variables {
         store = add_node(words, scores, store, t, i);
-        i += 1;
     }
     store
 }
@@ -127,20 +96,16 @@ fn add_assumption(
     ensures { Grows e.store t words.old scores.old 1 1 result.store words.new scores.new
         × ((s : Sat.Solver) → encoded_of s result t words.new scores.new ≡ Sat.add_aig_clause (encoded_of s e t words.old scores.old) (l.0 ∷ [])) }
 {
-    let store = e.store;
-    if l.0 == Literal::FALSE.0 {
-        return Encoding {
-            store,
+    match l {
+        Literal::FALSE => Encoding {
             inconsistent: true,
-        };
-    }
-    if l.0 == Literal::TRUE.0 {
-        return e;
-    }
-    let next = add_one(words, scores, store, t, l);
-    Encoding {
-        store: next,
-        inconsistent: e.inconsistent,
+            ..e
+        },
+        Literal::TRUE => e,
+        _ => Encoding {
+            store: add_literals(words, scores, e.store, t, &[l]),
+            ..e
+        },
     }
 }
 
@@ -158,10 +123,8 @@ pub fn add_assumptions(
         × ((s : Sat.Solver) → encoded_of s result t words.new scores.new ≡ Sat.add_assumptions (encoded_of s start t words.old scores.old) (take count literals.now)) }
 {
     let mut e = start;
-    let mut i: usize = 0;
-    while i < count {
-        e = add_assumption(words, scores, e, t, Literal(literals[i]));
-        i += 1;
+    for &literal in &literals[..count] {
+        e = add_assumption(words, scores, e, t, Literal(literal));
     }
     e
 }

@@ -18,13 +18,6 @@ pub struct Clause {
     pub second: Literal,
 }
 
-// A literal of a clause that can be watched instead of a false one, or none.
-#[derive(Clone, Copy)]
-pub enum Spare {
-    Found(Literal),
-    Nothing,
-}
-
 // What is encoded so far: the clauses, and whether one without a literal was asked for.
 #[derive(Clone, Copy)]
 pub struct Encoding {

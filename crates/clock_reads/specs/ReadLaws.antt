@@ -1,9 +1,9 @@
 -- What one node or register marks, and the walks over them: clocks, and what is read. Assumes nothing.
-use Rattle.std.specs.Prelude.{ℕ, zero, suc, ◌+◌, ◌≤◌, ◌<◌, ◌≡◌, refl, Bool, true, false, ◌||◌, List, [], ◌∷◌, get_or, take, drop, set, eqb}
+use Rattle.std.specs.Prelude.{ℕ, zero, suc, ◌+◌, ◌≤◌, ◌<◌, ◌≡◌, refl, Bool, true, false, ◌||◌, List, [], ◌∷◌, length, get_or, take, drop, set, eqb}
 use Rattle.std.proofs.Math.Path.{sym}
-use Rattle.std.proofs.Common.{ap, ◌∙◌}
+use Rattle.std.proofs.Common.{ap, ◌∙◌, add-one, drop-cons}
+use Rattle.std.proofs.Math.Seq.{drop-length}
 use Rattle.std.proofs.Math.Bool.{or-false}
-use native.Mathlib.Omega.{arith}
 use Rattle.facts.specs.Numbers.{eqb_swap}
 use Rattle.model.specs.Lists.{member}
 use Rattle.model.specs.Record.{inputs_per_kind}
@@ -20,32 +20,17 @@ use Rattle.clock_reads.specs.Marks.{with_marks}
 use Rattle.clock_reads.specs.Reads.{signal_numbers, cell_numbers}
 use Rattle.clock_reads.specs.MarkLaws.{marks_append}
 
--- ---- the inputs of a node marked, by their number
+-- ---- the inputs of a node marked one by one
 
-module _ (table : List Bool) (c x y z : ℕ) where
-  -- none
-  pub inputs-none : c < 1 → table ≡ with_marks (take c (x ∷ y ∷ z ∷ [])) table
-  unfolding with_marks
-  inputs-none h = let e : c ≡ 0 = omega arith in rw e
-
-  -- one
-  pub inputs-one : c ≡ 1 → set table x true ≡ with_marks (take c (x ∷ y ∷ z ∷ [])) table
-  unfolding with_marks
-  inputs-one e = rw e
-
-  -- two
-  pub inputs-two : c ≡ 2 → set (set table x true) y true ≡ with_marks (take c (x ∷ y ∷ z ∷ [])) table
-  unfolding with_marks
-  inputs-two e = rw e
-
--- three
-pub inputs-three : (table : List Bool) (c x y z : ℕ) → 3 ≤ c → set (set (set table x true) y true) z true ≡ with_marks (take c (x ∷ y ∷ z ∷ [])) table
+-- one more of the numbers that are left
+pub inputs-next : (ns : List ℕ) (table : List Bool) (i : ℕ) → i < length ns → with_marks (drop (i + 1) ns) (set table (get_or ns i 0) true) ≡ with_marks (drop i ns) table
 unfolding with_marks
-inputs-three table zero x y z h = absurd (omega arith)
-inputs-three table (suc zero) x y z h = absurd (omega arith)
-inputs-three table (suc (suc zero)) x y z h = absurd (omega arith)
-inputs-three table (suc (suc (suc zero))) x y z h = refl
-inputs-three table (suc (suc (suc (suc c)))) x y z h = refl
+inputs-next ns table i h = rw (drop-cons ns i 0 h, add-one)
+
+-- none is left
+pub inputs-marked : (ns : List ℕ) (table : List Bool) (i : ℕ) → i ≡ length ns → table ≡ with_marks (drop i ns) table
+unfolding with_marks
+inputs-marked ns table i e = rw (e, drop-length ns)
 
 -- ---- what a register reads as data
 

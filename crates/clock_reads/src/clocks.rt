@@ -13,12 +13,8 @@ pub fn clocks(netlist: Netlist) -> [bool; 1024]
     ensures { Marked (λ s k. Validate.clocks k (decoded s netlist).registers) result }
 {
     let mut table = [false; 1024];
-    let total = netlist.register_count;
-    let mut i: usize = 0;
-    while i < total {
-        let cell = netlist.registers[i];
+    for cell in &netlist.registers[..netlist.register_count] {
         mark(&mut table, cell.clock);
-        i += 1;
     }
     table
 }

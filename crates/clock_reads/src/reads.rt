@@ -15,19 +15,11 @@ use struo_ir::netlist::{Netlist, Node, RegisterCell};
 fn mark_inputs(table: &mut [bool], node: Node)
     ensures { table.new ≡ with_marks (take (inputs_per_kind node.kind) (node.first ∷ node.second ∷ node.third ∷ [])) table.old }
 {
-    let count = inputs_per_kind(node.kind);
-    if count < 1 {
-        return;
+    let numbers = [node.first, node.second, node.third];
+    let count = usize::from(inputs_per_kind(node.kind)).min(3);
+    for &number in &numbers[..count] {
+        mark(table, number);
     }
-    mark(table, node.first);
-    if count < 2 {
-        return;
-    }
-    mark(table, node.second);
-    if count < 3 {
-        return;
-    }
-    mark(table, node.third);
 }
 
 // Marks the signal of an enable or a reset, where its code has one.
@@ -55,12 +47,8 @@ fn node_reads(netlist: Netlist) -> [bool; 1024]
     ensures { Marked (λ s k. nodes_read k (decoded s netlist).nodes) result }
 {
     let mut table = [false; 1024];
-    let count = netlist.node_count;
-    let mut i: usize = 0;
-    while i < count {
-        let node = netlist.nodes[i];
-        mark_inputs(&mut table, node);
-        i += 1;
+    for node in &netlist.nodes[..netlist.node_count] {
+        mark_inputs(&mut table, *node);
     }
     table
 }
@@ -71,12 +59,8 @@ pub fn reads(netlist: Netlist) -> [bool; 1024]
     ensures { Marked (λ s k. nodes_read k (decoded s netlist).nodes || registers_read k (decoded s netlist).registers) result }
 {
     let mut table = node_reads(netlist);
-    let total = netlist.register_count;
-    let mut i: usize = 0;
-    while i < total {
-        let cell = netlist.registers[i];
-        mark_data(&mut table, cell);
-        i += 1;
+    for cell in &netlist.registers[..netlist.register_count] {
+        mark_data(&mut table, *cell);
     }
     table
 }

@@ -21,15 +21,15 @@ use Rattle.queries.specs.declared.problem.Outcome.{Outcome}
 use Rattle.depths.specs.Most.{MostOf}
 use Rattle.depths.specs.Deciding.{Agrees}
 use Rattle.depths.specs.Depths.{Asks0, Deepens, decided_stays}
-use Rattle.depths.specs.declared.depth.Decision.{Decision}
-use Rattle.depths.specs.declared.depth.Decision.TheVariants as Decisions
+use Rattle.std.specs.declared.ops.ControlFlow.{ControlFlow}
+use Rattle.std.specs.declared.ops.ControlFlow.TheVariants.{Continue, Break}
 
 -- what the most learned is before the first query
 abbrev pub none_asked : Bool → Numbers.Asked
 none_asked earliest = record { depth = 1; query = first_query earliest; learned = 0 }
 
 -- From w to w' what comes before query 1 of depth 1 was asked, and what is decided is the model's.
-pub record Begins (x : Problem) (earliest : Bool) (limit D : ℕ) (w t : List ℕ) (r : Decision) (w' t' : List ℕ) : Type 0 where
+pub record Begins (x : Problem) (earliest : Bool) (limit D : ℕ) (w t : List ℕ) (r : ControlFlow Outcome Asked) (w' t' : List ℕ) : Type 0 where
   pub is : (p : Model.Problem) → StandsFor x w p → Agrees (none_asked earliest) r t t' (before_query1 earliest limit p D)
   pub kept : Untouched w w'
 
@@ -42,7 +42,7 @@ asked_0 x limit D w s t a =
     (queryable_at x limit D 0 w s t a (omega arith), omega (arith, a.trace_long, less))
 
 -- in the mode of the earliest cycle it is asked
-pub begins_0 : (x : Problem) (earliest : Bool) (limit D : ℕ) (w t : List ℕ) (m : Asked) (r : Decision) (w' t' : List ℕ) → earliest ≡ true → 1 ≤ D → asked_of m ≡ none_asked earliest
+pub begins_0 : (x : Problem) (earliest : Bool) (limit D : ℕ) (w t : List ℕ) (m : Asked) (r : ControlFlow Outcome Asked) (w' t' : List ℕ) → earliest ≡ true → 1 ≤ D → asked_of m ≡ none_asked earliest
     → Asks0 x limit w t m r w' t' → Begins x earliest limit D w t r w' t'
 begins_0 x earliest limit D w t m r w' t' mode low h b =
     record { is = λ p q. subst (Agrees (none_asked earliest) r t t') (sym (asked p D low)) (b.is p q (none_asked earliest) h); kept = b.kept }
@@ -55,9 +55,9 @@ begins_0 x earliest limit D w t m r w' t' mode low h b =
     asked p n z = ap (λ (e : Bool). before_query1 e limit p n) mode ∙ to_depth_lem p n z
 
 -- without it nothing is
-pub begins-none : (x : Problem) (earliest : Bool) (limit D : ℕ) (w t : List ℕ) (m : Asked) → earliest ≡ false → asked_of m ≡ none_asked earliest → Begins x earliest limit D w t (Decisions.Undecided m) w t
+pub begins-none : (x : Problem) (earliest : Bool) (limit D : ℕ) (w t : List ℕ) (m : Asked) → earliest ≡ false → asked_of m ≡ none_asked earliest → Begins x earliest limit D w t (Continue m) w t
 begins-none x earliest limit D w t m mode h =
-    record { is = λ p q. subst (Agrees (none_asked earliest) (Decisions.Undecided m) t t) (sym (asked p)) (refl, unfold largest_from in h); kept = untouched_none w }
+    record { is = λ p q. subst (Agrees (none_asked earliest) (Continue m) t t) (sym (asked p)) (refl, unfold largest_from in h); kept = untouched_none w }
   where
     asked : (p : Model.Problem) → before_query1 earliest limit p D ≡ undecided []
     asked p = unfold before_query1 in ap (λ (e : Bool). before_query1 e limit p D) mode
@@ -99,19 +99,19 @@ Given earliest limit D t o t' p =
 
 -- an outcome that agrees with the model's
 given : (earliest : Bool) (limit D : ℕ) (t : List ℕ) (o : Outcome) (t' : List ℕ) (p : Model.Problem) (u : Model.Outcome) → 1 ≤ D → u ≡ prove_sequential_equivalence earliest limit p D
-    → Agrees (none_asked earliest) (Decisions.Decided o) t t' (decided u.verdict u.asked) → Given earliest limit D t o t' p
+    → Agrees (none_asked earliest) (Break o) t t' (decided u.verdict u.asked) → Given earliest limit D t o t' p
 given earliest limit D t o t' p u low e g = (
   λ y. g.0 y ∙ ap (λ (z : Model.Outcome). verdict_answer z.verdict y) e,
   g.1 ∙ ap (λ (z : Model.Outcome). verdict_trace z.verdict t) e,
   most_of_all earliest limit p D u.asked o.most low (ap (λ (z : Model.Outcome). z.asked) (sym e)) g.2,
 )
 
-module _ (x : Problem) (earliest : Bool) (limit D : ℕ) (w t : List ℕ) (r : Decision) (w₁ t₁ : List ℕ) (low : 1 ≤ D) (b : Begins x earliest limit D w t r w₁ t₁) where
+module _ (x : Problem) (earliest : Bool) (limit D : ℕ) (w t : List ℕ) (r : ControlFlow Outcome Asked) (w₁ t₁ : List ℕ) (low : 1 ≤ D) (b : Begins x earliest limit D w t r w₁ t₁) where
   -- it decided
-  pub decided-first : (o : Outcome) → r ≡ Decisions.Decided o → Proves x earliest limit D w t o t₁
+  pub decided-first : (o : Outcome) → r ≡ Break o → Proves x earliest limit D w t o t₁
   decided-first o e = record { answer = λ p q. (all p q).0; traced = λ p q. (all p q).1; most = λ p q. (all p q).2 }
     where
-      by : (p : Model.Problem) (z : Proving) → before_query1 earliest limit p D ≡ z → Agrees (none_asked earliest) (Decisions.Decided o) t t₁ z → Given earliest limit D t o t₁ p
+      by : (p : Model.Problem) (z : Proving) → before_query1 earliest limit p D ≡ z → Agrees (none_asked earliest) (Break o) t t₁ z → Given earliest limit D t o t₁ p
       by p (undecided asked) h g = absurd g
       by p (decided v asked) h g =
           given earliest limit D t o t₁ p (record { verdict = v; asked = asked }) low
@@ -121,14 +121,14 @@ module _ (x : Problem) (earliest : Bool) (limit D : ℕ) (w t : List ℕ) (r : D
       all p q = by p (before_query1 earliest limit p D) refl (rw e at (b.is p q))
 
   -- it did not: the depths decide
-  pub deepened : (m : Asked) → r ≡ Decisions.Undecided m → ((p : Model.Problem) → StandsFor x w p → StandsFor x w₁ p) → (o : Outcome) (t₂ : List ℕ) → Deepens x limit D w₁ t₁ m o t₂ → Proves x earliest limit D w t o t₂
+  pub deepened : (m : Asked) → r ≡ Continue m → ((p : Model.Problem) → StandsFor x w p → StandsFor x w₁ p) → (o : Outcome) (t₂ : List ℕ) → Deepens x limit D w₁ t₁ m o t₂ → Proves x earliest limit D w t o t₂
   deepened m e here o t₂ c = record { answer = λ p q. (all p q).0; traced = λ p q. (all p q).1; most = λ p q. (all p q).2 }
     where
-      by : (p : Model.Problem) → StandsFor x w p → (z : Proving) → before_query1 earliest limit p D ≡ z → Agrees (none_asked earliest) (Decisions.Undecided m) t t₁ z → Given earliest limit D t o t₂ p
+      by : (p : Model.Problem) → StandsFor x w p → (z : Proving) → before_query1 earliest limit p D ≡ z → Agrees (none_asked earliest) (Continue m) t t₁ z → Given earliest limit D t o t₂ p
       by p q (decided v asked) h g = absurd g
       by p q (undecided asked) h g =
           given earliest limit D t o t₂ p (depths limit p D 0 (undecided asked)) low (unfold prove_sequential_equivalence in ap (depths limit p D 0) (sym h))
-          (subst (λ (l : List ℕ). Agrees (none_asked earliest) (Decisions.Decided o) l t₂ (decided (depths limit p D 0 (undecided asked)).verdict (depths limit p D 0 (undecided asked)).asked)) g.0
+          (subst (λ (l : List ℕ). Agrees (none_asked earliest) (Break o) l t₂ (decided (depths limit p D 0 (undecided asked)).verdict (depths limit p D 0 (undecided asked)).asked)) g.0
           (c.is p (here p q) (none_asked earliest) asked g.1))
 
       all : (p : Model.Problem) → StandsFor x w p → Given earliest limit D t o t₂ p

@@ -27,25 +27,25 @@ use Rattle.queries.specs.declared.problem.Problem.{Problem}
 use Rattle.queries.specs.declared.problem.Outcome.{Outcome}
 use Rattle.queries.specs.declared.problem.Verdict.TheVariants as Verdicts
 use Rattle.queries.specs.declared.query.Found.{Found}
-use Rattle.depths.specs.declared.depth.Decision.{Decision}
-use Rattle.depths.specs.declared.depth.Decision.TheVariants as Decisions
+use Rattle.std.specs.declared.ops.ControlFlow.{ControlFlow}
+use Rattle.std.specs.declared.ops.ControlFlow.TheVariants.{Continue, Break}
 
 -- From w to w' the queries of depth d were asked, and what is decided is the model's, whatever was asked before, of which m learned most.
-pub record Passes (x : Problem) (limit d : ℕ) (w t : List ℕ) (m : Asked) (r : Decision) (w' t' : List ℕ) : Type 0 where
+pub record Passes (x : Problem) (limit d : ℕ) (w t : List ℕ) (m : Asked) (r : ControlFlow Outcome Asked) (w' t' : List ℕ) : Type 0 where
   pub is : (p : Model.Problem) → StandsFor x w p → (first : Numbers.Asked) (earlier : List Numbers.Asked) → MostOf first earlier m → Agrees first r t t' (at_depth limit p d earlier)
   pub kept : Untouched w w'
 
 module _ (x : Problem) (limit d : ℕ) (w : List ℕ) (s : List Float) (a : Queryable x limit d w s) (t : List ℕ) (r : Found) (w₁ : List ℕ) (s₁ : List Float) (t₁ : List ℕ)
     (f : Finds x limit d w t r w₁ s₁ t₁) (m now : Asked) (c : Counted d 1 r.answer m now) (k : ℕ) where
   -- query 1 found a counterexample
-  pub differs_1 : r.answer ≡ Answers.Model k → Passes x limit d w t m (Decisions.Decided (record { verdict = Verdicts.NotEquivalent d r.mismatch; most = now })) w₁ t₁
+  pub differs_1 : r.answer ≡ Answers.Model k → Passes x limit d w t m (Break (record { verdict = Verdicts.NotEquivalent d r.mismatch; most = now })) w₁ t₁
   unfolding at_depth query1 after_query1 not_equivalent_at answer_of_verdict verdict_answer verdict_trace
   differs_1 e =
       record {
         is = λ p q first earlier o.
             let cs = (base_counterexample p d).comparisons in
             let g : FoundBy (Answers.Model k) r.mismatch t t₁ cs (Model.ask limit (base_counterexample p d)) = rw e at (f.is p q) in
-            subst (λ (z : Sat.Answer). Agrees first (Decisions.Decided (record { verdict = Verdicts.NotEquivalent d r.mismatch; most = now })) t t₁ (after_query1 limit p d earlier cs z)) (sym g.1) (
+            subst (λ (z : Sat.Answer). Agrees first (Break (record { verdict = Verdicts.NotEquivalent d r.mismatch; most = now })) t t₁ (after_query1 limit p d earlier cs z)) (sym g.1) (
               λ y. ap (λ (n : ℕ). accepted_answer (status_number Numbers.NotEquivalent) d n 0 y) g.2,
               g.3 ∙ ap (λ (n : ℕ). overwrite (trace_bytes g.0 cs n) t) g.2,
               counted-more d 1 r.answer _ m now c e first earlier o,
@@ -54,20 +54,20 @@ module _ (x : Problem) (limit d : ℕ) (w : List ℕ) (s : List Float) (a : Quer
       }
 
   -- its search gave up
-  pub gave_up_1 : r.answer ≡ Answers.GaveUp k → Passes x limit d w t m (Decisions.Decided (record { verdict = Verdicts.GaveUp d 1; most = now })) w₁ t₁
+  pub gave_up_1 : r.answer ≡ Answers.GaveUp k → Passes x limit d w t m (Break (record { verdict = Verdicts.GaveUp d 1; most = now })) w₁ t₁
   unfolding at_depth query1 after_query1 answer_of_verdict verdict_answer verdict_trace
   gave_up_1 e =
       record {
         is = λ p q first earlier o.
             let cs = (base_counterexample p d).comparisons in
             let g : FoundBy (Answers.GaveUp k) r.mismatch t t₁ cs (Model.ask limit (base_counterexample p d)) = rw e at (f.is p q) in
-            subst (λ (z : Sat.Answer). Agrees first (Decisions.Decided (record { verdict = Verdicts.GaveUp d 1; most = now })) t t₁ (after_query1 limit p d earlier cs z)) (sym g.0)
+            subst (λ (z : Sat.Answer). Agrees first (Break (record { verdict = Verdicts.GaveUp d 1; most = now })) t t₁ (after_query1 limit p d earlier cs z)) (sym g.0)
             (λ y. refl, g.1, counted-more d 1 r.answer _ m now c e first earlier o);
         kept = f.kept;
       }
 
   -- there is none: query 2 follows
-  pub alike_1 : r.answer ≡ Answers.NoModel k → (z : Decision) (w₂ : List ℕ) → Decides x (goal2 limit d) w₁ now z w₂ → Passes x limit d w t m z w₂ t₁
+  pub alike_1 : r.answer ≡ Answers.NoModel k → (z : ControlFlow Outcome Asked) (w₂ : List ℕ) → Decides x (goal2 limit d) w₁ now z w₂ → Passes x limit d w t m z w₂ t₁
   unfolding at_depth query1 after_query1
   alike_1 e z w₂ b =
       record {
@@ -83,7 +83,7 @@ module _ (x : Problem) (limit d : ℕ) (w : List ℕ) (s : List Float) (a : Quer
 -- ---- query 0
 
 -- From w to w' query 0 was asked, and what is decided is the model's; m learned most before it.
-pub record Asks0 (x : Problem) (limit : ℕ) (w t : List ℕ) (m : Asked) (r : Decision) (w' t' : List ℕ) : Type 0 where
+pub record Asks0 (x : Problem) (limit : ℕ) (w t : List ℕ) (m : Asked) (r : ControlFlow Outcome Asked) (w' t' : List ℕ) : Type 0 where
   pub is : (p : Model.Problem) → StandsFor x w p → (first : Numbers.Asked) → asked_of m ≡ first → Agrees first r t t' (query0 limit (base_counterexample p 0))
   pub kept : Untouched w w'
 
@@ -95,14 +95,14 @@ module _ (x : Problem) (limit : ℕ) (w t : List ℕ) (r : Found) (w₁ : List �
   counted_0 u e first h = counted-more 1 0 r.answer u m now c e first [] h
 
   -- it found a counterexample
-  pub differs_0 : r.answer ≡ Answers.Model k → Asks0 x limit w t m (Decisions.Decided (record { verdict = Verdicts.NotEquivalent 1 r.mismatch; most = now })) w₁ t₁
+  pub differs_0 : r.answer ≡ Answers.Model k → Asks0 x limit w t m (Break (record { verdict = Verdicts.NotEquivalent 1 r.mismatch; most = now })) w₁ t₁
   unfolding query0 after_query0 not_equivalent_at answer_of_verdict verdict_answer verdict_trace
   differs_0 e =
       record {
         is = λ p q first o.
             let cs = (base_counterexample p 0).comparisons in
             let g : FoundBy (Answers.Model k) r.mismatch t t₁ cs (Model.ask limit (base_counterexample p 0)) = rw e at (f.is p q) in
-            subst (λ (z : Sat.Answer). Agrees first (Decisions.Decided (record { verdict = Verdicts.NotEquivalent 1 r.mismatch; most = now })) t t₁ (after_query0 cs z)) (sym g.1) (
+            subst (λ (z : Sat.Answer). Agrees first (Break (record { verdict = Verdicts.NotEquivalent 1 r.mismatch; most = now })) t t₁ (after_query0 cs z)) (sym g.1) (
               λ y. ap (λ (n : ℕ). accepted_answer (status_number Numbers.NotEquivalent) 1 n 0 y) g.2,
               g.3 ∙ ap (λ (n : ℕ). overwrite (trace_bytes g.0 cs n) t) g.2,
               counted_0 _ e first o,
@@ -111,26 +111,26 @@ module _ (x : Problem) (limit : ℕ) (w t : List ℕ) (r : Found) (w₁ : List �
       }
 
   -- there is none: all is left to the depths
-  pub alike_0 : r.answer ≡ Answers.NoModel k → Asks0 x limit w t m (Decisions.Undecided now) w₁ t₁
+  pub alike_0 : r.answer ≡ Answers.NoModel k → Asks0 x limit w t m (Continue now) w₁ t₁
   unfolding query0 after_query0
   alike_0 e =
       record {
         is = λ p q first o.
             let cs = (base_counterexample p 0).comparisons in
             let g : FoundBy (Answers.NoModel k) r.mismatch t t₁ cs (Model.ask limit (base_counterexample p 0)) = rw e at (f.is p q) in
-            subst (λ (z : Sat.Answer). Agrees first (Decisions.Undecided now) t t₁ (after_query0 cs z)) (sym g.0) (g.1, counted_0 _ e first o);
+            subst (λ (z : Sat.Answer). Agrees first (Continue now) t t₁ (after_query0 cs z)) (sym g.0) (g.1, counted_0 _ e first o);
         kept = f.kept;
       }
 
   -- its search gave up
-  pub gave_up_0 : r.answer ≡ Answers.GaveUp k → Asks0 x limit w t m (Decisions.Decided (record { verdict = Verdicts.GaveUp 1 0; most = now })) w₁ t₁
+  pub gave_up_0 : r.answer ≡ Answers.GaveUp k → Asks0 x limit w t m (Break (record { verdict = Verdicts.GaveUp 1 0; most = now })) w₁ t₁
   unfolding query0 after_query0 answer_of_verdict verdict_answer verdict_trace
   gave_up_0 e =
       record {
         is = λ p q first o.
             let cs = (base_counterexample p 0).comparisons in
             let g : FoundBy (Answers.GaveUp k) r.mismatch t t₁ cs (Model.ask limit (base_counterexample p 0)) = rw e at (f.is p q) in
-            subst (λ (z : Sat.Answer). Agrees first (Decisions.Decided (record { verdict = Verdicts.GaveUp 1 0; most = now })) t t₁ (after_query0 cs z)) (sym g.0) (λ y. refl, g.1, counted_0 _ e first o);
+            subst (λ (z : Sat.Answer). Agrees first (Break (record { verdict = Verdicts.GaveUp 1 0; most = now })) t t₁ (after_query0 cs z)) (sym g.0) (λ y. refl, g.1, counted_0 _ e first o);
         kept = f.kept;
       }
 
@@ -139,7 +139,7 @@ module _ (x : Problem) (limit : ℕ) (w t : List ℕ) (r : Found) (w₁ : List �
 -- The outcome, the trace after it and the query that learned most are those of depths 1 to D, whatever was asked before, of which m learned most.
 pub record Deepens (x : Problem) (limit D : ℕ) (w t : List ℕ) (m : Asked) (r : Outcome) (t' : List ℕ) : Type 0 where
   pub is : (p : Model.Problem) → StandsFor x w p → (first : Numbers.Asked) (before : List Numbers.Asked) → MostOf first before m
-      → Agrees first (Decisions.Decided r) t t' (decided (depths limit p D 0 (undecided before)).verdict (depths limit p D 0 (undecided before)).asked)
+      → Agrees first (Break r) t t' (decided (depths limit p D 0 (undecided before)).verdict (depths limit p D 0 (undecided before)).asked)
 
 -- After depth d of D without a verdict: both sides are kept, the trace is as it was, m learned most of the queries asked, and the depths that are left give what all give.
 pub record Left (x : Problem) (limit D : ℕ) (w₀ t₀ : List ℕ) (m₀ : Asked) (d : ℕ) (w t : List ℕ) (m : Asked) : Type 0 where
@@ -181,10 +181,10 @@ module _ (x : Problem) (limit D : ℕ) (w₀ : List ℕ) (s₀ : List Float) (t�
             let outcome : record { verdict = Model.Inconclusive D; asked = y.0 } ≡ depths limit p D 0 (undecided before) =
             ap (λ (n : ℕ). record { verdict = Model.Inconclusive n; asked = y.0 }) (sym e) ∙ rw z at y.1 in
             unfold depths in
-            subst (λ (u : Model.Outcome). Agrees first (Decisions.Decided (record { verdict = Verdicts.Inconclusive D; most = m })) t₀ t (decided u.verdict u.asked)) outcome (λ i. refl, l.trace, y.2);
+            subst (λ (u : Model.Outcome). Agrees first (Break (record { verdict = Verdicts.Inconclusive D; most = m })) t₀ t (decided u.verdict u.asked)) outcome (λ i. refl, l.trace, y.2);
       }
 
-  module _ (h : d < D) (r : Decision) (w' t' : List ℕ) (b : Passes x limit (d + 1) w t m r w' t') where
+  module _ (h : d < D) (r : ControlFlow Outcome Asked) (w' t' : List ℕ) (b : Passes x limit (d + 1) w t m r w' t') where
     module _ (p : Model.Problem) (q : StandsFor x w₀ p) (first : Numbers.Asked) (before : List Numbers.Asked) (o : MostOf first before m₀) where
       -- the queries asked so far
       abbrev so_far : List Numbers.Asked
@@ -202,21 +202,21 @@ module _ (x : Problem) (limit D : ℕ) (w₀ : List ℕ) (s₀ : List Float) (t�
           let z : depths limit p (suc (D - (d + 1))) d (undecided so_far) ≡ depths limit p D 0 (undecided before) = unfold depths in rw e at (l.is p q first before o).1 in
           rw add-one (rw add-one at z)
 
-      left_by : (now : Asked) (z : Proving) → at_depth limit p (d + 1) so_far ≡ z → Agrees first (Decisions.Undecided now) t t' z
+      left_by : (now : Asked) (z : Proving) → at_depth limit p (d + 1) so_far ≡ z → Agrees first (Continue now) t t' z
           → (t' ≡ t) × (asked : List Numbers.Asked) × (depths limit p (D - (d + 1)) (d + 1) (undecided asked) ≡ depths limit p D 0 (undecided before)) × MostOf first asked now
       left_by now (undecided asked) e g = (g.0, asked, ap (λ (y : Proving). depths limit p (D - (d + 1)) (d + 1) y) (sym e) ∙ one_more, g.1)
       left_by now (decided v asked) e g = absurd g
 
-      stopped_by : (u : Outcome) (z : Proving) → at_depth limit p (d + 1) so_far ≡ z → Agrees first (Decisions.Decided u) t t' z
-          → Agrees first (Decisions.Decided u) t₀ t' (decided (depths limit p D 0 (undecided before)).verdict (depths limit p D 0 (undecided before)).asked)
+      stopped_by : (u : Outcome) (z : Proving) → at_depth limit p (d + 1) so_far ≡ z → Agrees first (Break u) t t' z
+          → Agrees first (Break u) t₀ t' (decided (depths limit p D 0 (undecided before)).verdict (depths limit p D 0 (undecided before)).asked)
       stopped_by u (undecided asked) e g = absurd g
       stopped_by u (decided v asked) e g =
           let same : record { verdict = v; asked = asked } ≡ depths limit p D 0 (undecided before) =
           sym (decided_stays limit p (D - (d + 1)) (d + 1) v asked) ∙ ap (λ (y : Proving). depths limit p (D - (d + 1)) (d + 1) y) (sym e) ∙ one_more in
-          subst (λ (y : Model.Outcome). Agrees first (Decisions.Decided u) t₀ t' (decided y.verdict y.asked)) same (g.0, g.1 ∙ ap (verdict_trace v) l.trace, g.2)
+          subst (λ (y : Model.Outcome). Agrees first (Break u) t₀ t' (decided y.verdict y.asked)) same (g.0, g.1 ∙ ap (verdict_trace v) l.trace, g.2)
 
     -- the depth decided nothing
-    pub left-more : (now : Asked) → r ≡ Decisions.Undecided now → Left x limit D w₀ t₀ m₀ (d + 1) w' t' now
+    pub left-more : (now : Asked) → r ≡ Continue now → Left x limit D w₀ t₀ m₀ (d + 1) w' t' now
     unfolding largest_from
     left-more now e =
         let next : (p : Model.Problem) (q : StandsFor x w₀ p) (first : Numbers.Asked) (before : List Numbers.Asked) → MostOf first before m₀
@@ -229,5 +229,5 @@ module _ (x : Problem) (limit D : ℕ) (w₀ : List ℕ) (s₀ : List Float) (t�
         }
 
     -- it decided
-    pub stopped : (u : Outcome) → r ≡ Decisions.Decided u → Deepens x limit D w₀ t₀ m₀ u t'
+    pub stopped : (u : Outcome) → r ≡ Break u → Deepens x limit D w₀ t₀ m₀ u t'
     stopped u e = record { is = λ p q first before o. stopped_by p q first before o u (at_depth limit p (d + 1) (so_far p q first before o)) refl (rw e at (agrees p q first before o)) }

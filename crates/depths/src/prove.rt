@@ -3,34 +3,33 @@ ghost use Rattle.queries.specs.Problem.{Provable, Proves};
 ghost use Rattle.depths.specs.Depths.{Deepens};
 ghost use Rattle.depths.specs.Beginning.{Begins};
 
-use crate::depth::{Decision, at_depth, query_0};
+use crate::depth::{at_depth, query_0};
 use calls::answers::Asked;
 use calls::options::{Options, first_query};
 use queries::problem::{Outcome, Problem, Verdict};
+use std::ops::ControlFlow;
 
 // Depths 1 to the maximum asked for, each query under the limit asked for, after queries of which `first` learned most.
 fn deepen(
-    problem: Problem,
+    problem: &Problem,
     words: &mut [u32],
     scores: &mut [f64],
     trace: &mut [u8],
     options: Options,
     first: Asked,
 ) -> Outcome
-    requires { Provable problem options.limit options.depth words.old scores.old trace.old }
-    ensures { Deepens problem options.limit options.depth words.old trace.old first result trace.new }
+    requires { Provable problem.now options.limit options.depth words.old scores.old trace.old }
+    ensures { Deepens problem.now options.limit options.depth words.old trace.old first result trace.new }
 {
     let limit = options.limit as usize;
     let max_depth = options.depth as usize;
-    let mut depth: usize = 0;
     let mut most = first;
-    while depth < max_depth {
-        depth += 1;
+    for depth in 1..max_depth + 1 {
         match at_depth(problem, words, scores, trace, limit, depth, most) {
-            Decision::Undecided(now) => {
+            ControlFlow::Continue(now) => {
                 most = now;
             }
-            Decision::Decided(outcome) => {
+            ControlFlow::Break(outcome) => {
                 return outcome;
             }
         }
@@ -43,14 +42,14 @@ fn deepen(
 
 // Before query 1 of depth 1: query 0 in the mode of the earliest cycle, else nothing. The most learned begins at the first query, with no literal.
 fn before_query_1(
-    problem: Problem,
+    problem: &Problem,
     words: &mut [u32],
     scores: &mut [f64],
     trace: &mut [u8],
     options: Options,
-) -> Decision
-    requires { Provable problem options.limit options.depth words.old scores.old trace.old }
-    ensures { Begins problem options.earliest options.limit options.depth words.old trace.old result words.new trace.new }
+) -> ControlFlow<Outcome, Asked>
+    requires { Provable problem.now options.limit options.depth words.old scores.old trace.old }
+    ensures { Begins problem.now options.earliest options.limit options.depth words.old trace.old result words.new trace.new }
 {
     let earliest = options.earliest;
     let query = first_query(earliest);
@@ -63,25 +62,25 @@ fn before_query_1(
         let limit = options.limit as usize;
         query_0(problem, words, scores, trace, limit, first)
     } else {
-        Decision::Undecided(first)
+        ControlFlow::Continue(first)
     }
 }
 
 // The verdict after depths 1 to the maximum asked for, in the mode asked for, each query under the limit asked for, and the query that learned most; the
 // trace changes for NotEquivalent only.
 pub fn prove_sequential_equivalence(
-    problem: Problem,
+    problem: &Problem,
     words: &mut [u32],
     scores: &mut [f64],
     trace: &mut [u8],
     options: Options,
 ) -> Outcome
-    requires { Provable problem options.limit options.depth words.old scores.old trace.old }
-    ensures { Proves problem options.earliest options.limit options.depth words.old trace.old result trace.new }
+    requires { Provable problem.now options.limit options.depth words.old scores.old trace.old }
+    ensures { Proves problem.now options.earliest options.limit options.depth words.old trace.old result trace.new }
 {
     let begun = before_query_1(problem, words, scores, trace, options);
     match begun {
-        Decision::Undecided(most) => deepen(problem, words, scores, trace, options, most),
-        Decision::Decided(outcome) => outcome,
+        ControlFlow::Continue(most) => deepen(problem, words, scores, trace, options, most),
+        ControlFlow::Break(outcome) => outcome,
     }
 }

@@ -3,174 +3,109 @@
 
 pub mod record;
 
-use crate::record::{
-    Record, begun, clocked, gate, input, input_e, not, output, output_y, register, register_at,
-    registers, state, whole, zero,
-};
+use crate::record::{AND, Name, Record, XOR};
 
-// And and Xor as the record has them.
-const AND: u8 = 32;
+// The Input e, which stands behind clk and rst in the smaller designs.
+const E: Name = Name::Word(b"e");
 
-const XOR: u8 = 34;
+// The Output y.
+const Y: Name = Name::Word(b"y");
 
 // y = a And b; a holds, b takes e.
 pub fn conjunction() -> Record {
-    let ports = input_e(clocked(begun()));
-    let states = state(state(ports));
-    let nodes = output_y(gate(states, AND, 3, 4), 5);
-    let first = register(registers(nodes, 2), b'a', 3, 3);
-    whole(register(first, b'b', 4, 2))
+    let mut record = Record::new();
+    let e = record.input(E);
+    let a = record.state();
+    let b = record.state();
+    let both = record.gate(AND, a, b);
+    record.output(Y, both);
+    record.registers(2);
+    record.register(Name::Word(b"a"), a, a);
+    record.register(Name::Word(b"b"), b, e);
+    record.finish()
 }
 
 // y = 0 beside a holding register.
 pub fn holding() -> Record {
-    let ports = input_e(clocked(begun()));
-    let nodes = output_y(zero(state(ports)), 4);
-    whole(register(registers(nodes, 1), b'h', 3, 3))
+    let mut record = Record::new();
+    record.input(E);
+    let h = record.state();
+    let zero = record.zero();
+    record.output(Y, zero);
+    record.registers(1);
+    record.register(Name::Word(b"h"), h, h);
+    record.finish()
 }
 
-// The number before a node's.
-fn last(r: Record) -> u16 {
-    let n = r.nodes;
-    if 0 < n { n - 1 } else { 0 }
-}
-
-// The inputs i2 to i10.
-fn wide_inputs(r: Record) -> Record {
-    let mut next = r;
-    let mut k: u8 = 2;
-    while k < 11 {
-        next = input(next, b'i', k);
-        k += 1;
-    }
-    next
-}
-
-// So many states.
-fn states(r: Record, count: u8) -> Record {
-    let mut next = r;
-    let mut k: u8 = 0;
-    while k < count {
-        next = state(next);
-        k += 1;
-    }
-    next
-}
-
-// Ands of the last node and node 2 until there are so many nodes.
-fn ands(r: Record, nodes: u16) -> Record {
-    let mut next = r;
-    let mut k: u16 = r.nodes;
-    while k < nodes {
-        next = gate(next, AND, last(next), 2);
-        k += 1;
-    }
-    next
-}
-
-// The outputs o0 to o8 of a node.
-fn wide_outputs(r: Record, x: u16) -> Record {
-    let mut next = r;
-    let mut k: u8 = 0;
-    while k < 9 {
-        next = output(next, b'o', k, x);
-        k += 1;
-    }
-    next
-}
-
-// Registers r0 and on that hold, of the states from node 11 on.
-fn holding_registers(r: Record, count: u8) -> Record {
-    let mut next = registers(r, count as u16);
-    let mut k: u8 = 0;
-    while k < count {
-        let number = 11 + k as u16;
-        next = register_at(next, b'r', k, number, number);
-        k += 1;
-    }
-    next
-}
-
-// One side of the pair with 11 inputs and 9 outputs: 135 nodes and so many registers.
+// One side of the pair with 11 inputs and 9 outputs: 135 nodes and so many registers, which hold; their states are the nodes from 11 on.
 pub fn wide_side(count: u8) -> Record {
-    let ports = wide_inputs(clocked(begun()));
-    let nodes = ands(states(ports, count), 126);
-    let shown = wide_outputs(nodes, last(nodes));
-    whole(holding_registers(shown, count))
-}
-
-// The bit of a number at a place below 16.
-fn bit(n: u16, place: u8) -> bool {
-    (n >> (place % 16) as u32) & 1 == 1
-}
-
-// Node `x`, or its Not where a bit of the count is 0: the literal of a state at a place.
-fn literal(r: Record, count: u16, place: u8, x: u16) -> Record {
-    if bit(count, place) { r } else { not(r, x) }
-}
-
-// The number of that literal.
-fn literal_of(r: Record, count: u16, place: u8, x: u16) -> u16 {
-    if bit(count, place) { x } else { last(r) }
-}
-
-// The conjunction that all nine states, from node 3 on, are a count's bits; it is the last node.
-fn equals(r: Record, count: u16) -> Record {
-    let mut next = literal(r, count, 0, 3);
-    let mut all = literal_of(next, count, 0, 3);
-    let mut k: u8 = 1;
-    while k < 9 {
-        let x = 3 + k as u16;
-        next = literal(next, count, k, x);
-        let one = literal_of(next, count, k, x);
-        next = gate(next, AND, all, one);
-        all = last(next);
-        k += 1;
+    let mut record = Record::new();
+    let mut last = 1;
+    for number in 2..11 {
+        last = record.input(Name::Numbered(b'i', number));
     }
-    next
+    for _ in 0..count {
+        last = record.state();
+    }
+    // Ands of the last node and the first input.
+    for _ in record.nodes..126 {
+        last = record.gate(AND, last, 2);
+    }
+    for number in 0..9 {
+        record.output(Name::Numbered(b'o', number), last);
+    }
+    record.registers(u16::from(count));
+    for number in 0..count {
+        let state = 11 + u16::from(number);
+        record.register(Name::Numbered(b'r', number), state, state);
+    }
+    record.finish()
 }
 
-// The next bits of a nine-bit counter: a Not of the lowest, then a Xor and an And with the carry for each further one.
-fn carries(r: Record) -> Record {
-    let mut next = not(r, 3);
-    let mut carry: u16 = 3;
-    let mut k: u8 = 1;
-    while k < 9 {
-        let x = 3 + k as u16;
-        next = gate(next, XOR, x, carry);
-        next = gate(next, AND, x, carry);
-        carry = last(next);
-        k += 1;
-    }
-    next
+// The states of a nine-bit counter, which stand behind the Input e, the lowest bit first.
+const STATES: [u16; 9] = [3, 4, 5, 6, 7, 8, 9, 10, 11];
+
+// The literal that a state is a bit of a count: the state, or its Not where the bit is 0.
+fn literal(record: &mut Record, state: u16, bit: bool) -> u16 {
+    if bit { state } else { record.not(state) }
 }
 
-// The registers c0 to c8 of a counter whose next bits begin at a node.
-fn counter_registers(r: Record, base: u16) -> Record {
-    let mut next = register_at(registers(r, 9), b'c', 0, 3, base);
-    let mut data = base;
-    let mut k: u8 = 1;
-    while k < 9 {
-        next = register_at(next, b'c', k, 3 + k as u16, second(data, k));
-        data = second(data, k);
-        k += 1;
+// The conjunction that all nine states are a count's bits.
+fn equals(record: &mut Record, count: u16) -> u16 {
+    let mut all = literal(record, STATES[0], count & 1 == 1);
+    for place in 1..9 {
+        let bit = count >> place & 1 == 1;
+        let one = literal(record, STATES[place], bit);
+        all = record.gate(AND, all, one);
     }
-    next
+    all
 }
 
-// The next bit's node: one behind the first, two behind each further one.
-fn second(data: u16, k: u8) -> u16 {
-    if 2048 < data {
-        return data;
+// The next bits of a nine-bit counter: a Not of the lowest, then a Xor with the carry for each further one, which the And behind it carries on.
+fn next_bits(record: &mut Record) -> [u16; 9] {
+    let mut carry = STATES[0];
+    let mut bits = [record.not(carry); 9];
+    for place in 1..9 {
+        let state = STATES[place];
+        bits[place] = record.gate(XOR, state, carry);
+        carry = record.gate(AND, state, carry);
     }
-    if k == 1 { data + 1 } else { data + 2 }
+    bits
 }
 
 // A nine-bit counter; y is 1 at one count.
 pub fn counter(count: u16) -> Record {
-    let ports = input_e(clocked(begun()));
-    let shown = equals(states(ports, 9), count);
-    let nodes = output_y(shown, last(shown));
-    let base = nodes.nodes;
-    whole(counter_registers(carries(nodes), base))
+    let mut record = Record::new();
+    record.input(E);
+    for _ in STATES {
+        record.state();
+    }
+    let shown = equals(&mut record, count);
+    record.output(Y, shown);
+    let bits = next_bits(&mut record);
+    record.registers(9);
+    for ((number, state), bit) in (0..9).zip(STATES).zip(bits) {
+        record.register(Name::Numbered(b'c', number), state, bit);
+    }
+    record.finish()
 }

@@ -13,14 +13,10 @@ pub fn drivers(netlist: Netlist) -> [u16; 1024]
     ensures { Drivers netlist result }
 {
     let mut table = [0u16; 1024];
-    let mut k = netlist.register_count;
-    while 0 < k {
-        let number = k as u16;
-        k -= 1;
-        let cell = netlist.registers[k];
-        let o = cell.output as usize;
+    for k in (0..netlist.register_count).rev() {
+        let o = usize::from(netlist.registers[k].output);
         if o < 1024 {
-            table[o] = number;
+            table[o] = k as u16 + 1;
         }
     }
     table
@@ -30,5 +26,5 @@ pub fn drivers(netlist: Netlist) -> [u16; 1024]
 pub fn register_of(driver: u16) -> usize
     ensures { (result < 128) × (result ≡ (driver + 127) % 128) }
 {
-    (driver as usize + 127) % 128
+    (usize::from(driver) + 127) % 128
 }

@@ -28,12 +28,12 @@ unfoldable pub join_named : Bool → ℕ → List ℕ → List ℕ → List ℕ 
 join_named true n ms gs ts b = or_mismatch b.literal (compare_pairs b.aig (named_by n ms gs ts))
 join_named false n ms gs ts b = b
 
-pub joined : (n : ℕ) (ms gs ts : List ℕ) (c₀ : ℕ) (w₀ : List ℕ) (m c : ℕ) (w : List ℕ) (d c' : ℕ) (w' : List ℕ) (l : ℕ) (include : Bool) → include ≡ true
+pub joined : (n : ℕ) (ms gs ts : List ℕ) (c₀ : ℕ) (w₀ : List ℕ) (m c : ℕ) (w : List ℕ) (d c' : ℕ) (w' : List ℕ) (l : ℕ)
     → Made (4 * n) c₀ w₀ c w d (compare_pairs (graph_of c₀ w₀) (named_by n ms gs ts)) → Made 1 c w c' w' l (or (graph_of c w) m d)
-    → Made (4 * n + 1) c₀ w₀ c' w' l (join_named include n ms gs ts (record { aig = graph_of c₀ w₀; literal = m }))
+    → Made (4 * n + 1) c₀ w₀ c' w' l (join_named true n ms gs ts (record { aig = graph_of c₀ w₀; literal = m }))
 unfolding join_named or_mismatch
-joined n ms gs ts c₀ w₀ m c w d c' w' l include e s t =
-    rw e (made_then (4 * n) 1 (4 * n + 1) c₀ w₀ c w d _ c' w' l (λ (b : Built). or b.aig m b.literal) (omega arith) s t)
+joined n ms gs ts c₀ w₀ m c w d c' w' l s t =
+    made_then (4 * n) 1 (4 * n + 1) c₀ w₀ c w d _ c' w' l (λ (b : Built). or b.aig m b.literal) (omega arith) s t
 
 pub not_joined : (n : ℕ) (ms gs ts : List ℕ) (c : ℕ) (w : List ℕ) (m : ℕ) (include : Bool) → include ≡ false → Ready c w → m < c * 2
     → Made (4 * n + 1) c w c w m (join_named include n ms gs ts (record { aig = graph_of c w; literal = m }))

@@ -1,5 +1,5 @@
 // Query 3 and 4: induction_closes of equivalence.rs up to the search, with its assumptions by value.
-ghost use Rattle.std.specs.Prelude.{◌≡◌, suc, ◌+◌, ◌*◌, ◌≤◌, ◌<◌, length};
+ghost use Rattle.std.specs.Prelude.{◌≡◌, true, suc, ◌+◌, ◌*◌, ◌≤◌, ◌<◌, length};
 ghost use Rattle.words.specs.Layout.{MOST-NODES};
 ghost use Rattle.model.specs.Equivalence.{assumed};
 ghost use Rattle.aig.specs.Graph.{graph_of};
@@ -26,6 +26,23 @@ pub struct Induction {
     pub assumptions: [u32; 128],
 }
 
+// A mismatch joined to that of the named states.
+pub(crate) fn join_named(
+    proof: Aig,
+    words: &mut [u32],
+    mismatch: Literal,
+    matches: &[u32; 128],
+    gold: &[u32; 128],
+    gate: &[u32; 128],
+    n: usize,
+) -> Built
+    requires { Ready proof.count words.old × (n ≤ 128) × (proof.count + (4 * n + 1) ≤ MOST-NODES) × (mismatch.0 < proof.count * 2) × Below (proof.count * 2) n gold.now × MatchesBelow (proof.count * 2) n matches.now gate.now }
+    ensures { Made (4 * n + 1) proof.count words.old result.aig.count words.new result.literal.0 (join_named true n matches.now gold.now gate.now (record { aig = graph_of proof.count words.old; literal = mismatch.0 })) }
+{
+    let named = compare_named_state(proof, words, matches, gold, gate, n);
+    named.aig.or(words, mismatch, named.literal)
+}
+
 // The mismatch of a cycle: of its outputs, joined to that of its named states where these are included.
 pub fn cycle_mismatch(
     proof: Aig,
@@ -40,16 +57,14 @@ pub fn cycle_mismatch(
     requires { Ready proof.count words.old × (n ≤ 128) × (proof.count + (4 * n + 1) ≤ MOST-NODES) × (mismatch.0 < proof.count * 2) × Below (proof.count * 2) n gold.now × MatchesBelow (proof.count * 2) n matches.now gate.now }
     ensures { Made (4 * n + 1) proof.count words.old result.aig.count words.new result.literal.0 (join_named include n matches.now gold.now gate.now (record { aig = graph_of proof.count words.old; literal = mismatch.0 })) }
 {
-    if !include {
-        return Built {
+    if include {
+        join_named(proof, words, mismatch, matches, gold, gate, n)
+    } else {
+        Built {
             aig: proof,
             literal: mismatch,
-        };
+        }
     }
-    let named = compare_named_state(proof, words, matches, gold, gate, n);
-    let aig = named.aig;
-    let literal = named.literal;
-    aig.or(words, mismatch, literal)
 }
 
 // The sign of a cycle's mismatch: assumed in the last cycle, its negation in the others.
@@ -61,8 +76,8 @@ fn assumed(last: bool, literal: Literal) -> Literal
 
 // Cycle `n` of query 3 (named states included) or 4: its mismatch becomes assumption `n`.
 fn induction_cycle(
-    gold: System,
-    gate: System,
+    gold: &System,
+    gate: &System,
     matches: &[u32; 128],
     words: &mut [u32],
     include: bool,
@@ -70,32 +85,34 @@ fn induction_cycle(
     state: Induction,
     n: usize,
 ) -> Induction
-    requires { Startable (cycle_cost gold gate words.old) gold gate state.aig.count words.old state.gold_state state.gate_state × Below (gate.state_count + 1) gold.state_count matches.now × (n < 128) × (length state.assumptions ≡ 128) }
-    ensures { Cycled gold gate matches.now include last n state.aig.count words.old state.gold_state state.gate_state state.assumptions result.aig.count words.new result.gold_state result.gate_state result.assumptions × (length result.assumptions ≡ 128) }
+    requires { Startable (cycle_cost gold.now gate.now words.old) gold.now gate.now state.aig.count words.old state.gold_state state.gate_state × Below (gate.now.state_count + 1) gold.now.state_count matches.now × (n < 128) × (length state.assumptions ≡ 128) }
+    ensures { Cycled gold.now gate.now matches.now include last n state.aig.count words.old state.gold_state state.gate_state state.assumptions result.aig.count words.new result.gold_state result.gate_state result.assumptions × (length result.assumptions ≡ 128) }
 {
-    let gold_state = state.gold_state;
-    let gate_state = state.gate_state;
-    let mut assumptions = state.assumptions;
-    let cycle = compared_cycle(gold, gate, state.aig, words, &gold_state, &gate_state);
-    let aig = cycle.aig;
+    let cycle = compared_cycle(
+        gold,
+        gate,
+        state.aig,
+        words,
+        &state.gold_state,
+        &state.gate_state,
+    );
     let made = cycle_mismatch(
-        aig,
+        cycle.aig,
         words,
         include,
         cycle.mismatch,
         matches,
-        &gold_state,
-        &gate_state,
+        &state.gold_state,
+        &state.gate_state,
         gold.state_count,
     );
-    let aig = made.aig;
     let literal = assumed(last, made.literal);
+    let mut assumptions = state.assumptions;
     assumptions[n] = literal.0;
-    let frames = cycle.frames;
-    let gold_state = frames.gold_next;
-    let gate_state = frames.gate_next;
+    let gold_state = cycle.frames.gold.next;
+    let gate_state = cycle.frames.gate.next;
     Induction {
-        aig,
+        aig: made.aig,
         gold_state,
         gate_state,
         assumptions,
@@ -104,37 +121,35 @@ fn induction_cycle(
 
 // `depth` cycles and the last one, whose mismatch is assumed: the assumptions of query 3 (named states included) or 4.
 pub fn induction_cycles(
-    gold: System,
-    gate: System,
+    gold: &System,
+    gate: &System,
     matches: &[u32; 128],
     words: &mut [u32],
     include: bool,
     start: Induction,
     depth: usize,
 ) -> Induction
-    requires { Startable (suc depth * cycle_cost gold gate words.old) gold gate start.aig.count words.old start.gold_state start.gate_state × Below (gate.state_count + 1) gold.state_count matches.now × (depth < 128) × (length start.assumptions ≡ 128) }
-    ensures { Closed gold gate matches.now include depth start.aig.count words.old start.gold_state start.gate_state start.assumptions result.aig.count words.new result.assumptions }
+    requires { Startable (suc depth * cycle_cost gold.now gate.now words.old) gold.now gate.now start.aig.count words.old start.gold_state start.gate_state × Below (gate.now.state_count + 1) gold.now.state_count matches.now × (depth < 128) × (length start.assumptions ≡ 128) }
+    ensures { Closed gold.now gate.now matches.now include depth start.aig.count words.old start.gold_state start.gate_state start.assumptions result.aig.count words.new result.assumptions }
 {
     let mut state = start;
-    let mut i: usize = 0;
-    while i < depth {
+    for i in 0..depth {
         state = induction_cycle(gold, gate, matches, words, include, false, state, i);
-        i += 1;
     }
     induction_cycle(gold, gate, matches, words, include, true, state, depth)
 }
 
 // The free states of both sides: gold's by name, then gate's by name, those named alike shared where asked.
 pub fn free_product_state(
-    gold: System,
-    gate: System,
+    gold: &System,
+    gate: &System,
     matches: &[u32; 128],
     proof: Aig,
     words: &mut [u32],
     share: bool,
 ) -> Induction
-    requires { Ready proof.count words.old × (gold.state_count ≤ 128) × (gate.state_count ≤ 128) × (proof.count + (gold.state_count + gate.state_count) ≤ MOST-NODES) × Below (gold.state_count + 1) gate.state_count matches.now }
-    ensures { Freed gold gate share matches.now proof.count words.old result.aig.count words.new result.gold_state result.gate_state × (length result.assumptions ≡ 128) }
+    requires { Ready proof.count words.old × (gold.now.state_count ≤ 128) × (gate.now.state_count ≤ 128) × (proof.count + (gold.now.state_count + gate.now.state_count) ≤ MOST-NODES) × Below (gold.now.state_count + 1) gate.now.state_count matches.now }
+    ensures { Freed gold.now gate.now share matches.now proof.count words.old result.aig.count words.new result.gold_state result.gate_state × (length result.assumptions ≡ 128) }
 {
     let made = new_variables(proof, words, gold.state_count);
     let aig = made.aig;
@@ -153,16 +168,16 @@ pub fn free_product_state(
 
 // The graph of query 3 (named states included) or 4, with its `depth` + 1 assumptions.
 pub fn induction_closes(
-    gold: System,
-    gate: System,
+    gold: &System,
+    gate: &System,
     gold_matches: &[u32; 128],
     gate_matches: &[u32; 128],
     words: &mut [u32],
     include: bool,
     depth: usize,
 ) -> Induction
-    requires { Inducible gold gate gold_matches.now gate_matches.now depth words.old }
-    ensures { Induces gold gate gold_matches.now gate_matches.now include depth words.old result.aig.count words.new result.assumptions }
+    requires { Inducible gold.now gate.now gold_matches.now gate_matches.now depth words.old }
+    ensures { Induces gold.now gate.now gold_matches.now gate_matches.now include depth words.old result.aig.count words.new result.assumptions }
 {
     let aig = Aig::new(words);
     let start = free_product_state(gold, gate, gate_matches, aig, words, include);

@@ -1,11 +1,14 @@
 -- Laws of single fields: what a field gives, by the tests that the reader makes. Assumes nothing.
-use Rattle.std.specs.Prelude.{ℕ, ◌+◌, ◌*◌, ◌≤◌, ◌<◌, ◌≡◌, refl, Bool, true, false, not, cond, ◌&&◌, ◌||◌, List, length, get_or, take, drop, leb, ltb}
-use Rattle.std.proofs.Common.{sym, ap, ◌∙◌, arith, add-one, drop-cons, le-leb, lt-ltb, le-ltb, leb-true, leb-false}
-use Rattle.std.proofs.Math.Seq.{drop-length}
+use Rattle.std.specs.Prelude.{ℕ, ◌+◌, ◌*◌, ◌≤◌, ◌<◌, ◌≡◌, refl, Bool, true, false, not, cond, ◌&&◌, ◌||◌, List, [], ◌∷◌, length, get_or, take, drop, leb, ltb, Result, Ok, Err}
+use Rattle.std.specs.Result.{IsErrAnd}
+use Rattle.std.specs.List.{list_all}
+use Rattle.std.proofs.Common.{sym, ap, ◌∙◌, arith, le-leb, lt-ltb, le-ltb, leb-true, leb-false}
 use Rattle.std.proofs.lemmas.Bool.{lt-leb}
 use Rattle.model.specs.Answers.{Refusal}
 use Rattle.model.specs.Record.{Step, got, refused, Reader, refuse, go_on, ◌>>=◌, tested, guard, bytes, byte, number, name_byte, name_bytes, name}
-use Rattle.fields.specs.Fields.{map_step, placed}
+use Rattle.calls.specs.Causes.{numbers_of}
+use Rattle.calls.specs.declared.refusal.Refusal as Code
+use Rattle.fields.specs.Fields.{step_of, map_step, placed}
 
 -- ---- a byte, a 2-byte number
 
@@ -16,6 +19,15 @@ byte-got s i h = let l : i + 1 ≤ length s = omega arith in rw (le-leb (i + 1) 
 pub byte_cut : (s : List ℕ) (i : ℕ) → length s ≤ i → refuse 3 i ≡ byte s i
 unfolding byte
 byte_cut s i h = let l : length s < i + 1 = omega arith in rw (lt-leb (i + 1) (length s) l)
+
+-- what a byte that was read says of the record
+pub byte_read : (s : List ℕ) (i b j : ℕ) → got b j ≡ byte s i → (i < length s) × (b ≡ get_or s i 0) × (j ≡ i + 1)
+unfolding byte refuse
+byte_read s i b j e = go (leb (i + 1) (length s)) refl e
+  where
+    go : (t : Bool) → leb (i + 1) (length s) ≡ t → got b j ≡ cond t (got (get_or s i 0) (i + 1)) (refuse 3 i) → (i < length s) × (b ≡ get_or s i 0) × (j ≡ i + 1)
+    go true f g = (omega (arith, leb-true (i + 1) (length s) f), cc, cc)
+    go false f g = absurd cc
 
 pub number-got : (s : List ℕ) (i n : ℕ) → i + 1 < length s → n ≡ get_or s i 0 * 256 + get_or s (i + 1) 0 → got n (i + 2) ≡ number s i
 unfolding number
@@ -28,6 +40,12 @@ number_cut s i h = let l : length s < i + 2 = omega arith in rw (lt-leb (i + 2) 
 -- what a call says of its answer, said of the answer's case
 pub known : {A B : Type 0} (f : A → B) {x y : A} {z : B} → x ≡ y → f x ≡ z → f y ≡ z
 known f e h = ap f (sym e) ∙ h
+
+-- a refusal that is passed on
+pub passed_on : {A : Type 0} (r : Result (A × ℕ) Code.Refusal) (x : Code.Refusal) → IsErrAnd r (λ y. y ≡ x) → step_of r ≡ refused (numbers_of x)
+unfolding step_of
+passed_on (Ok f) x h = absurd h
+passed_on (Err y) x h = ap (λ (z : Code.Refusal). refused (numbers_of z)) h
 
 -- ---- two readers in a row
 
@@ -55,16 +73,16 @@ guard_failed n ok p s i a j e t = rw (← e, ← t)
 
 -- ---- room for a port
 
-pub or-false : (b : Bool) → b ≡ (b || false)
-or-false true = refl
-or-false false = refl
+pub or_false : (b : Bool) → b ≡ (b || false)
+or_false true = refl
+or_false false = refl
 
-pub and-true : (b : Bool) → b ≡ (b && true)
-and-true true = refl
-and-true false = refl
+pub and_true : (b : Bool) → b ≡ (b && true)
+and_true true = refl
+and_true false = refl
 
-pub below-not : (n k : ℕ) → ltb n k ≡ not (leb k n)
-below-not n k = go (leb k n) refl
+pub below_not : (n k : ℕ) → ltb n k ≡ not (leb k n)
+below_not n k = go (leb k n) refl
   where
     go : (b : Bool) → leb k n ≡ b → ltb n k ≡ not (leb k n)
     go true e = rw (e, le-ltb n k (leb-true k n e))
@@ -72,21 +90,11 @@ below-not n k = go (leb k n) refl
 
 -- ---- the bytes of a name
 
-pub good_byte : (s : List ℕ) (i : ℕ) → i < length s → 33 ≤ get_or s i 0 → get_or s i 0 ≤ 126 → name_bytes (drop (i + 1) s) ≡ name_bytes (drop i s)
-unfolding name_bytes name_byte
-good_byte s i h l u = rw (drop-cons s i 0 h, le-leb 33 (get_or s i 0) l, le-leb (get_or s i 0) 126 u, add-one)
-
-pub low_byte : (s : List ℕ) (i : ℕ) → i < length s → get_or s i 0 < 33 → false ≡ name_bytes (drop i s)
-unfolding name_bytes name_byte
-low_byte s i h l = rw (drop-cons s i 0 h, lt-leb 33 (get_or s i 0) l)
-
-pub high_byte : (s : List ℕ) (i : ℕ) → i < length s → 33 ≤ get_or s i 0 → 126 < get_or s i 0 → false ≡ name_bytes (drop i s)
-unfolding name_bytes name_byte
-high_byte s i h l u = rw (drop-cons s i 0 h, le-leb 33 (get_or s i 0) l, lt-leb (get_or s i 0) 126 u)
-
-pub no-more-bytes : (s : List ℕ) (i : ℕ) → i ≡ length s → true ≡ name_bytes (drop i s)
+-- the definition's recursion is the library's test of each element
+pub all_name_bytes : (s : List ℕ) → list_all name_byte s ≡ name_bytes s
 unfolding name_bytes
-no-more-bytes s i e = rw (e, drop-length s)
+all_name_bytes [] = refl
+all_name_bytes (b ∷ bs) = ap (λ (t : Bool). name_byte b && t) (all_name_bytes bs)
 
 -- ---- a name
 

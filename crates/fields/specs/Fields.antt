@@ -1,20 +1,15 @@
 -- The steps that the reader's answers stand for, and what the reader keeps of a node's fields. Definitions only.
-use Rattle.std.specs.Prelude.{ℕ, Bool, not, ◌&&◌, eqb, leb}
+use Rattle.std.specs.Prelude.{ℕ, Bool, not, ◌&&◌, eqb, leb, Result, Ok, Err}
 use Rattle.model.specs.Kinds.{input_kind, output_kind}
 use Rattle.model.specs.Names.{Name}
-use Rattle.model.specs.Record.{Step, got, refused, Reader, refuse, guard, code, listed_kind}
-use Rattle.fields.specs.declared.Code.{Code}
-use Rattle.fields.specs.declared.Number.{Number}
+use Rattle.model.specs.Record.{Step, got, refused, Reader, guard, code, listed_kind}
+use Rattle.calls.specs.Causes.{numbers_of}
+use Rattle.calls.specs.declared.refusal.Refusal.{Refusal}
 
--- the step of a byte
-unfoldable pub code_of : Code → Step ℕ
-code_of (Code.Got b next) = got b next
-code_of (Code.Refused n place) = refuse n place
-
--- the step of a number
-unfoldable pub number_of : Number → Step ℕ
-number_of (Number.Got v next) = got v next
-number_of (Number.Refused n place) = refuse n place
+-- the step that a field's reading stands for
+unfoldable pub step_of : {A : Type 0} → Result (A × ℕ) Refusal → Step A
+step_of (Ok f) = got f.0 f.1
+step_of (Err r) = refused (numbers_of r)
 
 -- what was read, changed
 unfoldable pub map_step : {A B : Type 0} → (A → B) → Step A → Step B

@@ -18,3 +18,16 @@ pub const OR: u8 = 0x21;
 pub const XOR: u8 = 0x22;
 // Three inputs: condition, then, else.
 pub const MUX: u8 = 0x30;
+
+// The kinds that a record of version 1 may have.
+pub const LISTED: [u8; 9] = [
+    INPUT,
+    CONSTANT,
+    REGISTER_OUTPUT,
+    NOT,
+    OUTPUT,
+    AND,
+    OR,
+    XOR,
+    MUX,
+];

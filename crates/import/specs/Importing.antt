@@ -68,15 +68,6 @@ pub record Stepped (b i c : ℕ) (w : List ℕ) (c' : ℕ) (w' : List ℕ) : Typ
 pub record Inside (i c : ℕ) (w : List ℕ) : Type 0 where
   pub at : (j : ℕ) → j < i → get_or (region IMPORTED w) j 0 < c * 2
 
--- a remapped literal, by the sign
-pub remap_inverted : (imported : List ℕ) (l m r : ℕ) → m ≡ get_or imported (node l) 0 → inverted l ≡ true → r ≡ negate m → r ≡ remap_literal imported l
-unfolding remap_literal
-remap_inverted imported l m r e t p = rw (t, ← e) p
-
-pub remap_plain : (imported : List ℕ) (l m : ℕ) → m ≡ get_or imported (node l) 0 → inverted l ≡ false → m ≡ remap_literal imported l
-unfolding remap_literal
-remap_plain imported l m e t = rw (t, ← e)
-
 halved : (l i : ℕ) → l < i * 2 → node l < i
 unfolding node
 halved l i h = omega arith

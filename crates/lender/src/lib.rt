@@ -6,6 +6,14 @@ pub mod text;
 
 ghost use Rattle.std.specs.Prelude.{◌≡◌, length};
 
+// What is lent to a check: the trace, the words and the scores.
+#[derive(Drop)]
+pub struct Memory<'a> {
+    pub trace: &'a mut [u8],
+    pub words: &'a mut [u32],
+    pub scores: &'a mut [f64],
+}
+
 // The words: the 8,388,608 that a check needs, and 8,192 more for programs that lend more than enough.
 pub fn words() -> [u32; 8396800]
     ensures { 8396800 ≡ length result }

@@ -1,204 +1,144 @@
 // The fields of a line: decimal numbers and bytes in lower-case hex, with single spaces between them.
-ghost use Rattle.std.specs.Prelude.{◌+◌, ◌<◌, ◌≤◌, length};
+ghost use Rattle.std.specs.Prelude.{◌≡◌, ◌+◌, ◌<◌, ◌≤◌, ◌↔◌, ◌≢◌, ◌∷◌, ◌++◌, ℕ, List, Bool, false, IfSome, IsNone, IsSome, length};
+ghost use Rattle.lender.specs.Numbers.{answer_word, begins, decimal, past_digits};
 
-// A number and the offset after it.
+// What is left of a line. Each reader takes its field off the front, and answers None where that field does not stand there; bytes in hex are as many as stand there.
 #[derive(Clone, Copy)]
-pub struct Decimal {
-    pub value: u64,
-    pub next: usize,
+pub struct Fields<'a> {
+    pub rest: &'a [u8],
 }
 
-// How many bytes were read, and the offset after their digits.
-#[derive(Clone, Copy)]
-pub struct Bytes {
-    pub count: usize,
-    pub next: usize,
-}
-
-// The byte at an offset; 0 past the end.
-pub fn at(s: &[u8], i: usize) -> u8 {
-    if i < s.len() { s[i] } else { 0 }
-}
-
-// The first n bytes; all of them where there are fewer.
-pub fn first(s: &[u8], n: usize) -> &[u8] {
-    if n <= s.len() { &s[..n] } else { s }
-}
-
-// One more digit behind a number; the largest number where it does not fit.
-fn with_digit(value: u64, digit: u8) -> u64 {
-    let d = (digit % 10) as u64;
-    if value < 1844674407370955161 {
-        return value * 10 + d;
-    }
-    if value == 1844674407370955161 {
-        if d < 6 {
-            return 18446744073709551610 + d;
-        }
-    }
-    u64::MAX
-}
-
-// The decimal number at an offset.
-pub fn digits(s: &[u8], from: usize) -> Decimal {
-    let mut value: u64 = 0;
-    let mut i = from;
-    while i < s.len() {
-        let b = s[i];
-        if b < 48 {
-            return Decimal {
-                value: value,
-                next: i,
-            };
-        }
-        if 57 < b {
-            return Decimal {
-                value: value,
-                next: i,
-            };
-        }
-        value = with_digit(value, b - 48);
-        i += 1;
-    }
-    Decimal {
-        value: value,
-        next: i,
-    }
-}
-
-// The value of a hex digit; 16 for any other byte.
-fn nibble(b: u8) -> u8 {
-    if b < 48 {
-        return 16;
-    }
-    if b < 58 {
-        return b - 48;
-    }
-    if b < 97 {
-        return 16;
-    }
-    if b < 103 { b - 87 } else { 16 }
-}
-
-// The byte of two hex digits at an offset; 256 where they are none.
-fn pair(s: &[u8], i: usize) -> u16
-    ensures { result < 256 → i + 2 ≤ length s.now }
+// The value of a lower-case hex digit.
+fn nibble(digit: u8) -> Option<u8>
+    ensures { IfSome result (λ value. value < 16) }
 {
-    if s.len() <= i {
-        return 256;
+    match digit {
+        b'0'..=b'9' => Some(digit - b'0'),
+        b'a'..=b'f' => Some(digit - b'a' + 10),
+        _ => None,
     }
-    if s.len() - i < 2 {
-        return 256;
-    }
-    let high = nibble(s[i]);
-    let low = nibble(s[i + 1]);
-    if 15 < high {
-        return 256;
-    }
-    if 15 < low {
-        return 256;
-    }
-    (high % 16) as u16 * 16 + (low % 16) as u16
 }
 
-// The bytes in hex at an offset, put into `out` as far as it reaches; `-` stands for none.
-pub fn hex(s: &[u8], from: usize, out: &mut [u8]) -> Bytes {
-    if at(s, from) == b'-' {
-        if from < s.len() {
-            return Bytes {
-                count: 0,
-                next: from + 1,
-            };
-        }
+impl<'a> Fields<'a> {
+    // The fields of a text.
+    pub fn new(text: &'a [u8]) -> Self
+        ensures { result.rest.now ≡ text.now }
+    {
+        Fields { rest: text }
     }
-    let mut n: usize = 0;
-    let mut i = from;
-    while n < out.len() {
-        let b = pair(s, i);
-        if 255 < b {
-            return Bytes { count: n, next: i };
-        }
-        out[n] = (b % 256) as u8;
-        n += 1;
-        i += 2;
+
+    // A given text.
+    fn text(&mut self, text: &[u8]) -> Option<()>
+        ensures none { IsNone result → self.new ≡ self.old }
+        ensures some { IsSome result → length text.now + length self.new.rest.now ≡ length self.old.rest.now }
+        ensures taken { IsSome result → self.old.rest.now ≡ text.now ++ self.new.rest.now }
+        ensures absent { IsNone result → (rest : List ℕ) → self.old.rest.now ≢ text.now ++ rest }
+    {
+        self.rest = self.rest.strip_prefix(text)?;
+        Some(())
     }
-    Bytes { count: n, next: i }
-}
 
-// Where no further field begins.
-pub const NOWHERE: usize = usize::MAX;
+    // One space.
+    pub fn space(&mut self) -> Option<()>
+        ensures none { IsNone result → self.new ≡ self.old }
+        ensures some { IsSome result → 1 + length self.new.rest.now ≡ length self.old.rest.now }
+        ensures taken { IsSome result → self.old.rest.now ≡ 32 ∷ self.new.rest.now }
+        ensures absent { IsNone result → (rest : List ℕ) → self.old.rest.now ≢ 32 ∷ rest }
+    {
+        self.text(b" ")
+    }
 
-// The decimal number of a field; `NOWHERE` comes next where the field has no digit.
-pub fn number(s: &[u8], from: usize) -> Decimal {
-    let n = digits(s, from);
-    if n.next == from {
-        return Decimal {
-            value: 0,
-            next: NOWHERE,
+    // The sign between what a line asks for and what it has as its answer.
+    pub fn equals(&mut self) -> Option<()>
+        ensures none { IsNone result → self.new ≡ self.old }
+        ensures some { IsSome result → 3 + length self.new.rest.now ≡ length self.old.rest.now }
+    {
+        self.text(b" = ")
+    }
+
+    // The end of the line.
+    pub fn end(&self) -> Option<()>
+        ensures { IsSome result ↔ (length self.now.rest.now ≡ 0) }
+    {
+        if self.rest.is_empty() { Some(()) } else { None }
+    }
+
+    // A decimal digit.
+    #[tactic(auto, using(crate::specs::NumbersLaws::no_digit), unfolding(crate::specs::Numbers::begins))]
+    fn digit(&mut self) -> Option<u8>
+        ensures none { IsNone result → (self.new ≡ self.old) × (begins self.old.rest.now ≡ false) }
+        ensures some { IfSome result (λ d. (d < 10) × (self.old.rest.now ≡ (48 + d) ∷ self.new.rest.now)) }
+    {
+        let (first, rest) = self.rest.split_first()?;
+        if *first < b'0' || b'9' < *first {
+            return None;
+        }
+        self.rest = rest;
+        Some(*first - b'0')
+    }
+
+    // A decimal number; the largest number stands for all that do not fit.
+    #[tactic(auto, using(crate::specs::NumbersLaws::next_digit, crate::specs::NumbersLaws::read_all))]
+    pub fn number(&mut self) -> Option<u64>
+        ensures number { result ≡ decimal self.old.rest.now }
+        ensures rest { self.new.rest.now ≡ past_digits self.old.rest.now }
+    {
+        let mut number: Option<u64> = None;
+        while let Some(digit) = self.digit() {
+            let tens = number.unwrap_or(0).saturating_mul(10);
+            number = Some(tens.saturating_add(u64::from(digit)));
+        }
+        number
+    }
+
+    // A space and a decimal number.
+    pub fn next_number(&mut self) -> Option<u64>
+        ensures number { (rest : List ℕ) → self.old.rest.now ≡ 32 ∷ rest → result ≡ decimal rest }
+        ensures rest { (rest : List ℕ) → self.old.rest.now ≡ 32 ∷ rest → self.new.rest.now ≡ past_digits rest }
+        ensures none { ((rest : List ℕ) → self.old.rest.now ≢ 32 ∷ rest) → IsNone result }
+        ensures same { ((rest : List ℕ) → self.old.rest.now ≢ 32 ∷ rest) → self.new ≡ self.old }
+    {
+        self.space()?;
+        self.number()
+    }
+
+    // The word `yes` or `no`.
+    #[tactic(auto, using(crate::specs::NumbersLaws::no_answer))]
+    pub fn yes_or_no(&mut self) -> Option<bool>
+        ensures some { IfSome result (λ yes. self.old.rest.now ≡ answer_word yes ++ self.new.rest.now) }
+        ensures none { IsNone result → self.new ≡ self.old }
+        ensures absent { IsNone result → (yes : Bool) (rest : List ℕ) → self.old.rest.now ≢ answer_word yes ++ rest }
+    {
+        if self.text(b"yes").is_some() {
+            return Some(true);
+        }
+        self.text(b"no")?;
+        Some(false)
+    }
+
+    // The byte of two hex digits.
+    fn byte(&mut self) -> Option<u8> {
+        let [high, low, rest @ ..] = self.rest else {
+            return None;
         };
+        let byte = nibble(*high)? * 16 + nibble(*low)?;
+        self.rest = rest;
+        Some(byte)
     }
-    n
-}
 
-// The offset after one space; `NOWHERE` where there is none.
-pub fn space(s: &[u8], i: usize) -> usize {
-    if i < s.len() {
-        if s[i] == b' ' {
-            return i + 1;
+    // The bytes in hex, put into `out` as far as it reaches; `-` stands for none.
+    pub fn hex<'b>(&mut self, out: &'b mut [u8]) -> &'b [u8]
+        ensures { length result.now ≤ length out.old }
+    {
+        if self.text(b"-").is_some() {
+            return &out[..0];
         }
-    }
-    NOWHERE
-}
-
-// The offset after ` = `; `NOWHERE` where that does not stand here.
-pub fn equals(s: &[u8], i: usize) -> usize {
-    let sign = space(s, i);
-    if sign < s.len() {
-        if s[sign] == b'=' {
-            return space(s, sign + 1);
+        for i in 0..out.len() {
+            match self.byte() {
+                Some(byte) => out[i] = byte,
+                None => return &out[..i],
+            }
         }
-    }
-    NOWHERE
-}
-
-// Whether the line begins with a word of the given letters and a space.
-pub fn begins(s: &[u8], word: &[u8]) -> bool {
-    let mut i: usize = 0;
-    while i < word.len() {
-        if at(s, i) != word[i] {
-            return false;
-        }
-        i += 1;
-    }
-    true
-}
-
-// The offset after a word; `NOWHERE` where it does not stand here.
-fn after(s: &[u8], from: usize, word: &[u8]) -> usize {
-    if s.len() < from {
-        return NOWHERE;
-    }
-    let rest = &s[from..];
-    if rest.len() < word.len() {
-        return NOWHERE;
-    }
-    if begins(rest, word) {
-        return from + word.len();
-    }
-    NOWHERE
-}
-
-// The word `yes` or `no`: 1 or 0; `NOWHERE` comes next where neither stands here.
-pub fn yes_or_no(s: &[u8], from: usize) -> Decimal {
-    let yes = after(s, from, b"yes");
-    if yes != NOWHERE {
-        return Decimal {
-            value: 1,
-            next: yes,
-        };
-    }
-    Decimal {
-        value: 0,
-        next: after(s, from, b"no"),
+        out
     }
 }

@@ -5,7 +5,7 @@ ghost use Rattle.std.specs.Prelude.{◌≡◌, ◌*◌, ◌<◌};
 ghost use Rattle.model.specs.Literal.{node, inverted, negate};
 
 // A node with a sign: twice the node's number, plus one if inverted.
-#[derive(Clone, Copy)]
+#[derive(Clone, Copy, Debug, PartialEq, Eq)]
 pub struct Literal(pub u32);
 
 impl Literal {
@@ -23,6 +23,7 @@ impl Literal {
     }
 
     // The number of its node.
+    #[tactic(auto, unfolding(model::specs::Literal::node))]
     pub fn node(self) -> u32
         ensures { result ≡ node self.0 }
     {
@@ -30,6 +31,7 @@ impl Literal {
     }
 
     // Whether it is inverted.
+    #[tactic(auto, unfolding(model::specs::Literal::inverted))]
     pub fn inverted(self) -> bool
         ensures { result ≡ inverted self.0 }
     {
@@ -37,6 +39,7 @@ impl Literal {
     }
 
     // The same node with the other sign.
+    #[tactic(auto, unfolding(model::specs::Literal::negate, model::specs::Literal::inverted))]
     pub fn negate(self) -> Literal
         ensures { result.0 ≡ negate self.0 }
     {

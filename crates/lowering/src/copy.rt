@@ -21,9 +21,7 @@ pub fn copy_graph(words: &mut [u32], base: usize, count: usize)
     requires { (LENT ≤ length words.old) × (GOLD-LHS ≤ base) × (base ≤ GATE-LHS) × (count ≤ MOST-NODES) }
     ensures { Copying base words.old count words.new × (LENT ≤ length words.new) }
 {
-    let mut i: usize = 0;
-    while i < count {
+    for i in 0..count {
         copy_node(words, base, i);
-        i += 1;
     }
 }

@@ -19,23 +19,18 @@ fn pair_gate(aig: Aig, words: &mut [u32], node: Node) -> Built
 {
     let lhs = net_literal(words, node.first);
     let rhs = net_literal(words, node.second);
-    let kind = node.kind;
-    if kind == AND {
-        return aig.and(words, lhs, rhs);
-    }
-    if kind == OR {
-        return aig.or(words, lhs, rhs);
-    }
-    if kind == XOR {
-        return aig.xor(words, lhs, rhs);
-    }
-    if kind == MUX {
-        let other = net_literal(words, node.third);
-        return aig.mux(words, lhs, rhs, other);
-    }
-    Built {
-        aig: aig,
-        literal: Literal::FALSE,
+    match node.kind {
+        AND => aig.and(words, lhs, rhs),
+        OR => aig.or(words, lhs, rhs),
+        XOR => aig.xor(words, lhs, rhs),
+        MUX => {
+            let other = net_literal(words, node.third);
+            aig.mux(words, lhs, rhs, other)
+        }
+        _ => Built {
+            aig,
+            literal: Literal::FALSE,
+        },
     }
 }
 
@@ -44,31 +39,20 @@ pub fn gate(aig: Aig, words: &mut [u32], node: Node) -> Built
     requires { Netted aig.count words.old × (aig.count + 3 ≤ MOST-NODES) }
     ensures { Made 3 aig.count words.old result.aig.count words.new result.literal.0 (gate_by (graph_of aig.count words.old) (region NETS words.old) node.kind node.detail node.first node.second node.third) }
 {
-    let kind = node.kind;
-    if kind == INPUT {
-        return aig.variable(words);
-    }
-    if kind == CONSTANT {
-        return Built {
-            aig: aig,
+    match node.kind {
+        INPUT | REGISTER_OUTPUT => aig.variable(words),
+        CONSTANT => Built {
+            aig,
             literal: constant_literal(node.detail),
-        };
-    }
-    if kind == REGISTER_OUTPUT {
-        return aig.variable(words);
-    }
-    if kind == NOT {
-        let literal = net_literal(words, node.first);
-        return Built {
-            aig: aig,
-            literal: literal.negate(),
-        };
-    }
-    if kind == OUTPUT {
-        return Built {
-            aig: aig,
+        },
+        NOT => Built {
+            aig,
+            literal: net_literal(words, node.first).negate(),
+        },
+        OUTPUT => Built {
+            aig,
             literal: net_literal(words, node.first),
-        };
+        },
+        _ => pair_gate(aig, words, node),
     }
-    pair_gate(aig, words, node)
 }

@@ -5,11 +5,10 @@ ghost use Rattle.struo_ir.specs.Designs.{Sized};
 ghost use Rattle.lowering.specs.System.{Lowered};
 
 use crate::copy::copy_graph;
-use crate::registers::lower_registers;
+use crate::registers::{Registers, lower_registers};
 use crate::walk::{lower_nodes, start_walk};
 use drivers::drivers;
 use struo_ir::netlist::Netlist;
-use words::wide;
 
 // A transition system: how many nodes its graph has, and by register number the next-state literals and the numbers of the variables' nodes.
 #[derive(Clone, Copy)]
@@ -27,15 +26,15 @@ pub fn from_netlist(words: &mut [u32], netlist: Netlist, base: usize) -> Transit
     let start = start_walk(words);
     let table = drivers(netlist);
     let walked = lower_nodes(start, words, netlist, table);
-    let lowered = lower_registers(walked, words, netlist);
-    let aig = lowered.aig;
-    let count = aig.count;
-    copy_graph(words, base, wide(count));
-    let next = lowered.next;
-    let variables = lowered.variables;
+    let Registers {
+        aig,
+        next,
+        variables,
+    } = lower_registers(walked, words, netlist);
+    copy_graph(words, base, aig.count as usize);
     TransitionSystem {
-        count: count,
-        next: next,
-        variables: variables,
+        count: aig.count,
+        next,
+        variables,
     }
 }

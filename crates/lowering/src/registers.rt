@@ -11,7 +11,7 @@ ghost use Rattle.struo_ir.specs.Designs.{Sized};
 ghost use Rattle.lowering.specs.Registers.{Registered, Registering};
 ghost use Rattle.lowering.specs.Gate.{Netted};
 
-use crate::nets::{asserted_literal, index, net_literal};
+use crate::nets::{asserted_literal, net_literal};
 use crate::resets::{reset_cell, reset_next};
 use aig::{Aig, Built};
 use literals::Literal;
@@ -24,15 +24,11 @@ fn enabled(aig: Aig, words: &mut [u32], register: RegisterCell, state: Literal) 
     ensures { Made 3 aig.count words.old result.aig.count words.new result.literal.0 (Model.enabled (graph_of aig.count words.old) (region NETS words.old) (cell_enable register) (net_literal (region NETS words.old) register.«data») state.0) }
 {
     let data = net_literal(words, register.data);
-    let code = register.enable;
-    if code == 0 {
-        return Built {
-            aig: aig,
-            literal: data,
-        };
+    if register.enable == 0 {
+        return Built { aig, literal: data };
     }
     let signal = net_literal(words, register.enable_signal);
-    let asserted = asserted_literal(signal, code);
+    let asserted = asserted_literal(signal, register.enable);
     aig.mux(words, asserted, data, state)
 }
 
@@ -49,7 +45,7 @@ fn state_literal(words: &[u32], net: u16) -> Literal
     requires { LENT ≤ length words.now }
     ensures { result.0 ≡ get_or (region STATES words.now) net 0 }
 {
-    Literal(fetch(words, STATES, TABLE, index(net)))
+    Literal(fetch(words, STATES, TABLE, usize::from(net)))
 }
 
 // One register: the enable's mux, then the reset's.
@@ -59,14 +55,10 @@ fn lower_register(aig: Aig, words: &mut [u32], register: RegisterCell) -> StateB
 {
     let state = state_literal(words, register.output);
     let held = enabled(aig, words, register, state);
-    let aig = held.aig;
-    let value = held.literal;
-    let made = reset_next(aig, words, reset_cell(register), value);
-    let aig = made.aig;
-    let next = made.literal;
+    let made = reset_next(held.aig, words, reset_cell(register), held.literal);
     StateBit {
-        aig: aig,
-        next: next,
+        aig: made.aig,
+        next: made.literal,
         variable: state.node(),
     }
 }
@@ -84,23 +76,19 @@ pub fn lower_registers(start: Aig, words: &mut [u32], netlist: Netlist) -> Regis
     requires { Netted start.count words.old × (start.count ≤ 4097) × Sized netlist }
     ensures { Registering netlist start.count words.old netlist.register_count result.aig.count words.new result.next result.variables }
 {
-    let count = netlist.register_count;
     let mut aig = start;
     let mut next = [0u32; 128];
     let mut variables = [0u32; 128];
-    let mut i: usize = 0;
-    while i < count {
-        let register = netlist.registers[i];
-        let bit = lower_register(aig, words, register);
-        let literal = bit.next;
-        next[i] = literal.0;
+    let registers = &netlist.registers[..netlist.register_count];
+    for (i, register) in registers.iter().enumerate() {
+        let bit = lower_register(aig, words, *register);
+        next[i] = bit.next.0;
         variables[i] = bit.variable;
         aig = bit.aig;
-        i += 1;
     }
     Registers {
-        aig: aig,
-        next: next,
-        variables: variables,
+        aig,
+        next,
+        variables,
     }
 }

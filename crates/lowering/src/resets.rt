@@ -11,7 +11,7 @@ ghost use Rattle.drivers.specs.Drivers.{driver_by};
 ghost use Rattle.lowering.specs.Gate.{Netted};
 ghost use Rattle.lowering.specs.Step.{reset_of, reset_mux_by};
 
-use crate::nets::{asserted_literal, constant_literal, index, net_literal, widen};
+use crate::nets::{asserted_literal, constant_literal, net_literal};
 use aig::{Aig, Built};
 use literals::Literal;
 use struo_ir::netlist::{Netlist, RegisterCell};
@@ -32,7 +32,7 @@ fn reset_mux(aig: Aig, words: &mut [u32], reset: ResetCell, value: Literal) -> B
 {
     let signal = net_literal(words, reset.signal);
     let asserted = asserted_literal(signal, reset.code);
-    let reset_value = constant_literal(widen(reset.value));
+    let reset_value = constant_literal(u16::from(reset.value));
     aig.mux(words, asserted, reset_value, value)
 }
 
@@ -41,17 +41,9 @@ pub fn shown(aig: Aig, words: &mut [u32], reset: ResetCell, state: Literal) -> B
     requires { Netted aig.count words.old × (aig.count + 3 ≤ MOST-NODES) × (state.0 < aig.count * 2) }
     ensures { Made 3 aig.count words.old result.aig.count words.new result.literal.0 (Model.shown (graph_of aig.count words.old) (region NETS words.old) (reset_of reset) state.0) }
 {
-    let code = reset.code;
-    if code == 0 {
+    if reset.code == 0 || reset.kind != 1 {
         return Built {
-            aig: aig,
-            literal: state,
-        };
-    }
-    let kind = reset.kind;
-    if kind != 1 {
-        return Built {
-            aig: aig,
+            aig,
             literal: state,
         };
     }
@@ -63,10 +55,9 @@ pub fn reset_next(aig: Aig, words: &mut [u32], reset: ResetCell, value: Literal)
     requires { Netted aig.count words.old × (aig.count + 3 ≤ MOST-NODES) × (value.0 < aig.count * 2) }
     ensures { Made 3 aig.count words.old result.aig.count words.new result.literal.0 (Model.reset_next (record { aig = graph_of aig.count words.old; literal = value.0 }) (region NETS words.old) (reset_of reset)) }
 {
-    let code = reset.code;
-    if code == 0 {
+    if reset.code == 0 {
         return Built {
-            aig: aig,
+            aig,
             literal: value,
         };
     }
@@ -74,6 +65,7 @@ pub fn reset_next(aig: Aig, words: &mut [u32], reset: ResetCell, value: Literal)
 }
 
 // The reset of a register.
+#[tactic(auto, unfolding(struo_ir::specs::Decoded::cell_reset))]
 pub fn reset_cell(register: RegisterCell) -> ResetCell
     ensures { reset_of result ≡ cell_reset register }
 {
@@ -98,6 +90,5 @@ pub fn driver_reset(netlist: Netlist, entry: u16) -> ResetCell
             value: 0,
         };
     }
-    let register = netlist.registers[index(entry) - 1];
-    reset_cell(register)
+    reset_cell(netlist.registers[usize::from(entry) - 1])
 }

@@ -26,10 +26,8 @@ fn lower_gate(aig: Aig, words: &mut [u32], net: usize, node: Node) -> Aig
     ensures { Entered 3 net aig.count words.old result.count words.new (region STATES words.old) (gate_by (graph_of aig.count words.old) (region NETS words.old) node.kind node.detail node.first node.second node.third) }
 {
     let made = gate(aig, words, node);
-    let literal = made.literal;
-    stash(words, NETS, TABLE, net, literal.0);
-    let aig = made.aig;
-    aig
+    stash(words, NETS, TABLE, net, made.literal.0);
+    made.aig
 }
 
 // The net of a register output: a new variable, then what it shows.
@@ -38,14 +36,10 @@ fn lower_register_output(aig: Aig, words: &mut [u32], net: usize, reset: ResetCe
     ensures { Entered 4 net aig.count words.old result.count words.new (set (region STATES words.old) net (variable (graph_of aig.count words.old)).literal) (Model.shown (variable (graph_of aig.count words.old)).aig (region NETS words.old) (reset_of reset) (variable (graph_of aig.count words.old)).literal) }
 {
     let made = aig.variable(words);
-    let state = made.literal;
-    let aig = made.aig;
-    stash(words, STATES, TABLE, net, state.0);
-    let seen = shown(aig, words, reset, state);
-    let literal = seen.literal;
-    stash(words, NETS, TABLE, net, literal.0);
-    let aig = seen.aig;
-    aig
+    stash(words, STATES, TABLE, net, made.literal.0);
+    let seen = shown(made.aig, words, reset, made.literal);
+    stash(words, NETS, TABLE, net, seen.literal.0);
+    seen.aig
 }
 
 // One node, at its own number, with its net's entry in the table of drivers.
@@ -60,12 +54,11 @@ fn lower_node(
     requires { Netted aig.count words.old × (aig.count + 4 ≤ MOST-NODES) × (net < TABLE) × (entry ≤ 128) × Driven netlist net entry }
     ensures { Taken node netlist net aig.count words.old result.count words.new }
 {
-    let kind = node.kind;
-    if kind == REGISTER_OUTPUT {
-        let reset = driver_reset(netlist, entry);
-        return lower_register_output(aig, words, net, reset);
+    if node.kind == REGISTER_OUTPUT {
+        lower_register_output(aig, words, net, driver_reset(netlist, entry))
+    } else {
+        lower_gate(aig, words, net, node)
     }
-    lower_gate(aig, words, net, node)
 }
 
 // All nodes in record order.
@@ -73,14 +66,9 @@ pub fn lower_nodes(start: Aig, words: &mut [u32], netlist: Netlist, table: [u16;
     requires { Netted start.count words.old × (start.count ≤ 1) × Sized netlist × Drivers netlist table }
     ensures { Walking netlist start.count words.old netlist.node_count result.count words.new }
 {
-    let count = netlist.node_count;
     let mut aig = start;
-    let mut i: usize = 0;
-    while i < count {
-        let node = netlist.nodes[i];
-        let entry = table[i];
-        aig = lower_node(aig, words, i, node, netlist, entry);
-        i += 1;
+    for (i, node) in netlist.nodes[..netlist.node_count].iter().enumerate() {
+        aig = lower_node(aig, words, i, *node, netlist, table[i]);
     }
     aig
 }

@@ -1,19 +1,20 @@
 -- The checks of a node, 7 and 8, by its fields; the walk over the nodes. Assumes nothing.
-use Rattle.std.specs.Prelude.{ℕ, zero, suc, ◌+◌, ◌≤◌, ◌<◌, ◌≡◌, refl, Bool, true, false, not, List, [], ◌∷◌, length, get_or, take, drop, set, replicate, ltb}
-use Rattle.std.proofs.Common.{◌∙◌}
+use Rattle.std.specs.Prelude.{ℕ, zero, suc, ◌+◌, ◌≤◌, ◌<◌, ◌≡◌, refl, Bool, true, false, not, ◌&&◌, List, [], ◌∷◌, length, get_or, take, drop, set, replicate, ltb}
+use Rattle.std.specs.List.{list_all}
+use Rattle.std.proofs.Common.{ap, ◌∙◌}
 use Rattle.std.proofs.Math.Bool.{cond}
 use Rattle.std.proofs.Math.Option.{none, some}
 use native.Mathlib.Omega.{arith}
 use Rattle.std.proofs.Math.Numerals.{add-one}
 use Rattle.std.proofs.Math.ListN.{length-set}
 use Rattle.std.proofs.lemmas.List.{length-replicate}
-use borrow.Author.Tests.{lt-ltb, le-ltb}
+use borrow.Author.Tests.{lt-ltb}
 use Rattle.facts.specs.Numbers.{cond_le}
 use Rattle.model.specs.Names.{Name, member_name}
 use Rattle.model.specs.Record.{inputs_per_kind, has_name}
 use Rattle.model.specs.Validate.{◌otherwise◌, refuse_if, all_below, add_name, port_name, repeats, node_fault, nodes_fault}
 use Rattle.calls.specs.Faults.{refusal}
-use Rattle.fields.specs.FieldLaws.{and-true}
+use Rattle.fields.specs.FieldLaws.{and_true}
 use Rattle.struo_ir.specs.declared.netlist.Node.{Node}
 use Rattle.struo_ir.specs.declared.netlist.Netlist.{Netlist}
 use Rattle.struo_ir.specs.Decoded.{name_at, decoded_node, decoded}
@@ -27,37 +28,20 @@ use Rattle.struo_ir.specs.WalkLaws.{no-nodes, node-here}
 
 -- ---- numbers below i
 
-module _ (i c a b d : ℕ) where
-  pub below_none : c < 1 → true ≡ all_below i (take c (a ∷ b ∷ d ∷ []))
-  unfolding all_below
-  below_none h = let e : c ≡ 0 = omega arith in rw e
-
-  pub below-first : c ≡ 1 → a < i → true ≡ all_below i (take c (a ∷ b ∷ d ∷ []))
-  unfolding all_below
-  below-first h l = rw (h, lt-ltb a i l)
-
-  pub below-second : c ≡ 2 → a < i → b < i → true ≡ all_below i (take c (a ∷ b ∷ d ∷ []))
-  unfolding all_below
-  below-second h l m = rw (h, lt-ltb a i l, lt-ltb b i m)
-
-pub first-not-below : (i c a b d : ℕ) → 1 ≤ c → i ≤ a → false ≡ all_below i (take c (a ∷ b ∷ d ∷ []))
+-- the definition's recursion is the library's test of each element
+pub each-below : (i : ℕ) (ns : List ℕ) → list_all (λ n. ltb n i) ns ≡ all_below i ns
 unfolding all_below
-first-not-below i zero a b d h l = absurd (omega arith)
-first-not-below i (suc c) a b d h l = rw (le-ltb a i l)
+each-below i [] = refl
+each-below i (n ∷ ns) = ap (λ (b : Bool). ltb n i && b) (each-below i ns)
 
-pub second-not-below : (i c a b d : ℕ) → 2 ≤ c → a < i → i ≤ b → false ≡ all_below i (take c (a ∷ b ∷ d ∷ []))
-unfolding all_below
-second-not-below i zero a b d h l m = absurd (omega arith)
-second-not-below i (suc zero) a b d h l m = absurd (omega arith)
-second-not-below i (suc (suc c)) a b d h l m = rw (lt-ltb a i l, le-ltb b i m)
-
+-- of three numbers, the third decides where the first two are below
 pub below-third : (i c a b d : ℕ) → 3 ≤ c → a < i → b < i → ltb d i ≡ all_below i (take c (a ∷ b ∷ d ∷ []))
 unfolding all_below
 below-third i zero a b d h l m = absurd (omega arith)
 below-third i (suc zero) a b d h l m = absurd (omega arith)
 below-third i (suc (suc zero)) a b d h l m = absurd (omega arith)
-below-third i (suc (suc (suc zero))) a b d h l m = rw (lt-ltb a i l, lt-ltb b i m) (and-true (ltb d i))
-below-third i (suc (suc (suc (suc c)))) a b d h l m = rw (lt-ltb a i l, lt-ltb b i m) (and-true (ltb d i))
+below-third i (suc (suc (suc zero))) a b d h l m = rw (lt-ltb a i l, lt-ltb b i m) (and_true (ltb d i))
+below-third i (suc (suc (suc (suc c)))) a b d h l m = rw (lt-ltb a i l, lt-ltb b i m) (and_true (ltb d i))
 
 -- ---- the walk
 

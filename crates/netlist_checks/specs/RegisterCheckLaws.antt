@@ -12,7 +12,7 @@ use Rattle.model.specs.Lists.{member}
 use Rattle.model.specs.Names.{member_name}
 use Rattle.model.specs.Validate.{◌otherwise◌, refuse_if, all_below, enable_numbers, reset_numbers, register_numbers, is_register_output_at, register_fault, registers_fault}
 use Rattle.calls.specs.Faults.{refusal}
-use Rattle.fields.specs.FieldLaws.{and-true}
+use Rattle.fields.specs.FieldLaws.{and_true}
 use Rattle.struo_ir.specs.declared.netlist.RegisterCell.{RegisterCell}
 use Rattle.struo_ir.specs.declared.netlist.Netlist.{Netlist}
 use Rattle.struo_ir.specs.Decoded.{name_at, decoded_enable, decoded_reset, decoded_register, decoded}
@@ -46,7 +46,7 @@ enable-signal (suc c) n count xs = refl
 reset-signal : (c n k v count : ℕ) → all_below count (reset_numbers (decoded_reset c n k v)) ≡ signal_below c n count
 unfolding reset_numbers decoded_reset signal_below all_below
 reset-signal zero n k v count = refl
-reset-signal (suc c) n k v count = sym (and-true (ltb n count))
+reset-signal (suc c) n k v count = sym (and_true (ltb n count))
 
 module _ (s : List ℕ) (r : RegisterCell) (count : ℕ) where
   numbers-below : all_below count (register_numbers (decoded_register s r)) ≡ (ltb r.«data» count && (ltb r.clock count && (signal_below r.enable r.enable_signal count && signal_below r.reset r.reset_signal count)))

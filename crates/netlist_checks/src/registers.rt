@@ -1,13 +1,13 @@
 // The checks of the registers: 9 a name a second time, 10 an output that is no RegisterOutput, 11 an output a second time, 12 a number not below the node count.
 ghost use Rattle.std.specs.Prelude.{◌≡◌, ℕ, List, []};
 ghost use Rattle.model.specs.Validate.{all_below, registers_fault, register_numbers};
-ghost use Rattle.calls.specs.Faults.{fault_of};
+ghost use Rattle.calls.specs.Causes.{fault_of};
 ghost use Rattle.struo_ir.specs.Decoded.{decoded_register, decoded};
 ghost use Rattle.struo_ir.specs.Designs.{Padded};
 ghost use Rattle.netlist_checks.specs.RegisterChecks.{signal_below};
 
 use crate::names::{repeated, taken};
-use calls::fault::Fault;
+use calls::refusal::{Cause, Refusal};
 use fields::kinds::REGISTER_OUTPUT;
 use struo_ir::netlist::{Netlist, RegisterCell};
 
@@ -38,7 +38,7 @@ fn signal_below(code: u8, signal: u16, count: usize) -> bool
 }
 
 // 9 to 12, by register.
-pub fn registers_fault(bytes: &[u8], netlist: Netlist) -> Fault
+pub fn registers_fault(bytes: &[u8], netlist: Netlist) -> Result<(), Refusal>
     requires { Padded netlist }
     ensures { fault_of result ≡ registers_fault (decoded bytes.now netlist).nodes 0 [] [] (decoded bytes.now netlist).registers }
 {
@@ -46,30 +46,28 @@ pub fn registers_fault(bytes: &[u8], netlist: Netlist) -> Fault
     let total = netlist.register_count;
     let mut names = [0u16; 1024];
     let mut outputs = [0u16; 1024];
-    let mut i: usize = 0;
-    while i < total {
+    for i in 0..total {
         let cell = netlist.registers[i];
         if repeated(bytes, &names, i, cell.name) {
-            return Fault::Refused(9, 0, i as u32);
+            return Err(Refusal::at(Cause::DuplicateRegisterName, i as u32));
         }
         let o = cell.output as usize;
         if count <= o {
-            return Fault::Refused(10, 0, i as u32);
+            return Err(Refusal::at(Cause::InvalidRegisterOutput, i as u32));
         }
         let node = netlist.nodes[o];
         if node.kind != REGISTER_OUTPUT {
-            return Fault::Refused(10, 0, i as u32);
+            return Err(Refusal::at(Cause::InvalidRegisterOutput, i as u32));
         }
         if taken(&outputs, i, cell.output) {
-            return Fault::Refused(11, 0, i as u32);
+            return Err(Refusal::at(Cause::MultipleDrivers, i as u32));
         }
         if nets_below(cell, count) {
             names[i] = cell.name;
             outputs[i] = cell.output;
         } else {
-            return Fault::Refused(12, 0, i as u32);
+            return Err(Refusal::at(Cause::RegisterNet, i as u32));
         }
-        i += 1;
     }
-    Fault::Nothing
+    Ok(())
 }

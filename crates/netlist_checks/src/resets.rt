@@ -2,13 +2,13 @@
 ghost use Rattle.std.specs.Prelude.{◌≡◌, ℕ, ◌&&◌, List, eqb};
 ghost use Rattle.model.specs.Kinds.{register_output_kind};
 ghost use Rattle.model.specs.Validate.{reset_fault};
-ghost use Rattle.calls.specs.Faults.{fault_of};
+ghost use Rattle.calls.specs.Causes.{fault_of};
 ghost use Rattle.struo_ir.specs.Decoded.{decoded};
 ghost use Rattle.struo_ir.specs.Designs.{Padded};
 ghost use Rattle.drivers.specs.Drivers.{Drivers};
 ghost use Rattle.netlist_checks.specs.ResetChecks.{late_cell};
 
-use calls::fault::Fault;
+use calls::refusal::{Cause, Refusal};
 use drivers::register_of;
 use fields::kinds::REGISTER_OUTPUT;
 use struo_ir::netlist::{Netlist, RegisterCell};
@@ -33,20 +33,18 @@ fn is_late(kind: u8, driver: u16, cell: RegisterCell, i: usize) -> bool
 }
 
 // 14: the lowest RegisterOutput with such a driver, by the table of drivers.
-pub fn reset_fault(netlist: Netlist, table: [u16; 1024]) -> Fault
+pub fn reset_fault(netlist: Netlist, table: [u16; 1024]) -> Result<(), Refusal>
     requires { Padded netlist × Drivers netlist table }
     ensures { (s : List ℕ) → fault_of result ≡ reset_fault (decoded s netlist).registers 0 (decoded s netlist).nodes }
 {
     let count = netlist.node_count;
-    let mut i: usize = 0;
-    while i < count {
+    for i in 0..count {
         let node = netlist.nodes[i];
         let driver = table[i];
         let cell = netlist.registers[register_of(driver)];
         if is_late(node.kind, driver, cell, i) {
-            return Fault::Refused(14, 0, i as u32);
+            return Err(Refusal::at(Cause::UnsupportedAsyncReset, i as u32));
         }
-        i += 1;
     }
-    Fault::Nothing
+    Ok(())
 }

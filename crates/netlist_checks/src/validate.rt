@@ -1,80 +1,56 @@
 // The checks of one netlist in order: nodes, registers, connections, resets, clocks, what reads a clock. The first that refuses is the answer.
 ghost use Rattle.std.specs.Prelude.{◌≡◌, ℕ, List};
 ghost use Rattle.model.specs.Validate as Validate;
-ghost use Rattle.calls.specs.Faults.{fault_of};
+ghost use Rattle.calls.specs.Causes.{fault_of};
 ghost use Rattle.struo_ir.specs.Decoded.{decoded};
 ghost use Rattle.struo_ir.specs.Designs.{Padded};
 ghost use Rattle.drivers.specs.Drivers.{Drivers};
-ghost use Rattle.netlist_checks.specs.Chain.{after_nodes, after_registers, after_connections, after_resets};
+ghost use Rattle.netlist_checks.specs.Chain.{after_registers, after_connections, after_resets};
 
 use crate::clocks::clock_fault;
 use crate::connections::connection_fault;
 use crate::nodes::nodes_fault;
 use crate::registers::registers_fault;
 use crate::resets::reset_fault;
-use calls::fault::Fault;
+use calls::refusal::Refusal;
 use clock_reads::clock_read_fault;
 use drivers::drivers;
 use struo_ir::netlist::Netlist;
 
 // 15, then 30.
-fn after_resets(netlist: Netlist) -> Fault
+fn after_resets(netlist: Netlist) -> Result<(), Refusal>
     requires { Padded netlist }
     ensures { (s : List ℕ) → fault_of result ≡ after_resets (decoded s netlist) }
 {
-    let clock = clock_fault(netlist);
-    let read = clock_read_fault(netlist);
-    match clock {
-        Fault::Refused(_, _, _) => clock,
-        Fault::Nothing => read,
-    }
+    clock_fault(netlist)?;
+    clock_read_fault(netlist)
 }
 
 // 14, then the checks after it.
-fn after_connections(netlist: Netlist, table: [u16; 1024]) -> Fault
+fn after_connections(netlist: Netlist, table: [u16; 1024]) -> Result<(), Refusal>
     requires { Padded netlist × Drivers netlist table }
     ensures { (s : List ℕ) → fault_of result ≡ after_connections (decoded s netlist) }
 {
-    let fault = reset_fault(netlist, table);
-    match fault {
-        Fault::Refused(_, _, _) => fault,
-        Fault::Nothing => after_resets(netlist),
-    }
+    reset_fault(netlist, table)?;
+    after_resets(netlist)
 }
 
 // 13, then the checks after it; one table of drivers for both.
-fn after_registers(netlist: Netlist) -> Fault
+fn after_registers(netlist: Netlist) -> Result<(), Refusal>
     requires { Padded netlist }
     ensures { (s : List ℕ) → fault_of result ≡ after_registers (decoded s netlist) }
 {
     let table = drivers(netlist);
-    let fault = connection_fault(netlist, table);
-    match fault {
-        Fault::Refused(_, _, _) => fault,
-        Fault::Nothing => after_connections(netlist, table),
-    }
-}
-
-// 9 to 12, then the checks after them.
-fn after_nodes(bytes: &[u8], netlist: Netlist) -> Fault
-    requires { Padded netlist }
-    ensures { fault_of result ≡ after_nodes (decoded bytes.now netlist) }
-{
-    let fault = registers_fault(bytes, netlist);
-    match fault {
-        Fault::Refused(_, _, _) => fault,
-        Fault::Nothing => after_registers(netlist),
-    }
+    connection_fault(netlist, table)?;
+    after_connections(netlist, table)
 }
 
 // The first refusal of 7 to 15 and 30.
-pub fn validate(bytes: &[u8], netlist: Netlist) -> Fault
+pub fn validate(bytes: &[u8], netlist: Netlist) -> Result<(), Refusal>
     requires { Padded netlist }
     ensures { fault_of result ≡ Validate.validate (decoded bytes.now netlist) }
 {
-    let fault = nodes_fault(bytes, netlist);
-    match fault {
-        Fault::Refused(_, _, _) => fault,
-        Fault::Nothing => after_nodes(bytes, netlist),
-    }
+    nodes_fault(bytes, netlist)?;
+    registers_fault(bytes, netlist)?;
+    after_registers(netlist)
 }

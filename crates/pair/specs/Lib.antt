@@ -5,3 +5,4 @@ pub mod PairCheckLaws
 pub mod ReadingRight
 pub mod PairReading
 pub mod PairReadingLaws
+pub mod SidedProp

@@ -1,20 +1,16 @@
 -- What a reading says of its record: its refusal, or its design, whose netlist passed the checks. Assumes nothing.
 use Rattle.std.specs.Prelude.{ℕ, ◌≡◌, List}
-use Rattle.std.proofs.Common.{ap, ◌∙◌, arith}
+use Rattle.std.proofs.Common.{arith}
 use Rattle.model.specs.Names.{Place}
 use Rattle.model.specs.Netlist.{input_name, output_name, ports_from, inputs, outputs, input_count, output_count}
-use Rattle.model.specs.Record.{parsed, refused_record}
+use Rattle.model.specs.Record.{parsed}
 use Rattle.model.specs.Validate.{read_record}
 use Rattle.laws.specs.Names.Sorting.{sort-length}
 use Rattle.laws.specs.Record.Accepted.{accepted-parsed}
 use Rattle.laws.specs.Record.Limits.{Limits, parse_limits}
-use Rattle.calls.specs.Faults.{refusal}
-use Rattle.calls.specs.declared.fault.Fault.TheVariants as Fault
 use Rattle.struo_ir.specs.Decoded.{decoded}
 use Rattle.struo_ir.specs.Designs.{Padded, Within, Valid}
-use Rattle.struo_ir.specs.Reading.{read_of, read_by}
 use Rattle.struo_ir.specs.declared.netlist.Netlist.{Netlist}
-use Rattle.struo_ir.specs.declared.reader.Reading.{Reading}
 
 -- an accepted record's netlist is within the limits
 read-within : (s : List ℕ) (n : Netlist) → Padded n → read_record s ≡ parsed (decoded s n) → Within s n
@@ -30,18 +26,3 @@ read-within s n p e =
 -- an accepted record's netlist passed the checks
 pub read-valid : (s : List ℕ) (n : Netlist) → Padded n → read_record s ≡ parsed (decoded s n) → Valid s n
 read-valid s n p e = record { padded = p; within = read-within s n p e; valid = (accepted-parsed s (decoded s n) e).1 }
-
--- an accepted reading is that of its netlist
-pub reading-accepted : (s : List ℕ) (r : Reading) → read_record s ≡ read_of s r → r.fault ≡ Fault.Nothing → read_record s ≡ parsed (decoded s r.netlist)
-unfolding read_of read_by
-reading-accepted s r e a = e ∙ ap (read_by s r.netlist) a
-
--- a refused reading has its refusal
-pub reading-refused : (s : List ℕ) (r : Reading) (number side place : ℕ) → read_record s ≡ read_of s r → r.fault ≡ Fault.Refused number side place
-    → read_record s ≡ refused_record (refusal number side place)
-unfolding read_of read_by
-reading-refused s r number side place e a = e ∙ ap (read_by s r.netlist) a
-
--- an accepted reading's netlist passed the checks
-pub reading-valid : (s : List ℕ) (r : Reading) → read_record s ≡ read_of s r → Padded r.netlist → r.fault ≡ Fault.Nothing → Valid s r.netlist
-reading-valid s r e p a = read-valid s r.netlist p (reading-accepted s r e a)

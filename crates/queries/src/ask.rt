@@ -3,7 +3,6 @@ ghost use Rattle.queries.specs.Asking.{Askable, Asked};
 
 use sat::solve::solve;
 use sat::state::Answer;
-use words::wide;
 
 // The answer for the first `nodes` nodes in the words and the first `count` assumptions, under a limit of learned literals.
 pub fn ask(
@@ -17,5 +16,5 @@ pub fn ask(
     requires { Askable limit nodes words.old scores.old assumptions.now count }
     ensures { Asked limit nodes words.old assumptions.now count result words.new scores.new }
 {
-    solve(words, scores, assumptions, count, wide(nodes), limit)
+    solve(words, scores, assumptions, count, nodes as usize, limit)
 }

@@ -21,25 +21,26 @@ pub struct Found {
 
 // Query 1: whether outputs differ in a cycle from 0 to `depth`; where they do, the trace is written.
 pub fn find_counterexample(
-    problem: Problem,
+    problem: &Problem,
     words: &mut [u32],
     scores: &mut [f64],
     trace: &mut [u8],
     limit: usize,
     depth: usize,
 ) -> Found
-    requires { Queryable problem limit depth words.old scores.old × (suc depth * problem.gold.input_count + problem.gold.output_count ≤ length trace.old) }
-    ensures { Finds problem limit depth words.old trace.old result words.new scores.new trace.new }
+    requires { Queryable problem.now limit depth words.old scores.old × (suc depth * problem.now.gold.input_count + problem.now.gold.output_count ≤ length trace.old) }
+    ensures { Finds problem.now limit depth words.old trace.old result words.new scores.new trace.new }
 {
-    let gold = problem.gold;
-    let gate = problem.gate;
-    let gold_start = problem.gold_start;
-    let gate_start = problem.gate_start;
+    let Problem {
+        gold,
+        gate,
+        gold_start,
+        gate_start,
+        ..
+    } = problem;
     let base = base_counterexample(gold, gate, words, gold_start, gate_start, depth);
-    let aig = base.aig;
-    let literal = base.any_mismatch;
-    let assumptions = [literal.0; 128];
-    let count = aig.count;
+    let assumptions = [base.any_mismatch.0; 128];
+    let count = base.aig.count;
     let answer = ask(words, scores, &assumptions, 1, count, limit);
     match answer {
         Answer::Model(_) => {
@@ -61,55 +62,70 @@ pub fn find_counterexample(
 
 // Query 2: whether states named alike differ in a cycle from 0 to `depth`.
 pub fn named_state_differs(
-    problem: Problem,
+    problem: &Problem,
     words: &mut [u32],
     scores: &mut [f64],
     limit: usize,
     depth: usize,
 ) -> Answer
-    requires { Queryable problem limit depth words.old scores.old }
-    ensures { Queried problem limit depth (λ p. base_preserves_named_state p depth) words.old result words.new scores.new }
+    requires { Queryable problem.now limit depth words.old scores.old }
+    ensures { Queried problem.now limit depth (λ p. base_preserves_named_state p depth) words.old result words.new scores.new }
 {
-    let gold = problem.gold;
-    let gate = problem.gate;
-    let matches = problem.gold_matches;
-    let gold_start = problem.gold_start;
-    let gate_start = problem.gate_start;
+    let Problem {
+        gold,
+        gate,
+        gold_matches,
+        gold_start,
+        gate_start,
+        ..
+    } = problem;
     let base = base_preserves_named_state(
-        gold, gate, &matches, words, gold_start, gate_start, depth,
+        gold,
+        gate,
+        gold_matches,
+        words,
+        gold_start,
+        gate_start,
+        depth,
     );
-    let aig = base.aig;
-    let literal = base.any_mismatch;
-    let assumptions = [literal.0; 128];
-    ask(words, scores, &assumptions, 1, aig.count, limit)
+    let assumptions = [base.any_mismatch.0; 128];
+    ask(words, scores, &assumptions, 1, base.aig.count, limit)
 }
 
 // Query 3 (named states included) or 4: whether cycle `depth` can differ after as many equal ones.
 pub fn induction_fails(
-    problem: Problem,
+    problem: &Problem,
     words: &mut [u32],
     scores: &mut [f64],
     limit: usize,
     include: bool,
     depth: usize,
 ) -> Answer
-    requires { Queryable problem limit depth words.old scores.old }
-    ensures { Queried problem limit depth (λ p. induction_closes p include depth) words.old result words.new scores.new }
+    requires { Queryable problem.now limit depth words.old scores.old }
+    ensures { Queried problem.now limit depth (λ p. induction_closes p include depth) words.old result words.new scores.new }
 {
-    let gold = problem.gold;
-    let gate = problem.gate;
-    let gold_matches = problem.gold_matches;
-    let gate_matches = problem.gate_matches;
+    let Problem {
+        gold,
+        gate,
+        gold_matches,
+        gate_matches,
+        ..
+    } = problem;
     let induction = induction_closes(
         gold,
         gate,
-        &gold_matches,
-        &gate_matches,
+        gold_matches,
+        gate_matches,
         words,
         include,
         depth,
     );
-    let aig = induction.aig;
-    let assumptions = induction.assumptions;
-    ask(words, scores, &assumptions, depth + 1, aig.count, limit)
+    ask(
+        words,
+        scores,
+        &induction.assumptions,
+        depth + 1,
+        induction.aig.count,
+        limit,
+    )
 }

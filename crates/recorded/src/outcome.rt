@@ -1,105 +1,113 @@
-// What comparing a line found, and how it is told.
-use std::io;
+// What is wrong with a line, and how it is told.
+ghost use Rattle.std.specs.Prelude.{◌≡◌, ◌↔◌, IsNone, IsOk};
 
-// A number that differs: which one, what it should be and what it is.
+use std::fmt;
+
+// The numbers of an answer that can differ.
 #[derive(Clone, Copy)]
-pub struct Difference {
-    pub what: u8,
-    pub expected: u64,
-    pub answered: u64,
+pub enum Part {
+    Number,
+    Side,
+    Place,
+    Yes,
+    Status,
+    Depth,
+    Mismatch,
+    Query,
+    Learned,
+    LearnedDepth,
+    LearnedQuery,
+    Equal,
+    Through,
 }
 
-// A line agrees, is not in the form, or differs.
+impl fmt::Display for Part {
+    fn fmt<W: fmt::Write>(&self, f: &mut fmt::Formatter<W>) -> fmt::Result {
+        f.pad(match self {
+            Part::Number => "number",
+            Part::Side => "side",
+            Part::Place => "place",
+            Part::Yes => "yes",
+            Part::Status => "status",
+            Part::Depth => "depth",
+            Part::Mismatch => "mismatch",
+            Part::Query => "query",
+            Part::Learned => "learned",
+            Part::LearnedDepth => "ldepth",
+            Part::LearnedQuery => "lquery",
+            Part::Equal => "equal",
+            Part::Through => "through",
+        })
+    }
+}
+
+// The buffers that a check leaves, by what they are made of.
 #[derive(Clone, Copy)]
-pub enum Outcome {
-    Same,
+pub enum Buffer {
+    Trace,
+    Word,
+    Score,
+}
+
+impl fmt::Display for Buffer {
+    fn fmt<W: fmt::Write>(&self, f: &mut fmt::Formatter<W>) -> fmt::Result {
+        f.pad(match self {
+            Buffer::Trace => "trace",
+            Buffer::Word => "word",
+            Buffer::Score => "score",
+        })
+    }
+}
+
+// A line is not in the form; or a number is not the recorded one, or a buffer is not as it has to be, of which the first place is told.
+#[derive(Clone, Copy)]
+pub enum Trouble {
     Malformed,
-    Differs(Difference),
+    Number {
+        part: Part,
+        expected: u64,
+        answered: u64,
+    },
+    Buffer {
+        buffer: Buffer,
+        place: usize,
+    },
 }
 
-// The parts of an answer that can differ.
-pub const NUMBER: u8 = 0;
-
-pub const SIDE: u8 = 1;
-
-pub const PLACE: u8 = 2;
-
-pub const YES: u8 = 3;
-
-pub const STATUS: u8 = 4;
-
-pub const DEPTH: u8 = 5;
-
-pub const MISMATCH: u8 = 6;
-
-pub const QUERY: u8 = 7;
-
-pub const LEARNED: u8 = 8;
-
-pub const LEARNED_DEPTH: u8 = 9;
-
-pub const LEARNED_QUERY: u8 = 10;
-
-pub const EQUAL: u8 = 11;
-
-pub const THROUGH: u8 = 12;
-
-pub const TRACE: u8 = 13;
-
-pub const WORDS: u8 = 14;
-
-pub const SCORES: u8 = 15;
-
-// The comparison of one number; an outcome that is found already stays.
-pub fn compared(so_far: Outcome, what: u8, expected: u64, answered: u64) -> Outcome {
-    match so_far {
-        Outcome::Same => {
-            if expected == answered {
-                return Outcome::Same;
-            }
-            Outcome::Differs(Difference {
-                what: what,
-                expected: expected,
-                answered: answered,
-            })
+impl fmt::Display for Trouble {
+    fn fmt<W: fmt::Write>(&self, f: &mut fmt::Formatter<W>) -> fmt::Result {
+        match *self {
+            Trouble::Malformed => f.write_str("malformed"),
+            Trouble::Number {
+                part,
+                expected,
+                answered,
+            } => write!(f, "{part:<8} is {answered}, expected {expected}"),
+            Trouble::Buffer { buffer, place } => write!(f, "{buffer:<8} differs at {place}"),
         }
-        Outcome::Malformed => Outcome::Malformed,
-        Outcome::Differs(d) => Outcome::Differs(d),
     }
 }
 
-// The eight bytes of a list of names at a number.
-fn tell_name(rt: &impl Print, names: &[u8], k: u8) -> io::Result<()> {
-    let from = (k % 16) as usize * 8;
-    let end = from + 8;
-    if end <= names.len() {
-        rt.write_all(&names[from..end])?;
+// The comparison of one number.
+pub fn compared(part: Part, expected: u64, answered: u64) -> Result<(), Trouble>
+    ensures { IsOk result ↔ (expected ≡ answered) }
+{
+    if expected == answered {
+        return Ok(());
     }
-    Ok(())
+    Err(Trouble::Number {
+        part,
+        expected,
+        answered,
+    })
 }
 
-// The name of a part of an answer.
-fn tell_part(rt: &impl Print, what: u8) -> io::Result<()> {
-    tell_name(
-        rt,
-        b"number  side    place   yes     status  depth   mismatchquery   learned ldepth  lquery  equal   through trace   word    score   ",
-        what,
-    )
-}
-
-// A differing line: its number in the file and what differs; of a buffer the first place.
-pub fn tell_difference(rt: &impl Print, line: u64, d: Difference) -> io::Result<()> {
-    let answered = d.answered;
-    let expected = d.expected;
-    print!(rt; "line {line}: ")?;
-    tell_part(rt, d.what)?;
-    if TRACE <= d.what {
-        return println!(rt; " differs at {answered}");
+// The first place of a buffer that is not as it has to be, where there is one.
+pub fn held(buffer: Buffer, fault: Option<usize>) -> Result<(), Trouble>
+    ensures { IsOk result ↔ IsNone fault }
+{
+    match fault {
+        None => Ok(()),
+        Some(place) => Err(Trouble::Buffer { buffer, place }),
     }
-    println!(rt; " is {answered}, expected {expected}")
-}
-
-// A line that is not in the form.
-pub fn tell_malformed(rt: &impl Print, line: u64) -> io::Result<()> {
-    println!(rt; "line {line}: malformed")
 }

@@ -1,21 +1,21 @@
 // The two records that a line of a pair begins with.
-use lender::text::{hex, space};
+use lender::text::Fields;
 
-// The lengths of both records, and the offset after them.
+// Both records.
 #[derive(Clone, Copy)]
-pub struct Pair {
-    pub gold: usize,
-    pub gate: usize,
-    pub next: usize,
+pub struct Pair<'a> {
+    pub gold: &'a [u8],
+    pub gate: &'a [u8],
 }
 
-// The records from an offset on, put into the buffers.
-pub fn both_records(line: &[u8], from: usize, gold: &mut [u8], gate: &mut [u8]) -> Pair {
-    let first_record = hex(line, from, gold);
-    let second_record = hex(line, space(line, first_record.next), gate);
-    Pair {
-        gold: first_record.count,
-        gate: second_record.count,
-        next: second_record.next,
-    }
+// The records at the front, put into the buffers.
+pub fn both_records<'a>(
+    fields: &mut Fields,
+    gold: &'a mut [u8],
+    gate: &'a mut [u8],
+) -> Option<Pair<'a>> {
+    let gold = fields.hex(gold);
+    fields.space()?;
+    let gate = fields.hex(gate);
+    Some(Pair { gold, gate })
 }

@@ -1,19 +1,19 @@
 // A line of the call read: `read HEX = NUMBER SIDE PLACE`.
 use crate::refusal::{Refusal, told_refusal};
-use lender::text::hex;
+use lender::text::Fields;
 
-// What a line asks for and has as its answer: the record's length, and the three numbers, after which the line ends.
+// What a line asks for and has as its answer: the record and the three numbers, after which the line ends.
 #[derive(Clone, Copy)]
-pub struct ReadLine {
-    pub record: usize,
+pub struct ReadLine<'a> {
+    pub record: &'a [u8],
     pub refusal: Refusal,
 }
 
-// The line's parts; its record is put into `record`.
-pub fn read_line(line: &[u8], record: &mut [u8]) -> ReadLine {
-    let bytes = hex(line, 5, record);
-    ReadLine {
-        record: bytes.count,
-        refusal: told_refusal(line, bytes.next),
-    }
+// The parts of a line after its first word; its record is put into `record`.
+pub fn read_line<'a>(line: &[u8], record: &'a mut [u8]) -> Option<ReadLine<'a>> {
+    let mut fields = Fields::new(line);
+    let record = fields.hex(record);
+    let refusal = told_refusal(&mut fields)?;
+    fields.end()?;
+    Some(ReadLine { record, refusal })
 }

@@ -1,34 +1,39 @@
 // A line of the call replay: `replay GOLDHEX GATEHEX CYCLE CLAIMHEX = NUMBER SIDE PLACE YESNO`.
-use crate::pair::both_records;
+use crate::pair::{Pair, both_records};
 use crate::refusal::{Refusal, told_refusal};
-use lender::text::{hex, number, space, yes_or_no};
+use lender::text::Fields;
 
-// What a line asks for and has as its answer: the lengths of records and claim, the cycle; the three numbers, yes (1) or no (0), and the offset after them.
+// What a line asks for and has as its answer: the records, the cycle and the claim; the three numbers and yes or no, after which the line ends.
 #[derive(Clone, Copy)]
-pub struct ReplayLine {
-    pub gold: usize,
-    pub gate: usize,
+pub struct ReplayLine<'a> {
+    pub records: Pair<'a>,
     pub cycle: u64,
-    pub claim: usize,
+    pub claim: &'a [u8],
     pub refusal: Refusal,
-    pub yes: u64,
-    pub next: usize,
+    pub yes: bool,
 }
 
-// The line's parts; its records and its claim are put into the buffers.
-pub fn replay_line(line: &[u8], gold: &mut [u8], gate: &mut [u8], claim: &mut [u8]) -> ReplayLine {
-    let records = both_records(line, 7, gold, gate);
-    let cycle = number(line, space(line, records.next));
-    let bytes = hex(line, space(line, cycle.next), claim);
-    let refusal = told_refusal(line, bytes.next);
-    let yes = yes_or_no(line, space(line, refusal.next));
-    ReplayLine {
-        gold: records.gold,
-        gate: records.gate,
-        cycle: cycle.value,
-        claim: bytes.count,
+// The parts of a line after its first word; its records and its claim are put into the buffers.
+pub fn replay_line<'a>(
+    line: &[u8],
+    gold: &'a mut [u8],
+    gate: &'a mut [u8],
+    claim: &'a mut [u8],
+) -> Option<ReplayLine<'a>> {
+    let mut fields = Fields::new(line);
+    let records = both_records(&mut fields, gold, gate)?;
+    let cycle = fields.next_number()?;
+    fields.space()?;
+    let claim = fields.hex(claim);
+    let refusal = told_refusal(&mut fields)?;
+    fields.space()?;
+    let yes = fields.yes_or_no()?;
+    fields.end()?;
+    Some(ReplayLine {
+        records,
+        cycle,
+        claim,
         refusal,
-        yes: yes.value,
-        next: yes.next,
-    }
+        yes,
+    })
 }

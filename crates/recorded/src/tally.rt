@@ -1,13 +1,12 @@
-// What came of the lines so far: each is put together from what is read, and counted.
-ghost use Rattle.std.specs.Prelude.{◌≡◌, length};
+// What came of the lines so far, and the longest line.
+ghost use Rattle.std.specs.Prelude.{◌≡◌, ◌+◌, ◌-◌, ◌^◌, IsErr, IsOk, length, min};
 
-use crate::outcome::{Outcome, tell_difference, tell_malformed};
-use std::io;
+use crate::outcome::Trouble;
+use std::{fmt, io};
 
-// How many bytes of a line are held, how many lines ended, and what came of those that make a call.
+// How many lines ended, how many of them make a call, and how many of those differ.
 #[derive(Clone, Copy)]
 pub struct Tally {
-    pub held: usize,
     pub ended: u64,
     pub lines: u64,
     pub differ: u64,
@@ -20,45 +19,48 @@ pub fn line() -> [u8; 524288]
     [0; 524288]
 }
 
-// One more; the largest number stays.
-pub fn more(n: u64) -> u64 {
-    if n < u64::MAX { n + 1 } else { n }
-}
-
-// The tally after a line that made a call; an answer that differs is told.
-pub fn counted(rt: &impl Print, t: Tally, outcome: Outcome) -> io::Result<Tally> {
-    let mut next = t;
-    next.lines = more(t.lines);
-    match outcome {
-        Outcome::Same => {}
-        Outcome::Malformed => {
-            next.differ = more(t.differ);
-            tell_malformed(rt, t.ended)?;
-        }
-        Outcome::Differs(d) => {
-            next.differ = more(t.differ);
-            tell_difference(rt, t.ended, d)?;
+impl Tally {
+    // No line so far.
+    pub fn new() -> Self
+        ensures { result ≡ record { ended = 0; lines = 0; differ = 0 } }
+    {
+        Tally {
+            ended: 0,
+            lines: 0,
+            differ: 0,
         }
     }
-    Ok(next)
-}
 
-// One more byte of a line; a line that is longer than what can be held is counted as malformed.
-pub fn keep(line: &mut [u8], t: Tally, b: u8) -> Tally {
-    let n = t.held;
-    let mut next = t;
-    if n < line.len() {
-        line[n] = b;
-        next.held = n + 1;
-    } else {
-        next.held = usize::MAX;
+    // One more line ended; the largest number stays, here and below.
+    pub fn end_line(&mut self)
+        ensures ended { self.new.ended ≡ min (self.old.ended + 1) (2 ^ 64 - 1) }
+        ensures lines { self.new.lines ≡ self.old.lines }
+        ensures differ { self.new.differ ≡ self.old.differ }
+    {
+        self.ended = self.ended.saturating_add(1);
     }
-    next
+
+    // The line makes a call; what is wrong with it is told.
+    pub fn count(&mut self, rt: &impl Print, outcome: Result<(), Trouble>) -> io::Result<()>
+        ensures lines { self.new.lines ≡ min (self.old.lines + 1) (2 ^ 64 - 1) }
+        ensures agrees { IsOk outcome → self.new.differ ≡ self.old.differ }
+        ensures differs { IsErr outcome → self.new.differ ≡ min (self.old.differ + 1) (2 ^ 64 - 1) }
+        ensures ended { self.new.ended ≡ self.old.ended }
+    {
+        self.lines = self.lines.saturating_add(1);
+        if let Err(trouble) = outcome {
+            self.differ = self.differ.saturating_add(1);
+            let line = self.ended;
+            println!(rt; "line {line}: {trouble}")?;
+        }
+        Ok(())
+    }
 }
 
-// The closing line.
-pub fn tell(rt: &impl Print, t: Tally) -> io::Result<()> {
-    let lines = t.lines;
-    let differ = t.differ;
-    println!(rt; "{lines} lines, {differ} differ")
+impl fmt::Display for Tally {
+    fn fmt<W: fmt::Write>(&self, f: &mut fmt::Formatter<W>) -> fmt::Result {
+        let lines = self.lines;
+        let differ = self.differ;
+        write!(f, "{lines} lines, {differ} differ")
+    }
 }

@@ -3,33 +3,35 @@
 
 ghost use Rattle.std.specs.Prelude.{◌≡◌, List, ℕ, ◌≤◌, ltb};
 ghost use Rattle.model.specs.Pair.{check_fault};
-ghost use Rattle.calls.specs.Faults.{fault_of};
+ghost use Rattle.calls.specs.Causes.{fault_of};
 ghost use Rattle.calls.specs.Options.{options_of, lent_of};
 ghost use Rattle.struo_ir.specs.Decoded.{decoded};
 ghost use Rattle.struo_ir.specs.Designs.{Sized, Sided};
 ghost use Rattle.struo_ir.specs.Orders.{Formed};
+ghost use Rattle.pair.specs.PairReading.{said};
 ghost use Rattle.refusals.specs.Refusals.{frames_by, nodes_by, short_by, options_fault, size_fault, initial_and_size_fault, pair_fault};
 
-use calls::fault::Fault;
 use calls::options::{LIMIT, Lent, Options};
+use calls::refusal::{Cause, Refusal};
+use pair::accepted::Pair;
 use pair::checks::{initial_fault, interface_fault};
 use struo_ir::design::Design;
 use words::{LENT, MOST_NODES};
 
 // 16, 17 and 36. Depth and limit are tested as they came, before anything is computed from them.
-fn options_fault(options: Options) -> Fault
+fn options_fault(options: Options) -> Result<(), Refusal>
     ensures { fault_of result ≡ options_fault (options_of options) }
 {
     if options.depth == 0 {
-        return Fault::Refused(16, 0, 0);
+        return Err(Refusal::of_pair(Cause::ZeroDepth));
     }
     if options.depth > 64 {
-        return Fault::Refused(17, 0, 0);
+        return Err(Refusal::of_pair(Cause::DepthLimit));
     }
     if options.limit > LIMIT {
-        return Fault::Refused(36, 0, 0);
+        return Err(Refusal::of_pair(Cause::LearnedLimit));
     }
-    Fault::Nothing
+    Ok(())
 }
 
 // The specification's F: how many nodes a cycle makes at most.
@@ -73,83 +75,58 @@ fn size_fault(
     registers: usize,
     depth: usize,
     lent: Lent,
-) -> Fault
+) -> Result<(), Refusal>
     requires { (inputs ≤ 128) × (outputs ≤ 128) × (nodes ≤ 2048) × (registers ≤ 256) × (depth ≤ 64) }
     ensures { fault_of result ≡ size_fault inputs outputs nodes registers depth (lent_of lent) }
 {
     if too_large(inputs, outputs, nodes, registers, depth) {
-        return Fault::Refused(23, 0, 0);
+        return Err(Refusal::of_pair(Cause::TooLarge));
     }
     if too_short(inputs, outputs, depth, lent) {
-        return Fault::Refused(24, 0, 0);
+        return Err(Refusal::of_pair(Cause::Memory));
     }
-    Fault::Nothing
+    Ok(())
 }
 
 // 22 to 24.
 fn initial_and_size_fault(
-    gold_design: Design,
-    gate_design: Design,
+    gold: &Design,
+    gate: &Design,
     depth: usize,
     lent: Lent,
-) -> Fault
-    requires { (Sized gold_design.netlist) × (Sized gate_design.netlist) × (Formed gold_design.inputs) × (Formed gold_design.outputs)
-        × (Formed gold_design.registers) × (Formed gate_design.registers) × (depth ≤ 64) }
-    ensures { (s t : List ℕ) → Sided s gold_design → Sided t gate_design
-        → fault_of result ≡ initial_and_size_fault (decoded s gold_design.netlist) (decoded t gate_design.netlist) depth (lent_of lent) }
+) -> Result<(), Refusal>
+    requires { (Sized gold.now.netlist) × (Sized gate.now.netlist) × (Formed gold.now.inputs) × (Formed gold.now.outputs)
+        × (Formed gold.now.registers) × (Formed gate.now.registers) × (depth ≤ 64) }
+    ensures { (s t : List ℕ) → Sided s gold.now → Sided t gate.now
+        → fault_of result ≡ initial_and_size_fault (decoded s gold.now.netlist) (decoded t gate.now.netlist) depth (lent_of lent) }
 {
-    let initial = initial_fault(gold_design, gate_design);
-    match initial {
-        Fault::Refused(number, side, place) => Fault::Refused(number, side, place),
-        Fault::Nothing => {
-            let inputs = gold_design.inputs;
-            let outputs = gold_design.outputs;
-            let gold = gold_design.netlist;
-            let gate = gate_design.netlist;
-            let nodes = gold.node_count + gate.node_count;
-            let registers = gold.register_count + gate.register_count;
-            size_fault(inputs.count, outputs.count, nodes, registers, depth, lent)
-        }
-    }
+    initial_fault(gold, gate)?;
+    let nodes = gold.netlist.node_count + gate.netlist.node_count;
+    let registers = gold.netlist.register_count + gate.netlist.register_count;
+    size_fault(
+        gold.inputs.count,
+        gold.outputs.count,
+        nodes,
+        registers,
+        depth,
+        lent,
+    )
 }
 
 // 18 to 24.
-fn pair_fault(
-    gold: &[u8],
-    gold_design: Design,
-    gate: &[u8],
-    gate_design: Design,
-    depth: usize,
-    lent: Lent,
-) -> Fault
-    requires { (Sided gold.now gold_design) × (Sided gate.now gate_design) × (depth ≤ 64) }
-    ensures { fault_of result ≡ pair_fault (decoded gold.now gold_design.netlist) (decoded gate.now gate_design.netlist) depth (lent_of lent) }
+fn pair_fault(pair: &Pair, depth: usize, lent: Lent) -> Result<(), Refusal>
+    requires { depth ≤ 64 }
+    ensures { fault_of result ≡ pair_fault (said pair.now.gold) (said pair.now.gate) depth (lent_of lent) }
 {
-    let interface = interface_fault(gold, gold_design, gate, gate_design);
-    match interface {
-        Fault::Refused(number, side, place) => Fault::Refused(number, side, place),
-        Fault::Nothing => initial_and_size_fault(gold_design, gate_design, depth, lent),
-    }
+    interface_fault(pair)?;
+    initial_and_size_fault(&pair.gold.design, &pair.gate.design, depth, lent)
 }
 
 // The first refusal of 16, 17, 36 and 18 to 24.
-pub fn check_fault(
-    gold: &[u8],
-    gold_design: Design,
-    gate: &[u8],
-    gate_design: Design,
-    options: Options,
-    lent: Lent,
-) -> Fault
-    requires { (Sided gold.now gold_design) × (Sided gate.now gate_design) }
-    ensures { fault_of result ≡ check_fault (decoded gold.now gold_design.netlist) (decoded gate.now gate_design.netlist) (options_of options) (lent_of lent) }
+pub fn check_fault(pair: &Pair, options: Options, lent: Lent) -> Result<(), Refusal>
+    ensures { fault_of result ≡ check_fault (said pair.now.gold) (said pair.now.gate) (options_of options) (lent_of lent) }
 {
-    let first = options_fault(options);
-    match first {
-        Fault::Refused(number, side, place) => Fault::Refused(number, side, place),
-        Fault::Nothing => {
-            let depth = options.depth as usize;
-            pair_fault(gold, gold_design, gate, gate_design, depth, lent)
-        }
-    }
+    options_fault(options)?;
+    let depth = options.depth as usize;
+    pair_fault(pair, depth, lent)
 }

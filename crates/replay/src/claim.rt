@@ -1,21 +1,19 @@
 // The check of a claimed trace, refusal 25.
 ghost use Rattle.std.specs.Prelude.{◌≡◌, ◌≤◌};
 ghost use Rattle.model.specs.Pair.{all_bits};
-ghost use Rattle.calls.specs.Faults.{fault_of};
+ghost use Rattle.calls.specs.Causes.{fault_of};
 ghost use Rattle.replay.specs.ClaimChecks.{claim_bad, claim_fault};
 
-use calls::fault::Fault;
+use calls::refusal::{Cause, Refusal};
 
 // Every byte is 0 or 1.
 pub fn all_bits(claim: &[u8]) -> bool
     ensures { result ≡ all_bits claim.now }
 {
-    let mut k: usize = 0;
-    while k < claim.len() {
-        if claim[k] >= 2 {
+    for &byte in claim {
+        if byte >= 2 {
             return false;
         }
-        k += 1;
     }
     true
 }
@@ -35,14 +33,14 @@ fn bad_claim(inputs: usize, outputs: usize, cycle: u64, claim: &[u8]) -> bool
     !all_bits(claim)
 }
 
-// 25 as a fault.
-pub fn claim_fault(inputs: usize, outputs: usize, cycle: u64, claim: &[u8]) -> Fault
+// 25.
+pub fn claim_fault(inputs: usize, outputs: usize, cycle: u64, claim: &[u8]) -> Result<(), Refusal>
     requires { (inputs ≤ 128) × (outputs ≤ 128) }
     ensures { fault_of result ≡ claim_fault inputs outputs cycle claim.now }
 {
     if bad_claim(inputs, outputs, cycle, claim) {
-        Fault::Refused(25, 0, 0)
+        Err(Refusal::of_pair(Cause::Claim))
     } else {
-        Fault::Nothing
+        Ok(())
     }
 }

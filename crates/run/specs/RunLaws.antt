@@ -1,7 +1,7 @@
 -- Laws of one cycle of the run on rows by value. Assumes nothing.
 use Rattle.std.specs.Prelude.{ℕ, zero, suc, ◌+◌, ◌-◌, ◌<◌, ◌≤◌, ◌%◌, ◌≡◌, refl, Bool, true, false, cond, not, List, [], ◌∷◌, ◌++◌, map, eqb, length, take, drop, get_or, set, replicate}
 use Rattle.std.proofs.Common.{sym, ap, ◌∙◌, arith, add-one, length-take, take-append-drop, drop_of_length-le, drop-cons, take-suc-set, drop-set-lt, get_or-take, length-take-le}
-use Rattle.std.proofs.Math.Bool.{xor}
+use Rattle.std.proofs.Math.Bool.{xor, beq}
 use Rattle.std.proofs.Math.Option.{Option, none, some}
 use borrow.Author.Tests.{eq-eqb, ne_eqb, eqb-true}
 use Rattle.std.proofs.lemmas.List.{length-map}
@@ -51,17 +51,13 @@ module _ (values : List Bool) (stored : Bool) (r : RegisterCell) where
 
 -- ---- exclusive or
 
--- the first bit is set
-pub xor-true : (b : Bool) → not b ≡ xor true b
+-- two bits differ
+pub xor_apart : (a b : Bool) → not (beq a b) ≡ xor a b
 unfolding xor
-xor-true true = refl
-xor-true false = refl
-
--- the first bit is not set
-pub xor-false : (b : Bool) → b ≡ xor false b
-unfolding xor
-xor-false true = refl
-xor-false false = refl
+xor_apart true true = refl
+xor_apart true false = refl
+xor_apart false true = refl
+xor_apart false false = refl
 
 -- ---- rows
 

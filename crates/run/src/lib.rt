@@ -1,6 +1,5 @@
 // The plain run of a decoded design by rows of bits, and the table of ranks that it reads.
 #![tactic(auto)]
 
-pub mod bits;
 pub mod run;
 pub mod tables;

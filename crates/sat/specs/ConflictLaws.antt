@@ -28,11 +28,13 @@ use Rattle.sat.specs.CapacityLaws.{analysis-fits, asserting_below, clause-below,
 use Rattle.sat.specs.ViewLaws.{analysis_of_lem}
 use Rattle.sat.specs.State.{base_of, state_of, Marks, Stopped, solve_regions, Results, Assertable}
 use Rattle.sat.specs.declared.state.State.{State}
-use Rattle.sat.specs.declared.state.Step.{Step}
-use Rattle.sat.specs.declared.state.Step.TheVariants as Steps
+use Rattle.sat.specs.declared.state.Answer.{Answer}
+use Rattle.sat.specs.declared.state.Answer.TheVariants as Answered
+use Rattle.std.specs.declared.ops.ControlFlow.{ControlFlow}
+use Rattle.std.specs.declared.ops.ControlFlow.TheVariants.{Break}
 
 -- a result after other words and scores of the search were written
-pub results_after : {limit n : ℕ} {w w₁ : List ℕ} {x x₁ : List Float} {goal goal₁ : Sat.Search} {r : Step} {w' : List ℕ} {x' : List Float}
+pub results_after : {limit n : ℕ} {w w₁ : List ℕ} {x x₁ : List Float} {goal goal₁ : Sat.Search} {r : ControlFlow Answer State} {w' : List ℕ} {x' : List Float}
     → Unchanged solve_regions w w₁ → Others n x x₁ → goal₁ ≡ goal → Results limit n w₁ x₁ goal₁ r w' x' → Results limit n w x goal r w' x'
 results_after f o e r =
     record { is = r.is ∙ e; next = r.next; others = others-both _ o r.others; frame = unchanged_both solve_regions f r.frame }
@@ -47,7 +49,7 @@ module _ (limit : ℕ) (s : State) (w : List ℕ) (x : List Float) (id : ℕ) (h
   unfolding state_of solver_of
   level-here = level-is s.trail w h.fits.sound.formed.ready
 
-  pub conflict_bottom : s.trail.level ≡ 0 → Results limit s.trail.variables w x (Sat.after_conflict limit S id (Sat.decision_level S.assignment)) (Steps.NoModel s.learned) w x
+  pub conflict_bottom : s.trail.level ≡ 0 → Results limit s.trail.variables w x (Sat.after_conflict limit S id (Sat.decision_level S.assignment)) (Break (Answered.NoModel s.learned)) w x
   unfolding Sat.after_conflict state_of solver_of base_of
   conflict_bottom e =
       record {
@@ -139,7 +141,7 @@ module _ (limit : ℕ) (s : State) (w : List ℕ) (x : List Float) (id : ℕ) (h
           ap (Sat.after_conflict limit S id) level-suc ∙ ap (Sat.after_analysis limit S) analyzed
           ∙ ap (Sat.learn_unless S (Sat.decay_activity A.scores) (negate r.pivot.0) A.learned) e
 
-      pub conflict_over : limit < s.learned + count + 1 → Results limit s.trail.variables w x (Sat.after_conflict limit S id (Sat.decision_level S.assignment)) (Steps.GaveUp s.learned) w₁ x₁
+      pub conflict_over : limit < s.learned + count + 1 → Results limit s.trail.variables w x (Sat.after_conflict limit S id (Sat.decision_level S.assignment)) (Break (Answered.GaveUp s.learned)) w₁ x₁
       unfolding Sat.learn_unless state_of solver_of base_of
       conflict_over k =
           record {
@@ -226,7 +228,7 @@ module _ (limit : ℕ) (s : State) (w : List ℕ) (x : List Float) (id : ℕ) (h
             ∙ ap (λ (k : ℕ). Sat.assert_learned k (negate r.pivot.0) (Sat.learn S (Sat.decay_activity A.scores) (negate r.pivot.0) A.learned)) clause_count
             ∙ sym (outcome false (le-ltb limit (s.learned + suc (length A.learned)) (omega (arith, length-is))))
 
-        pub conflict_learns : (q : Step) (w' : List ℕ) (x' : List Float)
+        pub conflict_learns : (q : ControlFlow Answer State) (w' : List ℕ) (x' : List Float)
             → Results limit s.trail.variables w₁ x₁ (Sat.assert_learned s.store.clauses (negate r.pivot.0) (Sat.learn (state_of decayed w₁ x₁) (state_of decayed w₁ x₁).scores (negate r.pivot.0) (column count LEARNED w₁))) q w' x'
             → Results limit s.trail.variables w x (Sat.after_conflict limit S id (Sat.decision_level S.assignment)) q w' x'
         conflict_learns q w' x' y = results_after frame₁ z.others goal-same y

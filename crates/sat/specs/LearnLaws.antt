@@ -5,8 +5,8 @@ use Rattle.std.proofs.Common.{ap, sym, subst, ◌∙◌, add-one, length-take-le
 use Prim.Native.Nat.{ℕ, zero, suc, ◌+◌, ◌-◌, ◌*◌, ◌<◌, ◌≤◌}
 use native.Mathlib.Omega.{arith}
 use Rattle.std.proofs.Math.ListN.{length, length-drop}
-use Rattle.std.proofs.Math.Seq.{take-suc, get_or-drop, slice_empty}
-use Rattle.words.specs.Layout.{LENT, SMALL, STARTS, POOL, LEARNED, BLOCKS, LITERALS}
+use Rattle.std.proofs.Math.Seq.{take-suc, get_or-drop}
+use Rattle.words.specs.Layout.{LENT, SMALL, STARTS, POOL, LEARNED, BLOCKS}
 use Rattle.words.specs.Region.{region, length-region}
 use Rattle.model.specs.Lists.{snoc}
 use Rattle.model.specs.Sat as Sat
@@ -17,7 +17,7 @@ use Rattle.assignment.specs.Blocks.{Unsigned, Cached, Undoes}
 use Rattle.assignment.specs.KnownLaws.{cached-kept}
 use Rattle.assignment.specs.declared.state.Activity.{Activity}
 use Rattle.assignment.specs.Scores.{Others}
-use Rattle.assignment.specs.StateLaws.{unchanged_none, unchanged_both, unchanged_within, assignment-kept}
+use Rattle.assignment.specs.StateLaws.{unchanged_both, unchanged_within, assignment-kept}
 use Rattle.assignment.specs.declared.state.Trail.{Trail}
 use Rattle.clauses.specs.State.{solver_of, scored, encode_regions, SoundStore, watch_regions, add_regions, pool_literals, Attachable, AllBelow, Pooled, clean, Added, AddedList}
 use Rattle.clauses.specs.KeptLaws.{sound-kept, solver_kept}
@@ -41,15 +41,6 @@ module _ (m : Store) (t : Trail) (start count : ℕ) (w₀ : List ℕ) where
     pub inside : i ≤ count
     pub long : length w ≡ length w₀
     pub done : Pushes m t start i w₀ w
-
-  pub pushing_start : SoundStore m t w₀ [] → Pushing 0 w₀
-  pushing_start s =
-      let e : m.literals + 0 ≡ m.literals = omega arith in
-      record {
-        inside = omega arith;
-        long = refl;
-        done = record { literals = rw e (slice_empty m.literals (region LITERALS w₀)); frame = unchanged_none watch_regions w₀; sound = s; is = λ s. refl };
-      }
 
   -- one more word of a part
   part-more : (i s : ℕ) (r : List ℕ) → s + i < length r → snoc (part i s r) (get_or r (s + i) 0) ≡ part (i + 1) s r
@@ -75,9 +66,6 @@ module _ (m : Store) (t : Trail) (start count : ℕ) (w₀ : List ℕ) where
               is = λ s. p.is s ∙ d.is s;
             };
       }
-
-  pub pushes : (i : ℕ) (w : List ℕ) → Pushing i w → count ≤ i → Pushes m t start count w₀ w
-  pushes i w g h = let e : i ≡ count = omega arith in rw e at g.done
 
   -- what `add_clause` asks
   pub learned-asked : (w : List ℕ) (x : List Float) → Pushes m t start count w₀ w → m.literals + count ≤ POOL → m.clauses + 1 < STARTS → 0 < count → t.variables ≤ length x

@@ -8,23 +8,17 @@ use Rattle.model.specs.Sat as Sat
 use Rattle.laws.specs.Search.State.{Idle}
 use Rattle.laws.specs.Search.Loop.{Keeps}
 use Rattle.laws.specs.Search.Step.{AnswerOk, step_keeps}
-use Rattle.assignment.specs.State.{Unchanged, model_of}
+use Rattle.assignment.specs.State.{Unchanged}
 use Rattle.assignment.specs.Scores.{Others}
-use Rattle.assignment.specs.StateLaws.{unchanged_none, unchanged_both}
+use Rattle.assignment.specs.StateLaws.{unchanged_both}
 use Rattle.laws.specs.Search.Adding.{search_answered}
-use Rattle.assignment.specs.ScoreLaws.{others-none, others-both}
+use Rattle.assignment.specs.ScoreLaws.{others-both}
+pub use Rattle.sat.specs.State.{search_answer}
 use Rattle.sat.specs.State.{state_of, step_of, Going, solve_regions, Results}
 use Rattle.sat.specs.declared.state.State.{State}
-use Rattle.sat.specs.declared.state.Step.{Step}
-use Rattle.sat.specs.declared.state.Step.TheVariants as Steps
+use Rattle.std.specs.declared.ops.ControlFlow.{ControlFlow}
+use Rattle.std.specs.declared.ops.ControlFlow.TheVariants.{Continue, Break}
 use Rattle.sat.specs.declared.state.Answer.{Answer}
-use Rattle.sat.specs.declared.state.Answer.TheVariants as Answers
-
--- the definition's answer, with the values of n variables
-abbrev pub search_answer : ℕ → Answer → List ℕ → Sat.Answer
-search_answer n (Answers.Model k) w = Sat.model (model_of n w) k
-search_answer n (Answers.NoModel k) w = Sat.no_model k
-search_answer n (Answers.GaveUp k) w = Sat.gave_up k
 
 -- the definition's answer after so many rounds
 abbrev pub ran_from : ℕ → ℕ → State → List ℕ → List Float → Sat.Answer
@@ -50,9 +44,6 @@ module _ (limit : ℕ) (s₀ : State) (w₀ : List ℕ) (x₀ : List Float) (rou
     pub frame : Unchanged solve_regions w₀ w
     pub same : ran_from limit left s w x ≡ ran_from limit rounds s₀ w₀ x₀
 
-  pub rounds-start : Searchable limit s₀ w₀ x₀ rounds → Rounds s₀ w₀ x₀ rounds
-  rounds-start h = record { here = h; variables = refl; others = others-none s₀.trail.variables x₀; frame = unchanged_none solve_regions w₀; same = refl }
-
   module _ (s : State) (w : List ℕ) (x : List Float) (left : ℕ) (i : Rounds s w x left) where
     -- a round is left
     pub some_left : 0 < left
@@ -63,7 +54,7 @@ module _ (limit : ℕ) (s₀ : State) (w₀ : List ℕ) (x₀ : List Float) (rou
         go zero e = absurd (i.here.ends (state_of s w x).learned (ap (λ (k : ℕ). ran_from limit k s w x) e))
         go (suc k) e = omega arith
 
-    module _ (r : Step) (w' : List ℕ) (x' : List Float) (q : Results limit s.trail.variables w x (Sat.step limit (state_of s w x)) r w' x') where
+    module _ (r : ControlFlow Answer State) (w' : List ℕ) (x' : List Float) (q : Results limit s.trail.variables w x (Sat.step limit (state_of s w x)) r w' x') where
       -- one round done
       one-done : ran_from limit left s w x ≡ Sat.search_rounds limit (left - 1) (step_of s.trail.variables r w' x')
       unfolding Sat.search_rounds
@@ -78,10 +69,10 @@ module _ (limit : ℕ) (s₀ : State) (w₀ : List ℕ) (x₀ : List Float) (rou
       frame_so_far = unchanged_both solve_regions i.frame q.frame
 
       -- the search goes on
-      pub rounds-next : (u : State) → r ≡ Steps.Searching u → Rounds u w' x' (left - 1)
+      pub rounds-next : (u : State) → r ≡ Continue u → Rounds u w' x' (left - 1)
       rounds-next u e =
           let g = i.here.going in
-          let z : Results limit s.trail.variables w x (Sat.step limit (state_of s w x)) (Steps.Searching u) w' x' = rw e at q in
+          let z : Results limit s.trail.variables w x (Sat.step limit (state_of s w x)) (Continue u) w' x' = rw e at q in
           let on : ran_from limit left s w x ≡ ran_from limit (left - 1) u w' x' = rw e at one-done in
           let C = (Sat.encode g.graph g.assumptions).clauses in
           record {
@@ -111,13 +102,7 @@ module _ (limit : ℕ) (s₀ : State) (w₀ : List ℕ) (x₀ : List Float) (rou
       finished : (a : Answer) → search_answer s₀.trail.variables a w' ≡ ran_from limit rounds s₀ w₀ x₀ → Searches limit s₀ w₀ x₀ rounds a w' x'
       finished a e = record { is = e; others = others_so_far; frame = frame_so_far }
 
-      pub rounds-model : (k : ℕ) → r ≡ Steps.Model k → Searches limit s₀ w₀ x₀ rounds (Answers.Model k) w' x'
-      rounds-model k e =
-          finished (Answers.Model k)
-          (ap (λ (n : ℕ). Sat.model (model_of n w') k) (sym i.variables) ∙ answered-same (Sat.model (model_of s.trail.variables w') k) (ap (λ (z : Step). step_of s.trail.variables z w' x') e))
-
-      pub rounds-none : (k : ℕ) → r ≡ Steps.NoModel k → Searches limit s₀ w₀ x₀ rounds (Answers.NoModel k) w' x'
-      rounds-none k e = finished (Answers.NoModel k) (answered-same (Sat.no_model k) (ap (λ (z : Step). step_of s.trail.variables z w' x') e))
-
-      pub rounds_gave_up : (k : ℕ) → r ≡ Steps.GaveUp k → Searches limit s₀ w₀ x₀ rounds (Answers.GaveUp k) w' x'
-      rounds_gave_up k e = finished (Answers.GaveUp k) (answered-same (Sat.gave_up k) (ap (λ (z : Step). step_of s.trail.variables z w' x') e))
+      pub rounds-answered : (a : Answer) → r ≡ Break a → Searches limit s₀ w₀ x₀ rounds a w' x'
+      rounds-answered a e =
+          finished a
+          (ap (λ (n : ℕ). search_answer n a w') (sym i.variables) ∙ answered-same (search_answer s.trail.variables a w') (ap (λ (z : ControlFlow Answer State). step_of s.trail.variables z w' x') e))

@@ -1,8 +1,9 @@
 -- Laws of the whole search: from the encoding of a graph and its assumptions to the definition's answer. Assumes nothing.
-use Rattle.std.specs.Prelude.{◌≡◌, Bool, true, false, List, [], ◌∷◌, ℕ, ◌+◌, ◌*◌, ◌<◌, ◌≤◌, take, get_or, Float}
+use Rattle.std.specs.Prelude.{◌≡◌, true, false, List, [], ◌∷◌, ℕ, ◌+◌, ◌*◌, ◌<◌, ◌≤◌, take, get_or, Float}
+use Rattle.std.specs.Prelude as Std
 use Rattle.std.proofs.Math.Path.{refl, ap}
-use Rattle.std.proofs.Common.{sym, ◌∙◌, arith, mul-le-mul, get_or-take}
-use Rattle.std.proofs.Math.Option.{some}
+use Rattle.std.proofs.Common.{sym, ◌∙◌, arith, get_or-take}
+use Rattle.std.proofs.Math.Option.{Option, none, some}
 use Rattle.std.proofs.Math.ListN.{length}
 use Rattle.std.proofs.lemmas.List.{get_or-replicate}
 use Rattle.std.proofs.Math.Seq.{length-take-le}
@@ -23,7 +24,7 @@ use Rattle.assignment.specs.declared.state.Activity.{Activity}
 use Rattle.assignment.specs.DecideLaws.{clears}
 use Rattle.assignment.specs.KnownLaws.{cached-kept, cached-grown}
 use Rattle.assignment.specs.OrderLaws.{one-unsigned}
-use Rattle.assignment.specs.declared.state.Enqueued.{Enqueued}
+use Rattle.assignment.specs.declared.state.Trail.{Trail}
 use Rattle.clauses.specs.Clauses.{clauses_of, watches_of}
 use Rattle.clauses.specs.State.{solver_of, scored, flagged, encoded_of, Encodable, Encodes, Holds, encode_regions}
 use Rattle.clauses.specs.KeptLaws.{sound-kept, solver_kept}
@@ -53,10 +54,6 @@ pub record Solves (limit n : ℕ) (w : List ℕ) (x : List Float) (ls : List ℕ
   pub others : Others n x x'
   pub frame : Unchanged solve_regions w w'
 
--- the rounds fit a word
-pub rounds_fit : (limit n : ℕ) → limit ≤ MOST-LEARNED → n ≤ MOST-NODES → (limit + 2) * (n + 2) ≤ (MOST-LEARNED + 2) * (MOST-NODES + 2)
-rounds_fit limit n a b = mul-le-mul {n₁ = limit + 2} {m₁ = n + 2} {n₂ = MOST-LEARNED + 2} {m₂ = MOST-NODES + 2} (omega arith) (omega arith)
-
 module _ (limit n : ℕ) (w : List ℕ) (x : List Float) (ls : List ℕ) (count : ℕ) (h : Solvable limit n w x ls count) (r : Encoded) (w₁ : List ℕ) (x₁ : List Float) (E : Encodes n w x ls count r w₁ x₁) where
   -- the assumptions
   abbrev given : List ℕ
@@ -85,26 +82,25 @@ module _ (limit n : ℕ) (w : List ℕ) (x : List Float) (ls : List ℕ) (count 
   unfolding Sat.start Sat.start_unless encoded_of solver_of flagged scored Sat.new
   solve-inconsistent e = record { is = at_once (Sat.no_model 0) (ap (Sat.start_unless Z) e); others = E.others; frame = frame₁ }
 
-  module _ (consistent : r.encoding.inconsistent ≡ false) (u : Enqueued) (w₂ : List ℕ) (U : UnitStep r.encoding.store r.trail w₁ u w₂)
-      (q : enqueued u.ok (assignment_of u.trail w₂) ≡ Sat.initialize_units 0 (clauses_of r.encoding.store.clauses w₁) (some (assignment_of r.trail w₁))) where
-    start_is : Sat.start Z ≡ Sat.after_enqueue Z (enqueued u.ok (assignment_of u.trail w₂))
+  module _ (consistent : r.encoding.inconsistent ≡ false) (v : Trail) (w₂ : List ℕ) (U : UnitStep r.encoding.store r.trail w₁ v w₂) where
+    start_is : (o : Option Sat.Assignment) → o ≡ Sat.initialize_units 0 (clauses_of r.encoding.store.clauses w₁) (some (assignment_of r.trail w₁)) → Sat.start Z ≡ Sat.after_enqueue Z o
     unfolding Sat.start Sat.start_unless encoded_of solver_of flagged scored
-    start_is = ap (Sat.start_unless Z) consistent ∙ ap (Sat.after_enqueue Z) (sym q)
+    start_is o q = ap (Sat.start_unless Z) consistent ∙ ap (Sat.after_enqueue Z) (sym q)
 
     frame₂ : Unchanged solve_regions w w₂
     frame₂ = unchanged_both solve_regions frame₁ (unchanged_within assignment_regions solve_regions refl U.frame)
 
     -- two unit clauses are opposite
-    pub solve_opposite : u.ok ≡ false → Solves limit n w x ls count (Answers.NoModel 0) w₂ x₁
+    pub solve_opposite : enqueued (Std.Err v) w₂ ≡ Sat.initialize_units 0 (clauses_of r.encoding.store.clauses w₁) (some (assignment_of r.trail w₁)) → Solves limit n w x ls count (Answers.NoModel 0) w₂ x₁
     unfolding Sat.after_enqueue enqueued encoded_of solver_of flagged scored Sat.new
-    solve_opposite e =
+    solve_opposite q =
         record {
-          is = at_once (Sat.no_model 0) (start_is ∙ ap (λ (b : Bool). Sat.after_enqueue Z (enqueued b (assignment_of u.trail w₂))) e);
+          is = at_once (Sat.no_model 0) (start_is none q);
           others = E.others;
           frame = frame₂;
         }
 
-    module _ (ok : u.ok ≡ true) (w₃ : List ℕ) (cleared-is : w₃ ≡ cleared SEEN w₂ n) (words : LENT ≤ length w₃) (a : Activity) (A : Starts a) where
+    module _ (q : enqueued (Std.Ok v) w₂ ≡ Sat.initialize_units 0 (clauses_of r.encoding.store.clauses w₁) (some (assignment_of r.trail w₁))) (w₃ : List ℕ) (cleared-is : w₃ ≡ cleared SEEN w₂ n) (words : LENT ≤ length w₃) (a : Activity) (A : Starts a) where
       -- the marks of the search before are cleared
       C : Cleared SEEN n w₂ w₃
       C = clears SEEN n w₂ w₃ (omega (arith, h.encodable.variables)) (omega (arith, U.sound.formed.ready.words)) cleared-is words
@@ -114,23 +110,23 @@ module _ (limit n : ℕ) (w : List ℕ) (x : List Float) (ls : List ℕ) (count 
 
       -- the state before the first round
       abbrev first : State
-      first = record { store = r.encoding.store; trail = u.trail; activity = a; learned = 0 }
+      first = record { store = r.encoding.store; trail = v; activity = a; learned = 0 }
 
-      variables_are : u.trail.variables ≡ n
+      variables_are : v.variables ≡ n
       variables_are = U.variables ∙ E.variables
 
-      units_are : state_of first w₂ x₁ ≡ Sat.with_assignment Z (assignment_of u.trail w₂)
+      units_are : state_of first w₂ x₁ ≡ Sat.with_assignment Z (assignment_of v w₂)
       unfolding state_of base_of scores_of solver_of encoded_of flagged scored Sat.new Sat.with_assignment watches_of
       units_are = rw (assigned_clauses r.encoding.store.clauses w₁ w₂ U.frame, U.variables, assigned_queues r.trail.variables w₁ w₂ U.frame, A.increment, consistent)
 
       -- the marks are no part of it
-      first-is : state_of first w₃ x₁ ≡ Sat.with_assignment Z (assignment_of u.trail w₂)
+      first-is : state_of first w₃ x₁ ≡ Sat.with_assignment Z (assignment_of v w₂)
       unfolding state_of
-      first-is = solver_kept (SEEN ∷ []) refl r.encoding.store u.trail w₂ w₃ C.frame (base_of first x₁) ∙ units_are
+      first-is = solver_kept (SEEN ∷ []) refl r.encoding.store v w₂ w₃ C.frame (base_of first x₁) ∙ units_are
 
       begins : Sat.start Z ≡ Sat.searching (state_of first w₃ x₁)
       unfolding Sat.after_enqueue enqueued
-      begins = start_is ∙ ap (λ (b : Bool). Sat.after_enqueue Z (enqueued b (assignment_of u.trail w₂))) ok ∙ ap Sat.searching (sym first-is)
+      begins = start_is (some (assignment_of v w₂)) q ∙ ap Sat.searching (sym first-is)
 
       reached : Reached limit h.graph given (state_of first w₃ x₁)
       reached = begun (ap Sat.start (sym (E.is h.graph h.holds)) ∙ begins)
@@ -147,7 +143,7 @@ module _ (limit n : ℕ) (w : List ℕ) (x : List Float) (ls : List ℕ) (count 
       first_fits : Fits limit first w₃ x₁
       first_fits =
           record {
-            sound = sound-kept (SEEN ∷ []) refl r.encoding.store u.trail w₂ w₃ C.frame [] long U.sound;
+            sound = sound-kept (SEEN ∷ []) refl r.encoding.store v w₂ w₃ C.frame [] long U.sound;
             scores = omega (arith, variables_are, h.encodable.scores, E.others.long);
             fixed = A.fixed;
             limited = h.limited;
@@ -155,8 +151,8 @@ module _ (limit n : ℕ) (w : List ℕ) (x : List Float) (ls : List ℕ) (count 
             clauses = omega (arith, E.clauses, h.encodable.variables, h.few);
             literals = omega (arith, E.literals, h.encodable.variables, h.few);
             cached =
-                cached-kept (SEEN ∷ []) u.trail a x₁ refl C.frame
-                (cached-grown r.trail w₁ u.trail w₂ a x₁ U.variables (U.frame.same BLOCKS refl) U.grows (E.cached a (rw A.increment one-unsigned)));
+                cached-kept (SEEN ∷ []) v a x₁ refl C.frame
+                (cached-grown r.trail w₁ v w₂ a x₁ U.variables (U.frame.same BLOCKS refl) U.grows (E.cached a (rw A.increment one-unsigned)));
           }
 
       -- nothing is marked

@@ -12,8 +12,10 @@ use Rattle.clauses.specs.State.{solver_of, SoundStore, encode_regions}
 use Rattle.analysis.specs.Analysis.{Unmarked}
 use Rattle.sat.specs.LearnLaws.{learned_clause, Learnable}
 use Rattle.sat.specs.declared.state.State.{State}
-use Rattle.sat.specs.declared.state.Step.{Step}
-use Rattle.sat.specs.declared.state.Step.TheVariants as Steps
+use Rattle.sat.specs.declared.state.Answer.{Answer}
+use Rattle.sat.specs.declared.state.Answer.TheVariants as Answers
+use Rattle.std.specs.declared.ops.ControlFlow.{ControlFlow}
+use Rattle.std.specs.declared.ops.ControlFlow.TheVariants.{Continue, Break}
 
 -- ---- THE ABSTRACTION
 
@@ -33,12 +35,16 @@ base_of s x =
 unfoldable pub state_of : State → List ℕ → List Float → Sat.Solver
 state_of s w x = solver_of (base_of s x) s.store s.trail w
 
+-- the definition's answer, with the values of n variables
+abbrev pub search_answer : ℕ → Answer → List ℕ → Sat.Answer
+search_answer n (Answers.Model k) w = Sat.model (model_of n w) k
+search_answer n (Answers.NoModel k) w = Sat.no_model k
+search_answer n (Answers.GaveUp k) w = Sat.gave_up k
+
 -- the definition's search after a round
-abbrev pub step_of : ℕ → Step → List ℕ → List Float → Sat.Search
-step_of n (Steps.Searching s) w x = Sat.searching (state_of s w x)
-step_of n (Steps.Model k) w x = Sat.answered (Sat.model (model_of n w) k)
-step_of n (Steps.NoModel k) w x = Sat.answered (Sat.no_model k)
-step_of n (Steps.GaveUp k) w x = Sat.answered (Sat.gave_up k)
+abbrev pub step_of : ℕ → ControlFlow Answer State → List ℕ → List Float → Sat.Search
+step_of n (Continue s) w x = Sat.searching (state_of s w x)
+step_of n (Break a) w x = Sat.answered (search_answer n a w)
 
 -- ---- what holds throughout
 
@@ -81,14 +87,12 @@ abbrev pub solve_regions : List ℕ
 solve_regions = SEEN ∷ LEARNED ∷ encode_regions
 
 -- a search that goes on is sound, with the same variables
-abbrev pub Next : ℕ → ℕ → Step → List ℕ → List Float → Type 0
-Next limit n (Steps.Searching s) w x = Fits limit s w x × (s.trail.variables ≡ n) × Marks s.store.clauses s w
-Next limit n (Steps.Model k) w x = Unit {0}
-Next limit n (Steps.NoModel k) w x = Unit {0}
-Next limit n (Steps.GaveUp k) w x = Unit {0}
+abbrev pub Next : ℕ → ℕ → ControlFlow Answer State → List ℕ → List Float → Type 0
+Next limit n (Continue s) w x = Fits limit s w x × (s.trail.variables ≡ n) × Marks s.store.clauses s w
+Next limit n (Break a) w x = Unit {0}
 
 -- the search is what the definition says
-pub record Results (limit n : ℕ) (w : List ℕ) (x : List Float) (goal : Sat.Search) (r : Step) (w' : List ℕ) (x' : List Float) : Type 0 where
+pub record Results (limit n : ℕ) (w : List ℕ) (x : List Float) (goal : Sat.Search) (r : ControlFlow Answer State) (w' : List ℕ) (x' : List Float) : Type 0 where
   pub is : step_of n r w' x' ≡ goal
   pub next : Next limit n r w' x'
   pub others : Others n x x'

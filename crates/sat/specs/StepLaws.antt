@@ -1,5 +1,6 @@
 -- Laws of a round of the search by the end of its propagation: a decision, the model, or a conflict. Assumes nothing.
 use Rattle.std.specs.Prelude.{◌≡◌, List, [], ◌∷◌, map, ℕ, ◌<◌, ◌≤◌, length, take, Float}
+use Rattle.std.specs.Prelude as Std
 use Rattle.std.proofs.Math.Path.{refl, ap, sym}
 use Rattle.std.proofs.Common.{subst, ◌∙◌, arith}
 use Rattle.words.specs.Layout.{SMALL, SEEN, BLOCKS}
@@ -24,10 +25,11 @@ use Rattle.assignment.specs.ScoreLaws.{others-none}
 use Rattle.sat.specs.DecideLaws.{Decides}
 use Rattle.sat.specs.State.{base_of, state_of, Fits, Marks, Going, Stopped, solve_regions, Results}
 use Rattle.sat.specs.ConflictLaws.{results_after}
-use Rattle.sat.specs.declared.state.Decided.TheVariants as Outcomes
 use Rattle.sat.specs.declared.state.State.{State}
-use Rattle.sat.specs.declared.state.Step.{Step}
-use Rattle.sat.specs.declared.state.Step.TheVariants as Steps
+use Rattle.sat.specs.declared.state.Answer.{Answer}
+use Rattle.sat.specs.declared.state.Answer.TheVariants as Answered
+use Rattle.std.specs.declared.ops.ControlFlow.{ControlFlow}
+use Rattle.std.specs.declared.ops.ControlFlow.TheVariants.{Continue, Break}
 
 -- the state with another trail
 abbrev pub moved : State → Trail → State
@@ -114,7 +116,7 @@ module _ (limit : ℕ) (s : State) (w : List ℕ) (x : List Float) (g : Going li
         ap (λ (u : Sat.Solver). Sat.after_conflict limit u id (Sat.decision_level u.assignment)) (moved-is s t w₁ x (same-variables t trail-conflict))
         ∙ sym (step_is ∙ ap (λ (q : Propagation). Sat.after_propagation limit (propagation_of (base_of s x) s.store w₁ q)) e)
 
-    pub step-conflict : (r : Step) (w' : List ℕ) (x' : List Float)
+    pub step-conflict : (r : ControlFlow Answer State) (w' : List ℕ) (x' : List Float)
         → Results limit t.variables w₁ x (Sat.after_conflict limit (state_of (moved s t) w₁ x) id (Sat.decision_level (state_of (moved s t) w₁ x).assignment)) r w' x'
         → Results limit s.trail.variables w x (Sat.step limit S) r w' x'
     step-conflict r w' x' y =
@@ -165,7 +167,7 @@ module _ (limit : ℕ) (s : State) (w : List ℕ) (x : List Float) (g : Going li
     unfolding solver_of scored base_of scores_of
     scored-same u w₂ = rw (same-variables t trail-complete)
 
-    pub step-model : (w₂ : List ℕ) → Decides s.store t w₁ x Outcomes.Nothing w₂ → Results limit s.trail.variables w x (Sat.step limit S) (Steps.Model s.learned) w₂ x
+    pub step-model : (w₂ : List ℕ) → Decides s.store t w₁ x Std.None w₂ → Results limit s.trail.variables w x (Sat.step limit S) (Break (Answered.Model s.learned)) w₂ x
     unfolding Sat.decide solver_of base_of assignment_of
     step-model w₂ d =
         let o = d.is (base_of s x) in
@@ -182,7 +184,7 @@ module _ (limit : ℕ) (s : State) (w : List ℕ) (x : List Float) (g : Going li
           frame = unchanged_both solve_regions frame₁ (unchanged_within (BLOCKS ∷ assignment_regions) solve_regions refl d.frame);
         }
 
-    pub step-decided : (u : Trail) (w₂ : List ℕ) → Decides s.store t w₁ x (Outcomes.Deeper u) w₂ → Results limit s.trail.variables w x (Sat.step limit S) (Steps.Searching (moved s u)) w₂ x
+    pub step-decided : (u : Trail) (w₂ : List ℕ) → Decides s.store t w₁ x (Std.Some u) w₂ → Results limit s.trail.variables w x (Sat.step limit S) (Continue (moved s u)) w₂ x
     step-decided u w₂ d =
         let same : u.variables ≡ s.trail.variables = d.variables ∙ same-variables t trail-complete in
         record {

@@ -5,22 +5,16 @@ ghost use Rattle.assignment.specs.Blocks.{Unsigned, KnownIn};
 ghost use Rattle.clauses.specs.State.{SoundStore};
 ghost use Rattle.sat.specs.DecideLaws.{Decides};
 
-use crate::state::Decided;
 use assignment::choice::choose_variable;
-use assignment::state::{Choice, Trail};
+use assignment::state::Trail;
 use assignment::trail::decide as assign_decision;
 use clauses::state::Store;
 
-// A decision, or nothing where every variable is assigned.
-pub fn decide(words: &mut [u32], scores: &[f64], store: Store, t: Trail) -> Decided
+// A decision, or none where every variable is assigned.
+pub fn decide(words: &mut [u32], scores: &[f64], store: Store, t: Trail) -> Option<Trail>
     requires { SoundStore store t words.old [] × (t.variables ≤ length scores.now) × (t.level < SMALL) × Unsigned (take t.variables scores.now) × KnownIn t words.old scores.now }
     ensures { Decides store t words.old scores.now result words.new }
 {
-    match choose_variable(words, scores, t) {
-        Choice::Nothing => Decided::Nothing,
-        Choice::Variable(v) => {
-            let next = assign_decision(words, t, v);
-            Decided::Deeper(next)
-        }
-    }
+    let v = choose_variable(words, scores, t)?;
+    Some(assign_decision(words, t, v))
 }

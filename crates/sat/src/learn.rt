@@ -23,11 +23,9 @@ fn push_learned(words: &mut [u32], store: Store, t: Trail, start: usize, count: 
     requires { SoundStore store t words.old [] × (store.literals + count ≤ POOL) × (start + count ≤ SMALL) }
     ensures { Pushes store t start count words.old words.new }
 {
-    let mut i: usize = 0;
-    while i < count {
+    for i in 0..count {
         let literal = Literal(load(words, LEARNED, start + i));
         push_literal(words, store, t, i, literal);
-        i += 1;
     }
 }
 

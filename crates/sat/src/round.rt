@@ -6,10 +6,11 @@ ghost use Rattle.sat.specs.State.{state_of, Assertable, Going, Stopped, Results}
 
 use crate::decide::decide;
 use crate::learn::learn;
-use crate::state::{Decided, State, Step};
+use crate::state::{Answer, State};
 use analysis::resolve::analyze;
 use assignment::scores::decay_activity;
 use literals::Literal;
+use std::ops::ControlFlow::{self, Break, Continue};
 use watches::propagate::propagate;
 use watches::state::Propagation;
 use watches::units::enqueue;
@@ -22,31 +23,24 @@ fn assert_learned(
     asserting: Literal,
     count: usize,
     limit: usize,
-) -> Step
+) -> ControlFlow<Answer, State>
     requires { Assertable limit s words.old scores.old asserting.0 count }
     ensures { Results limit s.trail.variables words.old scores.old
         (Sat.assert_learned s.store.clauses asserting.0 (Sat.learn (state_of s words.old scores.old) (state_of s words.old scores.old).scores asserting.0 (column count LEARNED words.old)))
         result words.new scores.new }
 {
-    let before = s.store;
-    let t = s.trail;
-    let activity = s.activity;
-    let reason = (before.clauses + 1) as u32;
+    let reason = (s.store.clauses + 1) as u32;
     let total = s.learned + count + 1;
-    let l = learn(words, scores, before, t, asserting, count);
-    let store = l.store;
-    let back = l.trail;
-    let e = enqueue(words, store, back, asserting, reason);
-    if !e.ok {
-        return Step::NoModel(total);
+    let l = learn(words, scores, s.store, s.trail, asserting, count);
+    match enqueue(words, l.store, l.trail, asserting, reason) {
+        Ok(trail) => Continue(State {
+            store: l.store,
+            trail,
+            activity: s.activity,
+            learned: total,
+        }),
+        Err(_) => Break(Answer::NoModel(total)),
     }
-    let trail = e.trail;
-    Step::Searching(State {
-        store,
-        trail,
-        activity,
-        learned: total,
-    })
 }
 
 // The search after a conflict: no model at level 0; else the clause that it teaches is learned, unless the total would pass the limit.
@@ -56,66 +50,61 @@ fn after_conflict(
     s: State,
     conflict: usize,
     limit: usize,
-) -> Step
+) -> ControlFlow<Answer, State>
     requires { Stopped limit s words.old scores.old conflict }
     ensures { Results limit s.trail.variables words.old scores.old
         (Sat.after_conflict limit (state_of s words.old scores.old) conflict (Sat.decision_level (state_of s words.old scores.old).assignment))
         result words.new scores.new }
 {
-    let learned = s.learned;
-    let trail = s.trail;
-    if trail.level == 0 {
-        return Step::NoModel(learned);
+    if s.trail.level == 0 {
+        return Break(Answer::NoModel(s.learned));
     }
-    let store = s.store;
-    let clauses = store.clauses;
-    let r = analyze(words, scores, trail, s.activity, clauses, conflict);
-    let analysis = r.analysis;
-    let pivot = r.pivot;
-    let count = analysis.learned;
-    let activity = decay_activity(analysis.activity);
-    let total = learned + count + 1;
+    let r = analyze(
+        words,
+        scores,
+        s.trail,
+        s.activity,
+        s.store.clauses,
+        conflict,
+    );
+    let total = s.learned + r.analysis.learned + 1;
     if limit < total {
-        return Step::GaveUp(learned);
+        return Break(Answer::GaveUp(s.learned));
     }
     let next = State {
-        store,
-        trail,
-        activity,
-        learned,
+        activity: decay_activity(r.analysis.activity),
+        ..s
     };
-    assert_learned(words, scores, next, pivot.negate(), count, limit)
+    assert_learned(
+        words,
+        scores,
+        next,
+        r.pivot.negate(),
+        r.analysis.learned,
+        limit,
+    )
 }
 
 // One round: propagation, then the clause that a conflict teaches, or a decision, or the model where every variable is assigned.
 // A propagation never ends unfinished.
-pub fn step(words: &mut [u32], scores: &mut [f64], s: State, limit: usize) -> Step
+pub fn step(
+    words: &mut [u32],
+    scores: &mut [f64],
+    s: State,
+    limit: usize,
+) -> ControlFlow<Answer, State>
     requires { Going limit s words.old scores.old }
     ensures { Results limit s.trail.variables words.old scores.old (Sat.step limit (state_of s words.old scores.old))
         result words.new scores.new }
 {
-    let store = s.store;
-    let activity = s.activity;
-    let learned = s.learned;
-    match propagate(words, store, s.trail) {
-        Propagation::Propagating(_) => Step::NoModel(learned),
-        Propagation::Complete(t) => match decide(words, scores, store, t) {
-            Decided::Nothing => Step::Model(learned),
-            Decided::Deeper(trail) => Step::Searching(State {
-                store,
-                trail,
-                activity,
-                learned,
-            }),
+    match propagate(words, s.store, s.trail) {
+        Propagation::Propagating(_) => unreachable!(),
+        Propagation::Complete(t) => match decide(words, scores, s.store, t) {
+            None => Break(Answer::Model(s.learned)),
+            Some(trail) => Continue(State { trail, ..s }),
         },
         Propagation::Conflict(id, trail) => {
-            let next = State {
-                store,
-                trail,
-                activity,
-                learned,
-            };
-            after_conflict(words, scores, next, id, limit)
+            after_conflict(words, scores, State { trail, ..s }, id, limit)
         }
     }
 }

@@ -3,9 +3,10 @@ ghost use Rattle.sat.specs.SolveLaws.{Searchable, Searches};
 ghost use Rattle.sat.specs.StartLaws.{Solvable, Solves};
 
 use crate::round::step;
-use crate::state::{Answer, State, Step};
+use crate::state::{Answer, State};
 use assignment::scores::start;
 use clauses::start::encode;
+use std::ops::ControlFlow::{Break, Continue};
 use watches::units::initialize_units;
 use words::{SEEN, SMALL, clear};
 
@@ -21,24 +22,13 @@ fn search(
     ensures { Searches limit start words.old scores.old rounds result words.new scores.new }
 {
     let mut s = start;
-    let mut left = rounds;
-    loop {
+    for _round in 0..rounds {
         match step(words, scores, s, limit) {
-            Step::Searching(next) => {
-                s = next;
-                left -= 1;
-            }
-            Step::Model(total) => {
-                return Answer::Model(total);
-            }
-            Step::NoModel(total) => {
-                return Answer::NoModel(total);
-            }
-            Step::GaveUp(total) => {
-                return Answer::GaveUp(total);
-            }
+            Continue(next) => s = next,
+            Break(answer) => return answer,
         }
     }
+    unreachable!()
 }
 
 // The answer for the graph in the first `variables` nodes of the words and the first `count` assumptions, under a limit of learned
@@ -55,22 +45,18 @@ pub fn solve(
     ensures { Solves limit variables words.old scores.old assumptions.now count result words.new scores.new }
 {
     let encoded = encode(words, scores, assumptions, count, variables);
-    let encoding = encoded.encoding;
-    if encoding.inconsistent {
+    if encoded.encoding.inconsistent {
         return Answer::NoModel(0);
     }
-    let store = encoding.store;
-    let units = initialize_units(words, store, encoded.trail);
-    if !units.ok {
+    let store = encoded.encoding.store;
+    let Ok(trail) = initialize_units(words, store, encoded.trail) else {
         return Answer::NoModel(0);
-    }
+    };
     clear(words, SEEN, SMALL, variables);
-    let trail = units.trail;
-    let activity = start();
     let first = State {
         store,
         trail,
-        activity,
+        activity: start(),
         learned: 0,
     };
     search(words, scores, first, limit, (limit + 2) * (variables + 2))

@@ -9,13 +9,6 @@ pub struct Learned {
     pub trail: Trail,
 }
 
-// The answer of `decide`: the trail with a decision more, or that every variable is assigned.
-#[derive(Clone, Copy)]
-pub enum Decided {
-    Nothing,
-    Deeper(Trail),
-}
-
 // What a search holds that is in no lent word; `learned` is the total of learned literals.
 #[derive(Clone, Copy)]
 pub struct State {
@@ -23,15 +16,6 @@ pub struct State {
     pub trail: Trail,
     pub activity: Activity,
     pub learned: usize,
-}
-
-// A search after a round: it goes on, or it is answered, with the total of learned literals.
-#[derive(Clone, Copy)]
-pub enum Step {
-    Searching(State),
-    Model(usize),
-    NoModel(usize),
-    GaveUp(usize),
 }
 
 // The answer of a search with its total of learned literals: a model, whose values stand in the words; none; or it gave up at the limit.

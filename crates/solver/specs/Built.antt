@@ -6,11 +6,10 @@ use Rattle.std.proofs.lemmas.Bool.{lt-leb}
 use Rattle.words.specs.Layout.{LENT, SMALL, MOST-NODES, GOLD-LHS}
 use Rattle.words.specs.Region.{region}
 use Rattle.model.specs.Aig.{Aig}
+use Rattle.model.specs.Answers.{Refusal}
 use Rattle.model.specs.Record.{Read, parsed, refused_record}
 use Rattle.model.specs.Transition.{from_netlist}
 use Rattle.struo_ir.specs.Decoded.{decoded}
-use Rattle.calls.specs.declared.fault.Fault.{Fault}
-use Rattle.struo_ir.specs.Reading.{read_by}
 use Rattle.struo_ir.specs.declared.netlist.Netlist.{Netlist}
 use Rattle.aig.specs.Graph.{graph_at, length-nodes}
 use Rattle.lowering.specs.System.{Lowered}
@@ -52,13 +51,11 @@ module _ (words : ℕ) (r : Read) where
   unfolding size_read
   long_enough h = rw (le-leb LENT words h)
 
-  module _ (h : LENT ≤ words) (s : List ℕ) (n : Netlist) (f : Fault) (e : r ≡ read_by s n f) where
+  module _ (h : LENT ≤ words) where
     -- a refused record
-    pub read-refused : (number side place : ℕ) → f ≡ Fault.Refused number side place → 0 ≡ size_read words r
-    unfolding read_by
-    read-refused number side place q = sym (ap nodes_read (e ∙ ap (read_by s n) q)) ∙ long_enough h
+    pub read-refused : (x : Refusal) → r ≡ refused_record x → 0 ≡ size_read words r
+    read-refused x e = sym (ap nodes_read e) ∙ long_enough h
 
     -- an accepted one
-    pub read-accepted : f ≡ Fault.Nothing → (count : ℕ) (w : List ℕ) → Built n count w → count ≡ size_read words r
-    unfolding read_by
-    read-accepted q count w b = size-built n count w s b ∙ sym (ap nodes_read (e ∙ ap (read_by s n) q)) ∙ long_enough h
+    pub read-accepted : (s : List ℕ) (n : Netlist) → r ≡ parsed (decoded s n) → (count : ℕ) (w : List ℕ) → Built n count w → count ≡ size_read words r
+    read-accepted s n e count w b = size-built n count w s b ∙ sym (ap nodes_read e) ∙ long_enough h

@@ -11,8 +11,8 @@ use Rattle.assignment.specs.State.{model_of}
 use Rattle.sat.specs.SolveLaws.{search_answer}
 use Rattle.sat.specs.declared.state.Answer.{Answer}
 use Rattle.solver.specs.declared.SolveAnswer.{SolveAnswer}
-use Rattle.solver.specs.declared.Rebuilt.{Rebuilt}
-use Rattle.solver.specs.declared.Rebuilt.TheVariants as Rebuilds
+use Rattle.std.specs.Prelude as Std
+use Rattle.aig.specs.declared.Aig.{Aig as Counted}
 
 -- ---- what is asked
 
@@ -103,17 +103,17 @@ pub record Extends (n : ℕ) (w : List ℕ) (l r n' : ℕ) (w' : List ℕ) : Typ
   pub long : LENT ≤ length w'
 
 -- the graph that was rebuilt
-abbrev pub rebuilt_of : Rebuilt → List ℕ → Option Aig
-rebuilt_of (Rebuilds.Graph a) w = some (graph_of a.count w)
-rebuilt_of Rebuilds.Refused w = none
+abbrev pub rebuilt_of : Std.Option Counted → List ℕ → Option Aig
+rebuilt_of (Std.Some a) w = some (graph_of a.count w)
+rebuilt_of Std.None w = none
 
 -- it stands in the words
-abbrev pub StandingIn : Rebuilt → List ℕ → Type 0
-StandingIn (Rebuilds.Graph a) w = Standing a.count w × (a.count ≤ MOST-NODES)
-StandingIn Rebuilds.Refused w = Unit {0}
+abbrev pub StandingIn : Std.Option Counted → List ℕ → Type 0
+StandingIn (Std.Some a) w = Standing a.count w × (a.count ≤ MOST-NODES)
+StandingIn Std.None w = Unit {0}
 
 -- of `rebuild`
-pub record Rebuilding (count : ℕ) (ls : List ℕ) (r : Rebuilt) (w' : List ℕ) : Type 0 where
+pub record Rebuilding (count : ℕ) (ls : List ℕ) (r : Std.Option Counted) (w' : List ℕ) : Type 0 where
   pub is : rebuilt_of r w' ≡ rebuilt count ls
   pub standing : StandingIn r w'
   pub long : LENT ≤ length w'

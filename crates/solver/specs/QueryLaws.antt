@@ -23,8 +23,7 @@ use Rattle.sat.specs.GraphLaws.{holds-ready, gates-ready}
 use Rattle.sat.specs.declared.state.Answer.{Answer}
 use Rattle.solver.specs.Query.{with_node, extended, rebuilt, all_below, within, Fits, searched, answer, size_of, size, status_of, answered, Standing, Extends, Rebuilding, Searchable, Numbered}
 use Rattle.solver.specs.declared.SolveAnswer.{SolveAnswer}
-use Rattle.solver.specs.declared.Rebuilt.{Rebuilt}
-use Rattle.solver.specs.declared.Rebuilt.TheVariants as Rebuilds
+use Rattle.std.specs.Prelude as Std
 
 -- ---- one node more
 
@@ -125,19 +124,19 @@ partly_refused ls i n w p l r a b h count k =
     sym (ap (λ (j : ℕ). rebuilt j ls) m ∙ none_stays ls (suc i) (count - suc i) e)
 
 -- the list is refused
-pub refused : {count : ℕ} {ls w : List ℕ} → none ≡ rebuilt count ls → LENT ≤ length w → Rebuilding count ls Rebuilds.Refused w
+pub refused : {count : ℕ} {ls w : List ℕ} → none ≡ rebuilt count ls → LENT ≤ length w → Rebuilding count ls Std.None w
 refused e h = record { is = e; standing = tt; long = h }
 
 -- all pairs are passed
-pub rebuilt-all : (ls : List ℕ) (i count : ℕ) (a : Counted) (w : List ℕ) → Partly ls i a.count w → i ≡ count → a.count ≤ MOST-NODES → Rebuilding count ls (Rebuilds.Graph a) w
+pub rebuilt-all : (ls : List ℕ) (i count : ℕ) (a : Counted) (w : List ℕ) → Partly ls i a.count w → i ≡ count → a.count ≤ MOST-NODES → Rebuilding count ls (Std.Some a) w
 rebuilt-all ls i count a w p e h =
     record { is = p.is ∙ ap (λ (k : ℕ). rebuilt k ls) e; standing = (p.standing, h); long = p.standing.ready.long }
 
 -- what was rebuilt, by its variant
-pub unbuilt : (count : ℕ) (ls : List ℕ) (r : Rebuilt) (w : List ℕ) → Rebuilding count ls r w → r ≡ Rebuilds.Refused → none ≡ rebuilt count ls
+pub unbuilt : (count : ℕ) (ls : List ℕ) (r : Std.Option Counted) (w : List ℕ) → Rebuilding count ls r w → r ≡ Std.None → none ≡ rebuilt count ls
 unbuilt count ls r w h e = (rw e at h).is
 
-pub built : (count : ℕ) (ls : List ℕ) (r : Rebuilt) (w : List ℕ) → Rebuilding count ls r w → (a : Counted) → r ≡ Rebuilds.Graph a → Rebuilding count ls (Rebuilds.Graph a) w
+pub built : (count : ℕ) (ls : List ℕ) (r : Std.Option Counted) (w : List ℕ) → Rebuilding count ls r w → (a : Counted) → r ≡ Std.Some a → Rebuilding count ls (Std.Some a) w
 built count ls r w h a e = rw e at h
 
 -- ---- what a call asks

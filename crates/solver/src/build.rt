@@ -5,7 +5,6 @@ ghost use Rattle.model.specs.Validate.{read_record};
 ghost use Rattle.struo_ir.specs.Designs.{Sized};
 ghost use Rattle.solver.specs.Built.{Built, size_read};
 
-use calls::fault::Fault;
 use lowering::lowering::from_netlist;
 use netlist_checks::record::read_record;
 use struo_ir::netlist::Netlist;
@@ -18,11 +17,9 @@ fn build(words: &mut [u32], netlist: Netlist, again: u32) -> u32
 {
     let first = from_netlist(words, netlist, GOLD_LHS);
     let mut count = first.count;
-    let mut i: u32 = 0;
-    while i < again {
+    for _ in 0..again {
         let next = from_netlist(words, netlist, GOLD_LHS);
         count = next.count;
-        i += 1;
     }
     count
 }
@@ -35,11 +32,8 @@ pub fn struo_build(record: &[u8], again: u32, words: &mut [u32]) -> u32
     if words.len() < LENT {
         return 0;
     }
-    let reading = read_record(record);
-    let fault = reading.fault;
-    let netlist = reading.netlist;
-    match fault {
-        Fault::Refused(_, _, _) => 0,
-        Fault::Nothing => build(words, netlist, again),
+    match read_record(record) {
+        Err(_) => 0,
+        Ok(netlist) => build(words, netlist, again),
     }
 }

@@ -28,13 +28,6 @@ pub struct SolveAnswer {
     pub total: u64,
 }
 
-// The graph of a list of nodes, or that the list is refused.
-#[derive(Clone, Copy)]
-pub enum Rebuilt {
-    Graph(Aig),
-    Refused,
-}
-
 // One node more: a variable for two zeros, else the conjunction of the two literals.
 fn with_node(aig: Aig, words: &mut [u32], lhs: u32, rhs: u32) -> Aig
     requires { Extendable aig.count words.old lhs rhs }
@@ -48,27 +41,25 @@ fn with_node(aig: Aig, words: &mut [u32], lhs: u32, rhs: u32) -> Aig
     made.aig
 }
 
-// The graph of the first `count` pairs of literals, refused where a literal is of no earlier node.
-fn rebuild(words: &mut [u32], nodes: &[u32], count: usize) -> Rebuilt
+// The graph of the first `count` pairs of literals; none where a literal is of no earlier node.
+fn rebuild(words: &mut [u32], nodes: &[u32], count: usize) -> Option<Aig>
     requires { (LENT ≤ length words.old) × (count * 2 ≤ length nodes.now) × (count ≤ 65535) }
     ensures { Rebuilding count nodes.now result words.new }
 {
     let mut aig = Aig::new(words);
-    let mut i: usize = 0;
-    while i < count {
+    for i in 0..count {
         let lhs = nodes[i * 2];
         let rhs = nodes[i * 2 + 1];
         let bound = aig.count * 2;
         if lhs >= bound {
-            return Rebuilt::Refused;
+            return None;
         }
         if rhs >= bound {
-            return Rebuilt::Refused;
+            return None;
         }
         aig = with_node(aig, words, lhs, rhs);
-        i += 1;
     }
-    Rebuilt::Graph(aig)
+    Some(aig)
 }
 
 // Whether the list of nodes is even, and the lengths and the limit are within what the search takes.
@@ -100,12 +91,10 @@ fn fits(nodes: usize, assumptions: usize, limit: u64, words: usize, scores: usiz
 fn all_below(bound: u32, literals: &[u32]) -> bool
     ensures { result ≡ all_below bound literals.now }
 {
-    let mut i: usize = 0;
-    while i < literals.len() {
-        if literals[i] >= bound {
+    for &literal in literals {
+        if literal >= bound {
             return false;
         }
-        i += 1;
     }
     true
 }
@@ -187,8 +176,8 @@ pub fn struo_solve(
     }
     let pairs = nodes.len() / 2;
     match rebuild(words, nodes, pairs) {
-        Rebuilt::Refused => refused(),
-        Rebuilt::Graph(aig) => search_graph(words, scores, assumptions, aig, limit as usize),
+        None => refused(),
+        Some(aig) => search_graph(words, scores, assumptions, aig, limit as usize),
     }
 }
 
@@ -201,7 +190,7 @@ pub fn struo_rebuild(nodes: &[u32], words: &mut [u32]) -> u32
         return 0;
     }
     match rebuild(words, nodes, nodes.len() / 2) {
-        Rebuilt::Refused => 0,
-        Rebuilt::Graph(aig) => aig.count,
+        None => 0,
+        Some(aig) => aig.count,
     }
 }

@@ -13,7 +13,7 @@ use Rattle.model.specs.Encode.{bit_byte}
 use Rattle.model.specs.Replay.{claim_bit}
 use Rattle.model.specs.Stepping.{stored_bits, with_stored, too_few_bits, bad_stored, bits_fault, begin_fault, step_fault}
 use Rattle.laws.specs.Record.Accepted.{otherwise_none, refuse_if-none}
-use Rattle.stepping.specs.LentBits.{stored_bad, counted_fault}
+use Rattle.stepping.specs.LentBits.{stored_bad, short_fault, counted_fault}
 
 -- ---- read
 
@@ -66,6 +66,11 @@ module _ (bits : List ℕ) where
   pub not_short : 256 ≤ length bits → too_few_bits bits ≡ false
   unfolding too_few_bits
   not_short h = le-ltb (length bits) 256 h
+
+-- 24 does not apply
+pub not_refused : (bits : List ℕ) → none ≡ short_fault bits → too_few_bits bits ≡ false
+unfolding short_fault
+not_refused bits e = refuse_if-none 24 0 0 _ (sym e)
 
 -- the counts of the netlists are those of the designs
 pub bits-counted : (gold gate : Design) (n m : ℕ) (bits : List ℕ) → register_count gold ≡ n → register_count gate ≡ m → counted_fault n m bits ≡ bits_fault gold gate bits

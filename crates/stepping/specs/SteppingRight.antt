@@ -1,5 +1,5 @@
 -- A begin and a step on rows by value are the definition's, from the bytes of both records on. Assumes nothing.
-use Rattle.std.specs.Prelude.{ℕ, ◌≡◌, refl, Bool, true, List, take}
+use Rattle.std.specs.Prelude.{ℕ, ◌≡◌, Bool, true, List, take}
 use Rattle.std.proofs.Common.{sym, ap₂, ◌∙◌}
 use Rattle.std.proofs.Math.Option.{Option, none, some}
 use Rattle.model.specs.Answers.{Refusal, accepted}
@@ -11,9 +11,9 @@ use Rattle.model.specs.Replay.{initial_position, refused_replay}
 use Rattle.model.specs.Stepping.{LentPosition, gate_bits, stored_bits, with_stored, position_from, lent_position, lent_bits, begin_fault, step_fault, refused_begin, begin_pair, refused_step, stepped_to, step_pair}
 use Rattle.model.specs.Stepping as Stepping
 use Rattle.calls.specs.Answers.{refusal_of, replay_of}
-use Rattle.calls.specs.Faults.{refusal}
 use Rattle.calls.specs.Positions.{position_of, begun_of, stepped_of}
 use Rattle.calls.specs.declared.position.ReplayPosition.{ReplayPosition}
+use Rattle.calls.specs.declared.answers.ReadAnswer.{ReadAnswer}
 use Rattle.calls.specs.declared.answers.ReplayAnswer.{ReplayAnswer}
 use Rattle.struo_ir.specs.Decoded.{decoded}
 use Rattle.struo_ir.specs.Designs.{Padded, Ordered}
@@ -38,10 +38,9 @@ unfolding begun_of refusal_of position_of Stepping.begun lent_position lent_bits
 begun-right s t n m u v bits after p q f g e = rw (e, initial_taken s n u p f, initial_taken t m v q g)
 
 -- what a refused begin leaves
-pub refused-begun : (number side place : ℕ) (p : ReplayPosition) (bits : List ℕ)
-    → begun_of (record { number = number; side = side; place = place }) p bits ≡ refused_begin (refusal number side place) (position_of p) bits
-unfolding begun_of refusal_of refused_begin refusal
-refused-begun number side place p bits = refl
+pub refused-begun : (a : ReadAnswer) (r : Refusal) (p : ReplayPosition) (bits : List ℕ) → refusal_of a ≡ r → begun_of a p bits ≡ refused_begin r (position_of p) bits
+unfolding begun_of refused_begin
+refused-begun a r p bits e = rw e
 
 module _ (gold gate : Design) (p : LentPosition) (bits : List ℕ) (f : Option Refusal) where
   -- a refused begin

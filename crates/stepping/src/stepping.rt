@@ -3,18 +3,20 @@ ghost use Rattle.std.specs.Prelude.{◌≡◌, List, ℕ, ◌≤◌, length, tak
 ghost use Rattle.model.specs.Replay as Model;
 ghost use Rattle.model.specs.Stepping.{gate_bits, with_stored, position_from, begin_fault, step_fault, begin_pair, step_pair, stepped_to};
 ghost use Rattle.model.specs.Stepping as Stepping;
-ghost use Rattle.calls.specs.Faults.{fault_of};
+ghost use Rattle.calls.specs.Causes.{fault_of};
 ghost use Rattle.calls.specs.Positions.{position_of, begun_of, stepped_of};
 ghost use Rattle.struo_ir.specs.Decoded.{decoded};
 ghost use Rattle.struo_ir.specs.Designs.{Sized, Padded, Sided};
 ghost use Rattle.struo_ir.specs.Orders.{Formed};
+ghost use Rattle.pair.specs.PairReading.{said};
 ghost use Rattle.steps.specs.StepSides as Sides;
 ghost use Rattle.stepping.specs.LentBits.{initial_and_short_fault};
 
 use crate::bits::{GATE_BITS, bits_fault, short_fault, store_row, stored_row};
-use calls::answers::{ReadAnswer, ReplayAnswer, refused_replay};
-use calls::fault::Fault;
+use calls::answers::{ReadAnswer, ReplayAnswer};
 use calls::position::ReplayPosition;
+use calls::refusal::Refusal;
+use pair::accepted::Pair;
 use pair::checks::{initial_fault, interface_fault};
 use pair::reading::read_pair;
 use replay::replay::replay_fault;
@@ -45,14 +47,14 @@ pub struct Moved {
 
 // The stored bits of both sides, written into the lent bits.
 fn store_rows(
-    gold: Netlist,
-    gate: Netlist,
+    gold: &Netlist,
+    gate: &Netlist,
     gold_row: [bool; 128],
     gate_row: [bool; 128],
     bits: &mut [u8],
 )
-    requires { (Sized gold) × (Sized gate) × (256 ≤ length bits.old) }
-    ensures { bits.new ≡ with_stored gate_bits (take gate.register_count gate_row) (with_stored 0 (take gold.register_count gold_row) bits.old) }
+    requires { (Sized gold.now) × (Sized gate.now) × (256 ≤ length bits.old) }
+    ensures { bits.new ≡ with_stored gate_bits (take gate.now.register_count gate_row) (with_stored 0 (take gold.now.register_count gold_row) bits.old) }
 {
     store_row(bits, 0, gold.register_count, gold_row);
     store_row(bits, GATE_BITS, gate.register_count, gate_row);
@@ -61,44 +63,31 @@ fn store_rows(
 // ---- begin
 
 // 22 and 24.
-fn initial_and_short_fault(gold_design: Design, gate_design: Design, bits: &[u8]) -> Fault
-    requires { (Sized gold_design.netlist) × (Sized gate_design.netlist) × (Formed gold_design.registers) × (Formed gate_design.registers) }
-    ensures { (s t : List ℕ) → Sided s gold_design → Sided t gate_design
-        → fault_of result ≡ initial_and_short_fault (decoded s gold_design.netlist) (decoded t gate_design.netlist) bits.now }
+fn initial_and_short_fault(gold: &Design, gate: &Design, bits: &[u8]) -> Result<(), Refusal>
+    requires { (Sized gold.now.netlist) × (Sized gate.now.netlist) × (Formed gold.now.registers) × (Formed gate.now.registers) }
+    ensures { (s t : List ℕ) → Sided s gold.now → Sided t gate.now
+        → fault_of result ≡ initial_and_short_fault (decoded s gold.now.netlist) (decoded t gate.now.netlist) bits.now }
 {
-    let initial = initial_fault(gold_design, gate_design);
-    match initial {
-        Fault::Refused(number, side, place) => Fault::Refused(number, side, place),
-        Fault::Nothing => short_fault(bits),
-    }
+    initial_fault(gold, gate)?;
+    short_fault(bits)
 }
 
 // The first refusal of 18 to 22 and 24.
-fn begin_fault(
-    gold: &[u8],
-    gold_design: Design,
-    gate: &[u8],
-    gate_design: Design,
-    bits: &[u8],
-) -> Fault
-    requires { (Sided gold.now gold_design) × (Sided gate.now gate_design) }
-    ensures { fault_of result ≡ begin_fault (decoded gold.now gold_design.netlist) (decoded gate.now gate_design.netlist) bits.now }
+fn begin_fault(pair: &Pair, bits: &[u8]) -> Result<(), Refusal>
+    ensures { fault_of result ≡ begin_fault (said pair.now.gold) (said pair.now.gate) bits.now }
 {
-    let interface = interface_fault(gold, gold_design, gate, gate_design);
-    match interface {
-        Fault::Refused(number, side, place) => Fault::Refused(number, side, place),
-        Fault::Nothing => initial_and_short_fault(gold_design, gate_design, bits),
-    }
+    interface_fault(pair)?;
+    initial_and_short_fault(&pair.gold.design, &pair.gate.design, bits)
 }
 
 // The initial position of two netlists: its bits are written.
-fn begin_accepted(gold: Netlist, gate: Netlist, bits: &mut [u8]) -> Begun
-    requires { (Sized gold) × (Sized gate) × (256 ≤ length bits.old) }
-    ensures { (s t : List ℕ) → Padded gold → Padded gate
-        → begun_of result.answer result.position bits.new ≡ Stepping.begun (decoded s gold) (decoded t gate) bits.old }
+fn begin_accepted(gold: &Netlist, gate: &Netlist, bits: &mut [u8]) -> Begun
+    requires { (Sized gold.now) × (Sized gate.now) × (256 ≤ length bits.old) }
+    ensures { (s t : List ℕ) → Padded gold.now → Padded gate.now
+        → begun_of result.answer result.position bits.new ≡ Stepping.begun (decoded s gold.now) (decoded t gate.now) bits.old }
 {
-    let gold_row = initial_row(gold);
-    let gate_row = initial_row(gate);
+    let gold_row = initial_row(*gold);
+    let gate_row = initial_row(*gate);
     store_rows(gold, gate, gold_row, gate_row, bits);
     let answer = ReadAnswer {
         number: 0,
@@ -110,34 +99,19 @@ fn begin_accepted(gold: Netlist, gate: Netlist, bits: &mut [u8]) -> Begun
 }
 
 // The begin of two accepted designs: the first refusal, or the initial position.
-fn begin_pair(
-    gold: &[u8],
-    gold_design: Design,
-    gate: &[u8],
-    gate_design: Design,
-    position: ReplayPosition,
-    bits: &mut [u8],
-) -> Begun
-    requires { (Sided gold.now gold_design) × (Sided gate.now gate_design) }
+// It is not inlined, so that what it holds is not on the stack while the records are read.
+#[inline(never)]
+fn begin_pair(pair: &Pair, position: ReplayPosition, bits: &mut [u8]) -> Begun
     ensures { begun_of result.answer result.position bits.new
-        ≡ begin_pair (decoded gold.now gold_design.netlist) (decoded gate.now gate_design.netlist) (position_of position) bits.old
-        (begin_fault (decoded gold.now gold_design.netlist) (decoded gate.now gate_design.netlist) bits.old) }
+        ≡ begin_pair (said pair.now.gold) (said pair.now.gate) (position_of position) bits.old
+        (begin_fault (said pair.now.gold) (said pair.now.gate) bits.old) }
 {
-    let fault = begin_fault(gold, gold_design, gate, gate_design, bits);
-    match fault {
-        Fault::Refused(number, side, place) => {
-            let answer = ReadAnswer {
-                number,
-                side,
-                place,
-            };
+    match begin_fault(pair, bits) {
+        Err(refusal) => {
+            let answer = ReadAnswer::from(refusal);
             Begun { answer, position }
         }
-        Fault::Nothing => {
-            let gold_netlist = gold_design.netlist;
-            let gate_netlist = gate_design.netlist;
-            begin_accepted(gold_netlist, gate_netlist, bits)
-        }
+        Ok(()) => begin_accepted(&pair.gold.design.netlist, &pair.gate.design.netlist, bits),
     }
 }
 
@@ -145,60 +119,35 @@ fn begin_pair(
 pub fn begin(gold: &[u8], gate: &[u8], position: ReplayPosition, bits: &mut [u8]) -> Begun
     ensures { begun_of result.answer result.position bits.new ≡ Stepping.begin gold.now gate.now (position_of position) bits.old }
 {
-    let reading = read_pair(gold, gate);
-    let fault = reading.fault;
-    match fault {
-        Fault::Refused(number, side, place) => {
-            let answer = ReadAnswer {
-                number,
-                side,
-                place,
-            };
+    let read = read_pair(gold, gate);
+    match &read {
+        Err(refusal) => {
+            let answer = ReadAnswer::from(*refusal);
             Begun { answer, position }
         }
-        Fault::Nothing => {
-            let gold_design = reading.gold;
-            let gate_design = reading.gate;
-            begin_pair(gold, gold_design, gate, gate_design, position, bits)
-        }
+        Ok(pair) => begin_pair(pair, position, bits),
     }
 }
 
 // ---- step
 
 // The first refusal of 18 to 22, 25 for the claim, 24 and 25 for the lent bits.
-fn step_fault(
-    gold: &[u8],
-    gold_design: Design,
-    gate: &[u8],
-    gate_design: Design,
-    cycle: u64,
-    claim: &[u8],
-    bits: &[u8],
-) -> Fault
-    requires { (Sided gold.now gold_design) × (Sided gate.now gate_design) }
-    ensures { fault_of result ≡ step_fault (decoded gold.now gold_design.netlist) (decoded gate.now gate_design.netlist) cycle claim.now bits.now }
+fn step_fault(pair: &Pair, cycle: u64, claim: &[u8], bits: &[u8]) -> Result<(), Refusal>
+    ensures { fault_of result ≡ step_fault (said pair.now.gold) (said pair.now.gate) cycle claim.now bits.now }
 {
-    let fault = replay_fault(gold, gold_design, gate, gate_design, cycle, claim);
-    match fault {
-        Fault::Refused(number, side, place) => Fault::Refused(number, side, place),
-        Fault::Nothing => {
-            let gold_netlist = gold_design.netlist;
-            let gate_netlist = gate_design.netlist;
-            bits_fault(
-                bits,
-                gold_netlist.register_count,
-                gate_netlist.register_count,
-            )
-        }
-    }
+    replay_fault(pair, cycle, claim)?;
+    bits_fault(
+        bits,
+        pair.gold.design.netlist.register_count,
+        pair.gate.design.netlist.register_count,
+    )
 }
 
 // The replay position that is lent: per side the stored bits stand in both rows at first.
-fn position_from(gold: Netlist, gate: Netlist, position: ReplayPosition, bits: &[u8]) -> Position
-    requires { (Sized gold) × (Sized gate) × (256 ≤ length bits.now) }
-    ensures { (s t : List ℕ) → Padded gold → Padded gate
-        → Sides.position gold.register_count gate.register_count result ≡ position_from (decoded s gold) (decoded t gate) (position_of position) bits.now }
+fn position_from(gold: &Netlist, gate: &Netlist, position: ReplayPosition, bits: &[u8]) -> Position
+    requires { (Sized gold.now) × (Sized gate.now) × (256 ≤ length bits.now) }
+    ensures { (s t : List ℕ) → Padded gold.now → Padded gate.now
+        → Sides.position gold.now.register_count gate.now.register_count result ≡ position_from (decoded s gold.now) (decoded t gate.now) (position_of position) bits.now }
 {
     let gold_row = stored_row(bits, 0, gold.register_count);
     let gate_row = stored_row(bits, GATE_BITS, gate.register_count);
@@ -217,30 +166,23 @@ fn position_from(gold: Netlist, gate: Netlist, position: ReplayPosition, bits: &
 }
 
 // One step of two accepted designs from a replay position.
-fn step_from(
-    gold: &[u8],
-    gold_design: Design,
-    gate: &[u8],
-    gate_design: Design,
-    cycle: usize,
-    claim: &[u8],
-    p: Position,
-) -> Stepped
-    requires { (Sided gold.now gold_design) × (Sided gate.now gate_design) × (cycle ≤ 64) }
-    ensures { Sides.stepped gold_design.netlist.register_count gate_design.netlist.register_count result
-        ≡ Model.step (decoded gold.now gold_design.netlist) (decoded gate.now gate_design.netlist) cycle claim.now
-        (Sides.position gold_design.netlist.register_count gate_design.netlist.register_count p) }
+fn step_from(pair: &Pair, cycle: usize, claim: &[u8], p: Position) -> Stepped
+    requires { cycle ≤ 64 }
+    ensures { Sides.stepped pair.now.gold.design.netlist.register_count pair.now.gate.design.netlist.register_count result
+        ≡ Model.step (said pair.now.gold) (said pair.now.gate) cycle claim.now
+        (Sides.position pair.now.gold.design.netlist.register_count pair.now.gate.design.netlist.register_count p) }
 {
-    let inputs = gold_design.inputs;
-    let gold_side = side_of(gold, gold_design, gold, inputs);
-    let gate_side = side_of(gate, gate_design, gold, inputs);
-    steps::step::step(gold_side, gate_side, inputs.count, cycle, claim, p)
+    let (gold, gate) = (&pair.gold, &pair.gate);
+    let inputs = &gold.design.inputs;
+    let gold_side = side_of(gold.bytes, &gold.design, gold.bytes, inputs);
+    let gate_side = side_of(gate.bytes, &gate.design, gold.bytes, inputs);
+    steps::step::step(&gold_side, &gate_side, inputs.count, cycle, claim, p)
 }
 
 // What a step leaves: the answer, the position after it, and its stored bits in the lent bits.
-fn leave(gold: Netlist, gate: Netlist, stepped: Stepped, bits: &mut [u8]) -> Moved
-    requires { (Sized gold) × (Sized gate) × (256 ≤ length bits.old) }
-    ensures { stepped_of result.answer result.position bits.new ≡ stepped_to (Sides.stepped gold.register_count gate.register_count stepped) bits.old }
+fn leave(gold: &Netlist, gate: &Netlist, stepped: Stepped, bits: &mut [u8]) -> Moved
+    requires { (Sized gold.now) × (Sized gate.now) × (256 ≤ length bits.old) }
+    ensures { stepped_of result.answer result.position bits.new ≡ stepped_to (Sides.stepped gold.now.register_count gate.now.register_count stepped) bits.old }
 {
     let next = stepped.position;
     let gold_rows = next.gold;
@@ -263,59 +205,43 @@ fn leave(gold: Netlist, gate: Netlist, stepped: Stepped, bits: &mut [u8]) -> Mov
 
 // The step of two accepted designs and an accepted claim from the lent position.
 fn step_accepted(
-    gold: &[u8],
-    gold_design: Design,
-    gate: &[u8],
-    gate_design: Design,
+    pair: &Pair,
     cycle: usize,
     claim: &[u8],
     position: ReplayPosition,
     bits: &mut [u8],
 ) -> Moved
-    requires { (Sided gold.now gold_design) × (Sided gate.now gate_design) × (cycle ≤ 64) × (256 ≤ length bits.old) }
+    requires { (cycle ≤ 64) × (256 ≤ length bits.old) }
     ensures { stepped_of result.answer result.position bits.new
-        ≡ stepped_to (Model.step (decoded gold.now gold_design.netlist) (decoded gate.now gate_design.netlist) cycle claim.now
-        (position_from (decoded gold.now gold_design.netlist) (decoded gate.now gate_design.netlist) (position_of position) bits.old)) bits.old }
+        ≡ stepped_to (Model.step (said pair.now.gold) (said pair.now.gate) cycle claim.now
+        (position_from (said pair.now.gold) (said pair.now.gate) (position_of position) bits.old)) bits.old }
 {
-    let gold_netlist = gold_design.netlist;
-    let gate_netlist = gate_design.netlist;
-    let p = position_from(gold_netlist, gate_netlist, position, bits);
-    let stepped = step_from(gold, gold_design, gate, gate_design, cycle, claim, p);
-    leave(gold_netlist, gate_netlist, stepped, bits)
+    let (gold, gate) = (&pair.gold.design.netlist, &pair.gate.design.netlist);
+    let p = position_from(gold, gate, position, bits);
+    let stepped = step_from(pair, cycle, claim, p);
+    leave(gold, gate, stepped, bits)
 }
 
 // The step of two accepted designs: the first refusal, or one cycle.
+// It is not inlined, so that what it holds is not on the stack while the records are read.
+#[inline(never)]
 fn step_pair(
-    gold: &[u8],
-    gold_design: Design,
-    gate: &[u8],
-    gate_design: Design,
+    pair: &Pair,
     cycle: u64,
     claim: &[u8],
     position: ReplayPosition,
     bits: &mut [u8],
 ) -> Moved
-    requires { (Sided gold.now gold_design) × (Sided gate.now gate_design) }
     ensures { stepped_of result.answer result.position bits.new
-        ≡ step_pair (decoded gold.now gold_design.netlist) (decoded gate.now gate_design.netlist) cycle claim.now (position_of position) bits.old
-        (step_fault (decoded gold.now gold_design.netlist) (decoded gate.now gate_design.netlist) cycle claim.now bits.old) }
+        ≡ step_pair (said pair.now.gold) (said pair.now.gate) cycle claim.now (position_of position) bits.old
+        (step_fault (said pair.now.gold) (said pair.now.gate) cycle claim.now bits.old) }
 {
-    let fault = step_fault(gold, gold_design, gate, gate_design, cycle, claim, bits);
-    match fault {
-        Fault::Refused(number, side, place) => {
-            let answer = refused_replay(number, side, place);
+    match step_fault(pair, cycle, claim, bits) {
+        Err(refusal) => {
+            let answer = ReplayAnswer::from(refusal);
             Moved { answer, position }
         }
-        Fault::Nothing => step_accepted(
-            gold,
-            gold_design,
-            gate,
-            gate_design,
-            cycle as usize,
-            claim,
-            position,
-            bits,
-        ),
+        Ok(()) => step_accepted(pair, cycle as usize, claim, position, bits),
     }
 }
 
@@ -330,29 +256,12 @@ pub fn step(
 ) -> Moved
     ensures { stepped_of result.answer result.position bits.new ≡ Stepping.step gold.now gate.now cycle claim.now (position_of position) bits.old }
 {
-    let reading = read_pair(gold, gate);
-    let fault = reading.fault;
-    match fault {
-        Fault::Refused(number, side, place) => {
-            let refused = refused_replay(number, side, place);
-            Moved {
-                answer: refused,
-                position,
-            }
-        }
-        Fault::Nothing => {
-            let gold_design = reading.gold;
-            let gate_design = reading.gate;
-            step_pair(
-                gold,
-                gold_design,
-                gate,
-                gate_design,
-                cycle,
-                claim,
-                position,
-                bits,
-            )
-        }
+    let read = read_pair(gold, gate);
+    match &read {
+        Err(refusal) => Moved {
+            answer: ReplayAnswer::from(*refusal),
+            position,
+        },
+        Ok(pair) => step_pair(pair, cycle, claim, position, bits),
     }
 }

@@ -1,11 +1,10 @@
 -- Laws of one step of a replay. Assumes nothing.
-use Rattle.std.specs.Prelude.{ℕ, suc, ◌+◌, ◌-◌, ◌*◌, ◌<◌, ◌≤◌, ◌≡◌, refl, Bool, true, not, ◌&&◌, List, [], ◌∷◌, map, length, take, drop, get_or, eqb}
-use Rattle.std.proofs.Common.{sym, ap, ap₂, ◌∙◌, mul-le-mul, add-one, take_at}
-use Rattle.std.proofs.Math.Bool.{false}
+use Rattle.std.specs.Prelude.{min, ℕ, suc, ◌+◌, ◌-◌, ◌*◌, ◌<◌, ◌≤◌, ◌≡◌, refl, Bool, true, not, ◌&&◌, List, [], ◌∷◌, map, length, take, drop, get_or, eqb}
+use Rattle.std.proofs.Common.{arith, length-drop, sym, ap, ap₂, ◌∙◌, mul-le-mul, add-one, take_at}
+use Rattle.std.proofs.Math.Bool.{false, beq}
 use Rattle.std.specs.Bool.{xor}
 use Rattle.std.proofs.Math.Option.{Option, none, some}
 use Rattle.std.proofs.Math.Nat.{add-suc}
-use Rattle.std.proofs.Math.ListN.{drop_of_length-le}
 use Rattle.std.proofs.lemmas.List.{length-map}
 use Rattle.std.proofs.Math.Seq.{drop-cons}
 use Rattle.model.specs.Names.{Place}
@@ -13,7 +12,7 @@ use Rattle.model.specs.Netlist.{Enable, Reset, Register, Design, inputs, outputs
 use Rattle.model.specs.Run.{InputBits, StoredBits, node_values, bit_at, enabled_bit, reset_bit, next_bit, next_from, next_stored, output_bits}
 use Rattle.model.specs.Replay.{Position, Stepped, claim_bit, claim_inputs, bits_differ, differ_as_marked, differ_as_claimed, advance}
 use Rattle.run.specs.RunTables.{row_inputs, padded}
-use Rattle.run.specs.RunLaws.{Alike, bit_at_append}
+use Rattle.run.specs.RunLaws.{Alike, bit_at_append, xor_apart}
 
 -- ---- rows that read alike
 
@@ -59,48 +58,50 @@ output_bits-alike d u v ps h e = map-alike u v ps h ∙ ap (map (λ (p : Place).
 
 -- ---- comparing rows
 
-module _ (xs ys : List Bool) (k : ℕ) where
-  -- the second row has ended
-  pub differ_longer : k < length xs → length ys ≤ k → bits_differ (drop k xs) (drop k ys) ≡ false
+module _ (x y : Bool) (xs ys us vs : List Bool) (p : us ≡ x ∷ xs) (q : vs ≡ y ∷ ys) where
+  -- the first two bits differ
+  pub differ-here : not (beq x y) ≡ true → bits_differ us vs ≡ true
   unfolding bits_differ
-  differ_longer h l = rw (drop-cons xs k false, drop_of_length-le ys)
+  differ-here e = rw (p, q, ← xor_apart, e)
 
-  -- two bits differ
-  pub differ-here : k < length xs → k < length ys → xor (get_or xs k false) (get_or ys k false) ≡ true → bits_differ (drop k xs) (drop k ys) ≡ true
+  -- the first two bits are alike
+  pub differ-more : not (beq x y) ≡ false → bits_differ us vs ≡ bits_differ xs ys
   unfolding bits_differ
-  differ-here h l e = rw (drop-cons xs k false, drop-cons ys k false, e)
+  differ-more e = rw (p, q, ← xor_apart, e)
 
-  -- two bits are alike
-  pub differ-more : k < length xs → k < length ys → xor (get_or xs k false) (get_or ys k false) ≡ false → bits_differ (drop k xs) (drop k ys) ≡ bits_differ (drop (k + 1) xs) (drop (k + 1) ys)
-  unfolding bits_differ
-  differ-more h l e = rw (add-one, drop-cons xs k false, drop-cons ys k false, e)
+-- a row has ended
+pub differ-end : (us vs : List Bool) → min (length us) (length vs) ≡ 0 → bits_differ us vs ≡ false
+unfolding bits_differ
+differ-end [] vs h = refl
+differ-end (x ∷ us) [] h = refl
+differ-end (x ∷ us) (y ∷ vs) h = absurd (omega arith)
 
-  -- no bit is left
-  pub differ-end : length xs ≤ k → bits_differ (drop k xs) (drop k ys) ≡ false
-  unfolding bits_differ
-  differ-end h = rw (drop_of_length-le xs)
+-- no pair is left
+marked-none : (claim : List ℕ) (n : ℕ) (xs ys : List Bool) → min (length xs) (length ys) ≡ 0 → differ_as_marked claim n xs ys ≡ true
+unfolding differ_as_marked
+marked-none claim n [] ys h = refl
+marked-none claim n (x ∷ xs) [] h = refl
+marked-none claim n (x ∷ xs) (y ∷ ys) h = absurd (omega arith)
+
+-- a test of two bits and their mark, as the definition has it
+marks-apart : (a b m : Bool) → not (beq (not (beq a b)) m) ≡ xor (xor a b) m
+marks-apart a b m = xor_apart (not (beq a b)) m ∙ ap (λ (x : Bool). xor x m) (xor_apart a b)
 
 module _ (claim : List ℕ) (place : ℕ) (xs ys : List Bool) (k : ℕ) where
-  -- the second row has ended
-  pub marked_longer : k < length xs → length ys ≤ k → differ_as_marked claim (place + k) (drop k xs) (drop k ys) ≡ true
-  unfolding differ_as_marked
-  marked_longer h l = rw (drop-cons xs k false, drop_of_length-le ys)
-
   -- two bits are not marked as they differ
-  pub marked_wrong : k < length xs → k < length ys → xor (xor (get_or xs k false) (get_or ys k false)) (claim_bit claim (place + k)) ≡ true → differ_as_marked claim (place + k) (drop k xs) (drop k ys) ≡ false
+  pub marked_wrong : k < length xs → k < length ys → not (beq (not (beq (get_or xs k false) (get_or ys k false))) (claim_bit claim (place + k))) ≡ true → differ_as_marked claim (place + k) (drop k xs) (drop k ys) ≡ false
   unfolding differ_as_marked
-  marked_wrong h l e = rw (drop-cons xs k false, drop-cons ys k false, e)
+  marked_wrong h l e = rw (drop-cons xs k false, drop-cons ys k false, ← marks-apart, e)
 
   -- two bits are marked as they differ
-  pub marked_more : k < length xs → k < length ys → xor (xor (get_or xs k false) (get_or ys k false)) (claim_bit claim (place + k)) ≡ false
+  pub marked_more : k < length xs → k < length ys → not (beq (not (beq (get_or xs k false) (get_or ys k false))) (claim_bit claim (place + k))) ≡ false
       → differ_as_marked claim (place + k) (drop k xs) (drop k ys) ≡ differ_as_marked claim (place + (k + 1)) (drop (k + 1) xs) (drop (k + 1) ys)
   unfolding differ_as_marked
-  marked_more h l e = rw (add-one, add-suc, drop-cons xs k false, drop-cons ys k false, e)
+  marked_more h l e = rw (add-one, add-suc, drop-cons xs k false, drop-cons ys k false, ← marks-apart, e)
 
-  -- no bit is left
-  pub marked-end : length xs ≤ k → differ_as_marked claim (place + k) (drop k xs) (drop k ys) ≡ true
-  unfolding differ_as_marked
-  marked-end h = rw (drop_of_length-le xs)
+  -- a row has ended
+  pub marked-end : min (length xs) (length ys) ≤ k → differ_as_marked claim (place + k) (drop k xs) (drop k ys) ≡ true
+  marked-end h = marked-none claim (place + k) (drop k xs) (drop k ys) (simp length-drop (omega arith))
 
 -- ---- the step
 

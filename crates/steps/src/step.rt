@@ -1,6 +1,5 @@
 // One step of a replay: both sides, one cycle, from any stored bits.
 ghost use Rattle.std.specs.Prelude.{◌≡◌, List, ℕ, ◌≤◌, take};
-ghost use Rattle.std.specs.Bool.{xor};
 ghost use Rattle.model.specs.Names.{Place};
 ghost use Rattle.model.specs.Replay.{bits_differ, differ_as_marked};
 ghost use Rattle.struo_ir.specs.Designs.{Sized};
@@ -8,7 +7,6 @@ ghost use Rattle.struo_ir.specs.Orders.{Formed, places};
 ghost use Rattle.steps.specs.StepSides.{SizedSide, Prepared, Cycled, outcome_of, Paired, Advanced, StepTaken};
 
 use drivers::drivers;
-use run::bits::{both, differ};
 use run::run::{Rows, claim_bit, exchange, next_stored, node_values, output_row};
 use run::tables::input_ranks;
 use struo_ir::design::{Design, Order};
@@ -54,59 +52,40 @@ struct Comparison {
 }
 
 // A design made ready to run: ranks are those of gold's inputs.
-pub fn side_of(bytes: &[u8], design: Design, gold: &[u8], inputs: Order) -> Side
-    requires { (Sized design.netlist) × (Formed design.outputs) × (Formed inputs) }
-    ensures { (result.netlist ≡ design.netlist) × (result.outputs ≡ design.outputs) × (Prepared bytes.now (places gold.now inputs) result) }
+pub fn side_of(bytes: &[u8], design: &Design, gold: &[u8], inputs: &Order) -> Side
+    requires { (Sized design.now.netlist) × (Formed design.now.outputs) × (Formed inputs.now) }
+    ensures { (result.netlist ≡ design.now.netlist) × (result.outputs ≡ design.now.outputs) × (Prepared bytes.now (places gold.now inputs.now) result) }
 {
-    let netlist = design.netlist;
-    let outputs = design.outputs;
-    let ranks = input_ranks(bytes, netlist, gold, inputs);
-    let table = drivers(netlist);
+    let ranks = input_ranks(bytes, design.netlist, gold, *inputs);
+    let table = drivers(design.netlist);
     Side {
-        netlist,
+        netlist: design.netlist,
         ranks,
         drivers: table,
-        outputs,
+        outputs: design.outputs,
     }
 }
 
 // One cycle of a side: the old row gives node values, outputs and the new row; then the two rows are exchanged.
-fn cycle_of(side: Side, claim: &[u8], at: usize, rows: Rows) -> Cycle
-    requires { (SizedSide side) × (at ≤ 65536) }
-    ensures { (s : List ℕ) (ins : List Place) → Prepared s ins side → Cycled s ins side claim.now at rows result.outputs result.rows }
+fn cycle_of(side: &Side, claim: &[u8], at: usize, rows: Rows) -> Cycle
+    requires { (SizedSide side.now) × (at ≤ 65536) }
+    ensures { (s : List ℕ) (ins : List Place) → Prepared s ins side.now → Cycled s ins side.now claim.now at rows result.outputs result.rows }
 {
-    let netlist = side.netlist;
-    let ranks = side.ranks;
-    let table = side.drivers;
-    let order = side.outputs;
-    let old = rows.old;
-    let values = node_values(netlist, ranks, table, claim, at, old);
-    let outputs = output_row(&values, order);
-    let written = next_stored(netlist, &values, rows);
+    let values = node_values(side.netlist, side.ranks, side.drivers, claim, at, rows.old);
+    let outputs = output_row(&values, side.outputs);
+    let written = next_stored(side.netlist, &values, rows);
     let rows = exchange(written);
     Cycle { outputs, rows }
-}
-
-// Two bits are not marked as they differ.
-fn mismarked(a: bool, b: bool, marked: bool) -> bool
-    ensures { result ≡ xor (xor a b) marked }
-{
-    differ(differ(a, b), marked)
 }
 
 // Two rows of bits differ somewhere.
 fn bits_differ(xs: &[bool], ys: &[bool]) -> bool
     ensures { result ≡ bits_differ xs.now ys.now }
 {
-    let mut k: usize = 0;
-    while k < xs.len() {
-        if k >= ys.len() {
-            return false;
-        }
-        if differ(xs[k], ys[k]) {
+    for (x, y) in xs.iter().zip(ys) {
+        if *x != *y {
             return true;
         }
-        k += 1;
     }
     false
 }
@@ -116,16 +95,10 @@ fn as_marked(claim: &[u8], place: usize, xs: &[bool], ys: &[bool]) -> bool
     requires { place ≤ 65536 }
     ensures { result ≡ differ_as_marked claim.now place xs.now ys.now }
 {
-    let mut k: usize = 0;
-    while k < xs.len() {
-        if k >= ys.len() {
-            return true;
-        }
-        let marked = claim_bit(claim, place + k);
-        if mismarked(xs[k], ys[k], marked) {
+    for k in 0..xs.len().min(ys.len()) {
+        if (xs[k] != ys[k]) != claim_bit(claim, place + k) {
             return false;
         }
-        k += 1;
     }
     true
 }
@@ -148,17 +121,15 @@ fn compare(
 }
 
 // The step's outcome from a cycle's comparison and the rows after it.
+#[tactic(auto, unfolding(crate::specs::StepSides::outcome_of))]
 fn outcome(p: Position, cycle: usize, c: Comparison, gold: Rows, gate: Rows) -> Stepped
     requires { p.cycle ≤ 64 }
     ensures { result ≡ outcome_of p cycle c.differ c.marked gold gate }
 {
-    let reached = p.cycle == cycle;
-    let agreed = both(p.agreed, !c.differ);
-    let claimed = both(p.agreed, both(c.differ, c.marked));
-    let yes = both(reached, claimed);
+    let yes = p.cycle == cycle && p.agreed && c.differ && c.marked;
     let position = Position {
         cycle: p.cycle + 1,
-        agreed,
+        agreed: p.agreed && !c.differ,
         gold,
         gate,
     };
@@ -167,50 +138,42 @@ fn outcome(p: Position, cycle: usize, c: Comparison, gold: Rows, gate: Rows) -> 
 
 // One cycle of both sides. Per side the new row is written from the old one, and the two are exchanged.
 pub fn advance(
-    gold: Side,
-    gate: Side,
+    gold: &Side,
+    gate: &Side,
     inputs: usize,
     cycle: usize,
     claim: &[u8],
     p: Position,
 ) -> Stepped
-    requires { (SizedSide gold) × (SizedSide gate) × (inputs ≤ 128) × (cycle ≤ 64) × (p.cycle ≤ 64) }
-    ensures { (s t : List ℕ) → Paired s t inputs gold gate → Advanced s t gold gate cycle claim.now p result }
+    requires { (SizedSide gold.now) × (SizedSide gate.now) × (inputs ≤ 128) × (cycle ≤ 64) × (p.cycle ≤ 64) }
+    ensures { (s t : List ℕ) → Paired s t inputs gold.now gate.now → Advanced s t gold.now gate.now cycle claim.now p result }
 {
     let at = p.cycle * inputs;
     let place = (cycle + 1) * inputs;
-    let rows = p.gold;
-    let gold_cycle = cycle_of(gold, claim, at, rows);
-    let rows = p.gate;
-    let gate_cycle = cycle_of(gate, claim, at, rows);
-    let gold_order = gold.outputs;
-    let gate_order = gate.outputs;
-    let gold_outputs = gold_cycle.outputs;
-    let gate_outputs = gate_cycle.outputs;
+    let gold_cycle = cycle_of(gold, claim, at, p.gold);
+    let gate_cycle = cycle_of(gate, claim, at, p.gate);
     let c = compare(
         claim,
         place,
-        gold_outputs,
-        gold_order.count,
-        gate_outputs,
-        gate_order.count,
+        gold_cycle.outputs,
+        gold.outputs.count,
+        gate_cycle.outputs,
+        gate.outputs.count,
     );
-    let gold_rows = gold_cycle.rows;
-    let gate_rows = gate_cycle.rows;
-    outcome(p, cycle, c, gold_rows, gate_rows)
+    outcome(p, cycle, c, gold_cycle.rows, gate_cycle.rows)
 }
 
 // One step of a replay from a position: past the claimed cycle nothing changes and the answer is no.
 pub fn step(
-    gold: Side,
-    gate: Side,
+    gold: &Side,
+    gate: &Side,
     inputs: usize,
     cycle: usize,
     claim: &[u8],
     p: Position,
 ) -> Stepped
-    requires { (SizedSide gold) × (SizedSide gate) × (inputs ≤ 128) × (cycle ≤ 64) }
-    ensures { (s t : List ℕ) → Paired s t inputs gold gate → StepTaken s t gold gate cycle claim.now p result }
+    requires { (SizedSide gold.now) × (SizedSide gate.now) × (inputs ≤ 128) × (cycle ≤ 64) }
+    ensures { (s t : List ℕ) → Paired s t inputs gold.now gate.now → StepTaken s t gold.now gate.now cycle claim.now p result }
 {
     if p.cycle > cycle {
         return Stepped {

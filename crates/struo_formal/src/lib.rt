@@ -10,7 +10,6 @@ ghost use Rattle.calls.specs.Answers.{refusal_of, replay_of, checked_of};
 ghost use Rattle.calls.specs.Positions.{position_of, begun_of, stepped_of};
 
 use calls::answers::{CheckAnswer, ReadAnswer, ReplayAnswer};
-use calls::fault::Fault;
 use calls::options::Options;
 use calls::position::ReplayPosition;
 use netlist_checks::record::read_record;
@@ -19,19 +18,13 @@ use netlist_checks::record::read_record;
 pub fn read(record: &[u8]) -> ReadAnswer
     ensures { refusal_of result ≡ Validate.read «record».now }
 {
-    let reading = read_record(record);
-    let fault = reading.fault;
-    match fault {
-        Fault::Nothing => ReadAnswer {
+    match read_record(record) {
+        Ok(_) => ReadAnswer {
             number: 0,
             side: 0,
             place: 0,
         },
-        Fault::Refused(number, side, place) => ReadAnswer {
-            number,
-            side,
-            place,
-        },
+        Err(refusal) => ReadAnswer::from(refusal),
     }
 }
 

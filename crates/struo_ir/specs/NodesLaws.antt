@@ -1,6 +1,6 @@
 -- The walk over a record's nodes: its state at the start, after one more node, at a refusal and at the end. Assumes nothing.
 use Prim.Native.Nat.{ℕ, suc, ◌+◌, ◌-◌, ◌≤◌, ◌<◌}
-use Rattle.std.specs.Prelude.{◌≡◌, refl, true, cond, List, [], ◌∷◌, ◌++◌, map, take, set, replicate, eqb}
+use Rattle.std.specs.Prelude.{◌≡◌, refl, true, cond, List, [], ◌∷◌, ◌++◌, set, replicate, eqb, Ok, Err}
 use Rattle.std.proofs.Common.{sym, ◌∙◌, length-set, get_or-set_other}
 use Rattle.std.proofs.Math.Path.{ap}
 use native.Mathlib.Omega.{arith}
@@ -10,13 +10,15 @@ use Rattle.facts.specs.Numbers.{cond_le}
 use Rattle.model.specs.Answers.{Refusal}
 use Rattle.model.specs.Kinds.{input_kind, output_kind}
 use Rattle.model.specs.Netlist.{ports_from}
-use Rattle.model.specs.Record.{got, refused, refuse, pure, go_on, ◌>>=◌, kinds, listed_kind, node, nodes_from}
+use Rattle.model.specs.Record.{got, refused, pure, go_on, ◌>>=◌, kinds, listed_kind, node, nodes_from}
 use Rattle.model.specs.Lists.{member}
 use Rattle.struo_ir.specs.declared.netlist.Node.{Node}
-use Rattle.fields.specs.declared.Number.TheVariants as Number
+use Rattle.struo_ir.specs.declared.nodes.Nodes.{Nodes}
+use Rattle.calls.specs.Causes.{numbers_of}
+use Rattle.calls.specs.declared.refusal.Refusal as Code
 use Rattle.fields.specs.Fields.{map_step}
 use Rattle.struo_ir.specs.Decoded.{decoded_node}
-use Rattle.struo_ir.specs.Nodes.{cell_at, no_node, nodes_of, count_of, NodesRead, nodes_to, NodesSoFar}
+use Rattle.struo_ir.specs.Nodes.{cell_at, no_node, nodes_of, NodesRead, nodes_to, NodesSoFar}
 use Rattle.struo_ir.specs.NodeDecoding.{node-decoded, inputs-more, outputs-more}
 use Rattle.struo_ir.specs.ListLaws.{map-take-set}
 use Rattle.struo_ir.specs.StepLaws.{cell-listed}
@@ -80,33 +82,28 @@ module _ (s : List ℕ) (count at : ℕ) (nodes : List Node) (inputs outputs nex
         }
 
   -- a node is refused
-  pub nodes-refused : (number place : ℕ) → i < count → refuse number place ≡ cell_at inputs outputs s next → NodesRead s count at (Number.Refused number place) nodes
-  unfolding nodes_of count_of refuse nodes_from ◌>>=◌ go_on
-  nodes-refused number place l e =
+  pub nodes-refused : (r : Code.Refusal) → i < count → refused (numbers_of r) ≡ cell_at inputs outputs s next → NodesRead s count at (Err r)
+  unfolding nodes_of nodes_from ◌>>=◌ go_on
+  nodes-refused r l e =
       let d : count - i ≡ suc (count - (i + 1)) = omega arith in
-      record {
-        step = goal d ∙ so.rest;
-        fits = refl;
-        size = so.size;
-        past = λ k h. so.past k (omega (arith, so.bound));
-        listed = so.listed;
-      }
+      record { step = goal d ∙ so.rest; whole = λ n after f. absurd cc }
     where
-      goal : count - i ≡ suc (count - (i + 1)) → refuse number place ≡ nodes_from listed_kind (count - i) (nodes_to s nodes i) s next
+      goal : count - i ≡ suc (count - (i + 1)) → refused (numbers_of r) ≡ nodes_from listed_kind (count - i) (nodes_to s nodes i) s next
       goal d = rw (d, ← here-refused _ e)
 
   -- all nodes are read
-  pub nodes-done : count ≤ i → NodesRead s count at (Number.Got count next) nodes
-  unfolding nodes_of count_of nodes_from pure nodes_to
+  pub nodes-done : count ≤ i → NodesRead s count at (Ok (record { count = count; nodes = nodes }, next))
+  unfolding nodes_of nodes_from pure
   nodes-done l =
       let d : count - i ≡ 0 = omega arith in
       let f : i ≡ count = omega (arith, so.bound) in
       record {
-        step = ap (λ (n : ℕ). got (map (decoded_node s) (take n nodes)) next) (sym f) ∙ (goal d ∙ so.rest);
-        fits = refl;
-        size = so.size;
-        past = λ k h. so.past k (omega arith);
-        listed = so.listed;
+        step = ap (λ (n : ℕ). got (nodes_to s nodes n) next) (sym f) ∙ (goal d ∙ so.rest);
+        whole = λ n after g.
+            let h : ◌≡◌ {A = Nodes × ℕ} (record { count = count; nodes = nodes }, next) (n, after) = cc in
+            let a : count ≡ n.count = ap (λ (p : Nodes × ℕ). p.0.count) h in
+            let b : nodes ≡ n.nodes = ap (λ (p : Nodes × ℕ). p.0.nodes) h in
+            (sym a, rw (← b) (record { size = so.size; past = λ k h. so.past k (omega arith); listed = so.listed }));
       }
     where
       goal : count - i ≡ 0 → got (nodes_to s nodes i) next ≡ nodes_from listed_kind (count - i) (nodes_to s nodes i) s next

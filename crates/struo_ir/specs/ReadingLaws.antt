@@ -1,5 +1,5 @@
 -- Laws of a reading: its outcome by the steps that the reader takes. Assumes nothing.
-use Rattle.std.specs.Prelude.{ℕ, ◌+◌, ◌*◌, ◌≤◌, ◌<◌, true, false, ◌&&◌, List, [], ◌∷◌, get_or, take, drop, replicate, eqb}
+use Rattle.std.specs.Prelude.{ℕ, ◌+◌, ◌*◌, ◌≤◌, ◌<◌, true, false, ◌&&◌, List, [], ◌∷◌, get_or, take, drop, replicate, eqb, Result, Ok, Err}
 use Rattle.std.proofs.Math.Path.{◌≡◌, refl, ap}
 use Rattle.std.proofs.Common.{sym, ◌∙◌, arith}
 use Rattle.std.proofs.Math.ListN.{length}
@@ -12,18 +12,17 @@ use Rattle.model.specs.Names.{Name}
 use Rattle.model.specs.Lists.{member}
 use Rattle.model.specs.Netlist as Model
 use Rattle.model.specs.Record.{Step, got, refused, Reader, refuse, pure, go_on, ◌>>=◌, guard, big_endian, number, name, nodes, nodes_from, registers, registers_from, register, kinds, listed_kind, end, version1, version_of, length_fits, parsed, refused_record, finished, parse_fields, parse_sized, parse}
-use Rattle.struo_ir.specs.declared.netlist.Node.{Node}
-use Rattle.struo_ir.specs.declared.netlist.RegisterCell.{RegisterCell}
-use Rattle.fields.specs.declared.Number.{Number}
 use Rattle.calls.specs.Faults.{refusal}
-use Rattle.calls.specs.declared.fault.Fault.TheVariants as Fault
-use Rattle.struo_ir.specs.declared.reader.Reading.{Reading}
+use Rattle.calls.specs.Causes.{numbers_of}
+use Rattle.calls.specs.declared.refusal.Refusal.{Refusal}
+use Rattle.struo_ir.specs.declared.nodes.Nodes.{Nodes}
+use Rattle.struo_ir.specs.declared.registers.Registers.{Registers}
 use Rattle.struo_ir.specs.Decoded.{name_at}
 use Rattle.fields.specs.Fields.{map_step, placed}
 use Rattle.fields.specs.FieldLaws.{bind_refused, bind_got, guard_passed}
-use Rattle.struo_ir.specs.Nodes.{nodes_to, nodes_of, no_node, count_of, NodesRead}
+use Rattle.struo_ir.specs.Nodes.{nodes_to, nodes_of, no_node, NodesRead}
 use Rattle.struo_ir.specs.Designs.{NodesPadded, RegistersPadded}
-use Rattle.struo_ir.specs.Reading.{refused_at, read_by, read_of, NodesCounted, RegistersCounted, design_of, from_registers, from_nodes}
+use Rattle.struo_ir.specs.Reading.{refused_at, NodesCounted, RegistersCounted, design_of, from_registers, from_nodes}
 use Rattle.struo_ir.specs.Registers.{registers_to, registers_of, no_register, RegistersRead}
 use Rattle.struo_ir.specs.StepLaws.{name-at}
 
@@ -36,84 +35,71 @@ no-nodes-padded = record { size = length-replicate 1024 no_node; fits = omega ar
 pub no-registers-padded : RegistersPadded 0 (replicate 128 no_register)
 no-registers-padded = record { size = length-replicate 128 no_register; fits = omega arith; past = λ k h. get_or-replicate 128 k no_register }
 
-pub read-refused : (s : List ℕ) (r : Reading) (n place : ℕ) → r.fault ≡ Fault.Refused n 0 place → read_of s r ≡ refused_at n place
-unfolding read_of read_by refused_at
-read-refused s r n place e = ap (read_by s r.netlist) e
-
 -- ---- counts
 
-refused≢got : {n place m next : ℕ} → Number.Refused n place ≡ Number.Got m next → ⊥
-refused≢got h = let z : ◌≡◌ {A = ℕ} 0 1 = cc in omega arith
-
-module _ (s : List ℕ) (at : ℕ) (field : Number) where
-  pub nodes-not-counted : (cells : List Node) (n place : ℕ) → field ≡ Number.Refused n place → refuse n place ≡ nodes listed_kind s at → NodesCounted s at field cells
+module _ (s : List ℕ) (at : ℕ) where
+  pub nodes-not-counted : (r : Refusal) → refused (numbers_of r) ≡ nodes listed_kind s at → NodesCounted s at (Err r)
   unfolding nodes_of
-  nodes-not-counted cells n place e h =
-      record { step = ap (nodes_of s cells) e ∙ h; whole = λ m next f. absurd (refused≢got (sym e ∙ f)) }
+  nodes-not-counted r h = record { step = h; whole = λ n next f. absurd cc }
 
-  pub registers-not-counted : (cells : List RegisterCell) (n place : ℕ) → field ≡ Number.Refused n place → refuse n place ≡ registers register s at → RegistersCounted s at field cells
+  pub registers-not-counted : (r : Refusal) → refused (numbers_of r) ≡ registers register s at → RegistersCounted s at (Err r)
   unfolding registers_of
-  registers-not-counted cells n place e h =
-      record { step = ap (registers_of s cells) e ∙ h; whole = λ m next f. absurd (refused≢got (sym e ∙ f)) }
+  registers-not-counted r h = record { step = h; whole = λ n next f. absurd cc }
 
   module _ (count next : ℕ) (g : got count next ≡ number s at) where
-    count-is : (n after : ℕ) → field ≡ Number.Got n after → count_of field count ≡ count → n ≡ count
-    unfolding count_of
-    count-is n after f e = ap (λ (x : Number). count_of x count) (sym f) ∙ e
-
-    pub nodes-counted : (cells : List Node) → count ≤ 1024 → NodesRead s count next field cells → NodesCounted s at field cells
+    pub nodes-counted : (field : Result (Nodes × ℕ) Refusal) → count ≤ 1024 → NodesRead s count next field → NodesCounted s at field
     unfolding nodes
-    nodes-counted cells l r =
+    nodes-counted field l r =
         record {
           step = r.step ∙ bind_got (guard 6 (λ n. leb n 1024) number) (λ n. nodes_from listed_kind n []) s at count next (guard_passed 6 (λ n. leb n 1024) number s at count next g (sym (le-leb count 1024 l)));
-          whole = λ n after f. let e : n ≡ count = count-is n after f r.fits in record { size = r.size; fits = omega arith; past = λ k h. r.past k (omega arith); listed = r.listed };
+          whole = λ n after f. let w = r.whole n after f in record { size = w.1.size; fits = omega (arith, w.0); past = λ k h. w.1.past k (omega (arith, w.0)); listed = w.1.listed };
         }
 
-    pub registers-counted : (cells : List RegisterCell) → count ≤ 128 → RegistersRead s count next field cells → RegistersCounted s at field cells
+    pub registers-counted : (field : Result (Registers × ℕ) Refusal) → count ≤ 128 → RegistersRead s count next field → RegistersCounted s at field
     unfolding registers
-    registers-counted cells l r =
+    registers-counted field l r =
         record {
           step = r.step ∙ bind_got (guard 6 (λ n. leb n 128) number) (λ n. registers_from register n []) s at count next (guard_passed 6 (λ n. leb n 128) number s at count next g (sym (le-leb count 128 l)));
-          whole = λ n after f. let e : n ≡ count = count-is n after f r.fits in record { size = r.size; fits = omega arith; past = λ k h. r.past k (omega arith) };
+          whole = λ n after f. let w = r.whole n after f in record { size = w.1.size; fits = omega (arith, w.0); past = λ k h. w.1.past k (omega (arith, w.0)) };
         }
 
 -- ---- from the registers on
 
-module _ (ns : List Model.Node) (s : List ℕ) (at : ℕ) (field : Number) (cells : List RegisterCell) (r : RegistersCounted s at field cells) where
-  pub rest-refused : (n place : ℕ) → field ≡ Number.Refused n place → refused_at n place ≡ from_registers ns s at
-  unfolding from_registers refusal refused_at finished registers_of refuse
-  rest-refused n place e = ap finished (bind_refused (registers register) (design_of s ns) s at _ (ap (registers_of s cells) (sym e) ∙ r.step))
+module _ (ns : List Model.Node) (s : List ℕ) (at : ℕ) (field : Result (Registers × ℕ) Refusal) (r : RegistersCounted s at field) where
+  pub rest-refused : (x : Refusal) → field ≡ Err x → refused_record (numbers_of x) ≡ from_registers ns s at
+  unfolding from_registers finished registers_of
+  rest-refused x e = ap finished (bind_refused (registers register) (design_of s ns) s at _ (ap (registers_of s) (sym e) ∙ r.step))
 
-  module _ (n after : ℕ) (e : field ≡ Number.Got n after) where
+  module _ (rs : Registers) (after : ℕ) (e : field ≡ Ok (rs, after)) where
     -- all registers are read
-    read-registers : design_of s ns (registers_to s cells n) s after ≡ ◌>>=◌ (registers register) (design_of s ns) s at
+    read-registers : design_of s ns (registers_to s rs.registers rs.count) s after ≡ ◌>>=◌ (registers register) (design_of s ns) s at
     unfolding registers_of
-    read-registers = bind_got (registers register) (design_of s ns) s at (registers_to s cells n) after (ap (registers_of s cells) (sym e) ∙ r.step)
+    read-registers = bind_got (registers register) (design_of s ns) s at (registers_to s rs.registers rs.count) after (ap (registers_of s) (sym e) ∙ r.step)
 
     pub rest-left : after < length s → refused_at 3 after ≡ from_registers ns s at
     unfolding from_registers refusal refused_at design_of ◌>>=◌ end go_on finished refuse
     rest-left l = left l ∙ ap finished read-registers
       where
-        left : after < length s → refused_record (record { number = 3; side = 0; place = after }) ≡ finished (design_of s ns (registers_to s cells n) s after)
+        left : after < length s → refused_record (record { number = 3; side = 0; place = after }) ≡ finished (design_of s ns (registers_to s rs.registers rs.count) s after)
         left l = rw (lt-leb (length s) after l)
 
-    pub rest-done : length s ≤ after → parsed (record { name = name_at s 5; nodes = ns; registers = registers_to s cells n }) ≡ from_registers ns s at
+    pub rest-done : length s ≤ after → parsed (record { name = name_at s 5; nodes = ns; registers = registers_to s rs.registers rs.count }) ≡ from_registers ns s at
     unfolding from_registers design_of ◌>>=◌ end go_on finished pure
     rest-done l = done l ∙ ap finished read-registers
       where
-        done : length s ≤ after → parsed (record { name = name_at s 5; nodes = ns; registers = registers_to s cells n }) ≡ finished (design_of s ns (registers_to s cells n) s after)
+        done : length s ≤ after → parsed (record { name = name_at s 5; nodes = ns; registers = registers_to s rs.registers rs.count }) ≡ finished (design_of s ns (registers_to s rs.registers rs.count) s after)
         done l = rw (le-leb (length s) after l)
 
 -- ---- from the nodes on
 
-module _ (s : List ℕ) (at : ℕ) (field : Number) (cells : List Node) (r : NodesCounted s at field cells) where
-  pub nodes-refused-at : (n place : ℕ) → field ≡ Number.Refused n place → refused_at n place ≡ from_nodes s at
-  unfolding from_nodes refusal refused_at finished nodes_of refuse
-  nodes-refused-at n place e = ap finished (bind_refused (nodes listed_kind) (λ ns. ◌>>=◌ (registers register) (design_of s ns)) s at _ (ap (nodes_of s cells) (sym e) ∙ r.step))
+module _ (s : List ℕ) (at : ℕ) (field : Result (Nodes × ℕ) Refusal) (r : NodesCounted s at field) where
+  pub nodes-refused-at : (x : Refusal) → field ≡ Err x → refused_record (numbers_of x) ≡ from_nodes s at
+  unfolding from_nodes finished nodes_of
+  nodes-refused-at x e = ap finished (bind_refused (nodes listed_kind) (λ ns. ◌>>=◌ (registers register) (design_of s ns)) s at _ (ap (nodes_of s) (sym e) ∙ r.step))
 
-  pub nodes_then : (n after : ℕ) → field ≡ Number.Got n after → from_registers (nodes_to s cells n) s after ≡ from_nodes s at
-  unfolding from_nodes from_registers nodes_of nodes_to
-  nodes_then n after e = ap finished (bind_got (nodes listed_kind) (λ ns. ◌>>=◌ (registers register) (design_of s ns)) s at (nodes_to s cells n) after (ap (nodes_of s cells) (sym e) ∙ r.step))
+  pub nodes_then : (n : Nodes) (after : ℕ) → field ≡ Ok (n, after) → from_registers (nodes_to s n.nodes n.count) s after ≡ from_nodes s at
+  unfolding from_nodes from_registers nodes_of
+  nodes_then n after e = ap finished (bind_got (nodes listed_kind) (λ ns. ◌>>=◌ (registers register) (design_of s ns)) s at (nodes_to s n.nodes n.count) after (ap (nodes_of s) (sym e) ∙ r.step))
 
 -- ---- from the design's name on
 
@@ -126,13 +112,13 @@ after-name n = do
   pure (record { name = n; nodes = ns; registers = rs })
 
 module _ (s : List ℕ) where
-  pub design-refused : (n place : ℕ) → refuse n place ≡ placed 5 (name s 5) → refused_at n place ≡ finished (version1 s 5)
-  unfolding version1 ◌>>=◌ after-name placed map_step go_on refuse refusal refused_at finished
-  design-refused n place e = go (name s 5) e
+  pub design-refused : (x : Refusal) → refused (numbers_of x) ≡ placed 5 (name s 5) → refused_record (numbers_of x) ≡ finished (version1 s 5)
+  unfolding version1 ◌>>=◌ after-name placed map_step go_on finished
+  design-refused x e = go (name s 5) e
     where
-      go : (x : Step Name) → refuse {A = ℕ} n place ≡ map_step (λ m. 5) x → refused_at n place ≡ finished (go_on after-name s x)
-      go (got m j) e = absurd (let z : ◌≡◌ {A = ℕ} 0 1 = cc in omega arith)
-      go (refused x) e = let f : record { number = n; side = 0; place = place } ≡ x = cc in ap refused_record f
+      go : (y : Step Name) → ◌≡◌ {A = Step ℕ} (refused (numbers_of x)) (map_step (λ m. 5) y) → refused_record (numbers_of x) ≡ finished (go_on after-name s y)
+      go (got m j) e = absurd cc
+      go (refused y) e = let f : numbers_of x ≡ y = cc in ap refused_record f
 
   pub design-named : (p j : ℕ) → got p j ≡ placed 5 (name s 5) → from_nodes s j ≡ finished (version1 s 5)
   unfolding version1 ◌>>=◌ after-name placed map_step go_on from_nodes design_of

@@ -1,18 +1,14 @@
 -- A register as the reader keeps it: the steps that its fields take. Definitions only.
-use Rattle.std.specs.Prelude.{ℕ, zero, suc, ◌-◌, ◌≤◌, ◌≡◌, List, [], map, length, get_or, take}
+use Rattle.std.specs.Prelude.{ℕ, zero, suc, ◌-◌, ◌≤◌, ◌≡◌, List, [], map, length, get_or, take, Result, Ok, Err}
 use Rattle.model.specs.Netlist as Model
-use Rattle.model.specs.Record.{Step, got, Reader, refuse, pure, ◌>>=◌, name, number, code_below, numbers, register, registers_from}
+use Rattle.model.specs.Record.{Step, got, refused, Reader, pure, ◌>>=◌, name, number, code_below, numbers, register, registers_from}
+use Rattle.calls.specs.Causes.{numbers_of}
+use Rattle.calls.specs.declared.refusal.Refusal.{Refusal}
 use Rattle.struo_ir.specs.declared.netlist.RegisterCell.{RegisterCell}
-use Rattle.struo_ir.specs.declared.registers.RegisterField.{RegisterField}
-use Rattle.fields.specs.declared.Number.{Number}
+use Rattle.struo_ir.specs.declared.registers.Registers.{Registers}
 use Rattle.struo_ir.specs.Decoded.{decoded_register}
 use Rattle.fields.specs.Fields.{map_step, placed}
-use Rattle.struo_ir.specs.Nodes.{three, count_of}
-
--- the step of a register
-unfoldable pub register_step : RegisterField → Step RegisterCell
-register_step (RegisterField.Got r next) = got r next
-register_step (RegisterField.Refused n place) = refuse n place
+use Rattle.struo_ir.specs.Nodes.{three}
 
 -- a register of its name's place, its nets and its edge
 unfoldable pub fixed : ℕ → List ℕ → ℕ → RegisterCell
@@ -96,16 +92,19 @@ unfoldable pub registers_to : List ℕ → List RegisterCell → ℕ → List Mo
 registers_to s registers i = map (decoded_register s) (take i registers)
 
 -- the step of the registers: as many as the count says, decoded
-unfoldable pub registers_of : List ℕ → List RegisterCell → Number → Step (List Model.Register)
-registers_of s registers (Number.Got n next) = got (registers_to s registers n) next
-registers_of s registers (Number.Refused n place) = refuse n place
+unfoldable pub registers_of : List ℕ → Result (Registers × ℕ) Refusal → Step (List Model.Register)
+registers_of s (Ok f) = got (registers_to s f.0.registers f.0.count) f.1
+registers_of s (Err r) = refused (numbers_of r)
 
--- what was read after the count: the definition's registers, and zeros past the count
-pub record RegistersRead (s : List ℕ) (count at : ℕ) (field : Number) (registers : List RegisterCell) : Type 0 where
-  pub step : registers_of s registers field ≡ registers_from register count [] s at
-  pub fits : count_of field count ≡ count
+-- an array of 128 registers, zeros from the count on
+pub record RegistersHeld (count : ℕ) (registers : List RegisterCell) : Type 0 where
   pub size : length registers ≡ 128
   pub past : (k : ℕ) → count ≤ k → get_or registers k no_register ≡ no_register
+
+-- what was read after the count: the definition's registers, and zeros past the count
+pub record RegistersRead (s : List ℕ) (count at : ℕ) (field : Result (Registers × ℕ) Refusal) : Type 0 where
+  pub step : registers_of s field ≡ registers_from register count [] s at
+  pub whole : (r : Registers) (next : ℕ) → field ≡ Ok (r, next) → (r.count ≡ count) × RegistersHeld count r.registers
 
 -- the reader's state after i registers: what is left to read gives the whole
 pub record RegistersSoFar (s : List ℕ) (count at : ℕ) (registers : List RegisterCell) (next i : ℕ) : Type 0 where

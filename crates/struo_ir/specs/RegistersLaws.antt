@@ -1,18 +1,19 @@
 -- A register's enable and reset by their codes; the walk over a record's registers. Assumes nothing.
 use Prim.Native.Nat.{ℕ, zero, suc, ◌+◌, ◌-◌, ◌≤◌, ◌<◌}
-use Rattle.std.specs.Prelude.{◌≡◌, List, [], ◌∷◌, ◌++◌, set, replicate}
+use Rattle.std.specs.Prelude.{◌≡◌, List, [], ◌∷◌, ◌++◌, set, replicate, Ok, Err}
 use Rattle.std.proofs.Math.Path.{refl, ap}
 use Rattle.std.proofs.Common.{sym, ◌∙◌, length-set, get_or-set_other}
 use native.Mathlib.Omega.{arith}
 use Rattle.std.proofs.lemmas.List.{length-replicate}
 use Rattle.facts.specs.Lists.{get_or-replicate}
 use Rattle.model.specs.Answers.{Refusal}
-use Rattle.model.specs.Record.{got, refused, refuse, pure, go_on, ◌>>=◌, number, register, registers_from}
+use Rattle.model.specs.Record.{got, refused, pure, go_on, ◌>>=◌, number, register, registers_from}
 use Rattle.struo_ir.specs.declared.netlist.RegisterCell.{RegisterCell}
-use Rattle.fields.specs.declared.Number.TheVariants as Number
+use Rattle.struo_ir.specs.declared.registers.Registers.{Registers}
+use Rattle.calls.specs.Causes.{numbers_of}
+use Rattle.calls.specs.declared.refusal.Refusal as Code
 use Rattle.fields.specs.Fields.{map_step}
 use Rattle.struo_ir.specs.Decoded.{decoded_register}
-use Rattle.struo_ir.specs.Nodes.{count_of}
 use Rattle.struo_ir.specs.Registers.{reset_fields, reset_if, register_reset, register_signal, enable_if, register_at, no_register, registers_to, registers_of, RegistersRead, RegistersSoFar}
 use Rattle.struo_ir.specs.RegisterDecoding.{register-decoded}
 use Rattle.struo_ir.specs.ListLaws.{map-take-set}
@@ -80,31 +81,28 @@ module _ (s : List ℕ) (count at : ℕ) (registers : List RegisterCell) (next i
         }
 
   -- a register is refused
-  pub registers-refused : (number place : ℕ) → i < count → refuse number place ≡ register_at s next → RegistersRead s count at (Number.Refused number place) registers
-  unfolding registers_of count_of refuse registers_from ◌>>=◌ go_on
-  registers-refused number place l e =
+  pub registers-refused : (r : Code.Refusal) → i < count → refused (numbers_of r) ≡ register_at s next → RegistersRead s count at (Err r)
+  unfolding registers_of registers_from ◌>>=◌ go_on
+  registers-refused r l e =
       let d : count - i ≡ suc (count - (i + 1)) = omega arith in
-      record {
-        step = goal d ∙ so.rest;
-        fits = refl;
-        size = so.size;
-        past = λ k h. so.past k (omega (arith, so.bound));
-      }
+      record { step = goal d ∙ so.rest; whole = λ n after f. absurd cc }
     where
-      goal : count - i ≡ suc (count - (i + 1)) → refuse number place ≡ registers_from register (count - i) (registers_to s registers i) s next
+      goal : count - i ≡ suc (count - (i + 1)) → refused (numbers_of r) ≡ registers_from register (count - i) (registers_to s registers i) s next
       goal d = rw (d, ← here-refused _ e)
 
   -- all registers are read
-  pub registers-done : count ≤ i → RegistersRead s count at (Number.Got count next) registers
-  unfolding registers_of count_of registers_from pure
+  pub registers-done : count ≤ i → RegistersRead s count at (Ok (record { count = count; registers = registers }, next))
+  unfolding registers_of registers_from pure
   registers-done l =
       let d : count - i ≡ 0 = omega arith in
       let f : i ≡ count = omega (arith, so.bound) in
       record {
         step = ap (λ (n : ℕ). got (registers_to s registers n) next) (sym f) ∙ (goal d ∙ so.rest);
-        fits = refl;
-        size = so.size;
-        past = λ k h. so.past k (omega arith);
+        whole = λ n after g.
+            let h : ◌≡◌ {A = Registers × ℕ} (record { count = count; registers = registers }, next) (n, after) = cc in
+            let a : count ≡ n.count = ap (λ (p : Registers × ℕ). p.0.count) h in
+            let b : registers ≡ n.registers = ap (λ (p : Registers × ℕ). p.0.registers) h in
+            (sym a, rw (← b) (record { size = so.size; past = λ k h. so.past k (omega arith) }));
       }
     where
       goal : count - i ≡ 0 → got (registers_to s registers i) next ≡ registers_from register (count - i) (registers_to s registers i) s next

@@ -1,9 +1,10 @@
 -- The comparisons in FRAMES, cycle by cycle: the first mismatch among them, and the trace's bytes. Assumes nothing.
-use Rattle.std.specs.Prelude.{◌≡◌, Bool, cond}
+use Rattle.std.specs.Prelude.{◌≡◌, Bool, cond, not}
 use Rattle.std.proofs.Math.Path.{refl, ap, sym}
 use Rattle.std.proofs.Common.{◌∙◌, take_all}
 use Rattle.std.proofs.Math.Bool.{true, false}
 use Rattle.std.specs.Bool.{xor as xorBool}
+use mathlib.Core.Bool.{beq}
 use mathlib.Core.List.{List, [], ◌∷◌, ◌++◌, map, append-nil, append_assoc}
 use Rattle.std.proofs.Math.Option.{Option, none, some}
 use Prim.Native.Nat.{ℕ, zero, suc, ◌+◌, ◌*◌, ◌≤◌, ◌<◌}
@@ -26,7 +27,8 @@ use Rattle.equivalence.specs.Frames.{words_from, pairs_from, comparison_at, comp
 use Rattle.model.specs.Check.{overwrite}
 use Rattle.assignment.specs.State.{model_of}
 use Rattle.trace.specs.Trace.{FirstMismatch, Traced}
-use Rattle.trace.specs.Writing.{Wrote, wrote_all}
+use Rattle.trace.specs.Values.{differ_is}
+use Rattle.trace.specs.Writing.{Wrote, wrote_all, bytes}
 
 -- ---- the first mismatch
 
@@ -120,14 +122,13 @@ inputs_of values I zero fs = []
 inputs_of values I (suc n) fs = inputs_of values I n fs ++ bytes_of values I (ROW * n) fs
 
 module _ (values : List Bool) (fs : List ℕ) where
-  pub bytes-none : (at : ℕ) → bytes_of values 0 at fs ≡ []
-  unfolding bytes_of words_from
-  bytes-none at = refl
-
-  -- one byte more
-  pub bytes-more : (n at : ℕ) → bytes_of values (n + 1) at fs ≡ snoc (bytes_of values n at fs) (byte (evaluate values (get_or fs (at + n) 0)))
-  unfolding bytes_of words_from
-  bytes-more n at = rw add-one (map_snoc (λ (l : ℕ). byte (evaluate values l)) (words_from n at fs) (get_or fs (at + n) 0))
+  -- they are the bytes of the literals' values
+  pub bytes_are : (n at : ℕ) → bytes (λ i. evaluate values (get_or fs (at + i) 0)) n ≡ bytes_of values n at fs
+  unfolding bytes bytes_of words_from
+  bytes_are zero at = refl
+  bytes_are (suc n) at =
+      ap (λ (xs : List ℕ). snoc xs (byte (evaluate values (get_or fs (at + n) 0)))) (bytes_are n at)
+      ∙ sym (map_snoc (λ (l : ℕ). byte (evaluate values l)) (words_from n at fs) (get_or fs (at + n) 0))
 
   pub length-bytes : (n at : ℕ) → length (bytes_of values n at fs) ≡ n
   unfolding bytes_of words_from snoc
@@ -135,23 +136,16 @@ module _ (values : List Bool) (fs : List ℕ) where
   length-bytes (suc n) at = length-map (words_from n at fs ++ (get_or fs (at + n) 0 ∷ [])) (λ (l : ℕ). byte (evaluate values l))
       ∙ simp length-append (omega (arith, length-map (words_from n at fs) (λ (l : ℕ). byte (evaluate values l)), length-bytes n at))
 
-  pub marks-none : (at to : ℕ) → marks_of values 0 at to fs ≡ []
-  unfolding marks_of pairs_from
-  marks-none at to = refl
-
-  -- one mark more
-  pub marks-more : (n at to : ℕ)
-      → marks_of values (n + 1) at to fs ≡ snoc (marks_of values n at to fs) (byte (xorBool (evaluate values (get_or fs (at + n) 0)) (evaluate values (get_or fs (to + n) 0))))
-  unfolding marks_of pairs_from
-  marks-more n at to =
-      rw add-one (map_snoc (λ (p : Literal × Literal). byte (xorBool (evaluate values p.0) (evaluate values p.1))) (pairs_from n at to fs) (get_or fs (at + n) 0, get_or fs (to + n) 0))
-
-  pub length-marks : (n at to : ℕ) → length (marks_of values n at to fs) ≡ n
-  unfolding marks_of pairs_from snoc
-  length-marks zero at to = refl
-  length-marks (suc n) at to =
-      length-map (pairs_from n at to fs ++ ((get_or fs (at + n) 0, get_or fs (to + n) 0) ∷ [])) (λ (p : Literal × Literal). byte (xorBool (evaluate values p.0) (evaluate values p.1)))
-      ∙ simp length-append (omega (arith, length-map (pairs_from n at to fs) (λ (p : Literal × Literal). byte (xorBool (evaluate values p.0) (evaluate values p.1))), length-marks n at to))
+  -- they are the bytes of what differs
+  pub marks-bytes : (n at to : ℕ) → bytes (λ i. not (beq (evaluate values (get_or fs (at + i) 0)) (evaluate values (get_or fs (to + i) 0)))) n ≡ marks_of values n at to fs
+  unfolding bytes marks_of pairs_from
+  marks-bytes zero at to = refl
+  marks-bytes (suc n) at to =
+      let a = evaluate values (get_or fs (at + n) 0) in
+      let b = evaluate values (get_or fs (to + n) 0) in
+      ap (λ (xs : List ℕ). snoc xs (byte (not (beq a b)))) (marks-bytes n at to)
+      ∙ ap (λ (t : Bool). snoc (marks_of values n at to fs) (byte t)) (differ_is a b)
+      ∙ sym (map_snoc (λ (p : Literal × Literal). byte (xorBool (evaluate values p.0) (evaluate values p.1))) (pairs_from n at to fs) (get_or fs (at + n) 0, get_or fs (to + n) 0))
 
   pub inputs-none : (I : ℕ) → inputs_of values I 0 fs ≡ []
   unfolding inputs_of

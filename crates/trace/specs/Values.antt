@@ -1,7 +1,10 @@
--- The values of nodes by the words of VALUES, and the exclusive or of two of them. Assumes nothing.
+-- The values of nodes by the words of VALUES, and bits as bytes. Assumes nothing.
 use Rattle.std.specs.Prelude.{◌≡◌, refl, Bool, true, false, cond, not, List, [], ◌∷◌, map, ℕ, zero, suc, ◌%◌, eqb}
 use Rattle.std.proofs.Common.{ap₂, sym}
 use Rattle.std.proofs.Math.Bool.{xor as xorBool}
+use mir.Val.{bool_byte}
+use mathlib.Core.Bool.{beq}
+use Rattle.model.specs.Equivalence.{byte}
 use Rattle.model.specs.Sat as Sat
 use Rattle.aig.specs.Operations.{is_true}
 use Rattle.assignment.specs.State.{word_value}
@@ -20,13 +23,16 @@ pub model_is : (xs : List ℕ) → map is_true xs ≡ map Sat.is_true (map word_
 model_is [] = refl
 model_is (x ∷ xs) = ap₂ (λ (b : Bool) (bs : List Bool). b ∷ bs) (sym (true_word x)) (model_is xs)
 
--- what the exclusive or is where its first bit is known
-pub xor-set : (a b : Bool) → a ≡ true → xorBool a b ≡ not b
-unfolding xorBool
-xor-set a true e = rw e
-xor-set a false e = rw e
+-- a bit as a byte
+pub byte_is : (b : Bool) → bool_byte b ≡ byte b
+unfolding byte
+byte_is true = refl
+byte_is false = refl
 
-pub xor-unset : (a b : Bool) → a ≡ false → xorBool a b ≡ b
+-- whether two bits differ
+pub differ_is : (a b : Bool) → not (beq a b) ≡ xorBool a b
 unfolding xorBool
-xor-unset a true e = rw e
-xor-unset a false e = rw e
+differ_is true true = refl
+differ_is true false = refl
+differ_is false true = refl
+differ_is false false = refl

@@ -1,8 +1,9 @@
 -- Bytes written one after another over the first ones of a lent list. Assumes nothing.
-use Rattle.std.specs.Prelude.{◌≡◌, refl, List, [], ◌∷◌, ◌++◌, ℕ, suc, ◌+◌, ◌-◌, ◌<◌, length, set}
-use Rattle.std.proofs.Common.{ap, sym, ◌∙◌, append-nil, append_assoc, arith, length-append, length-drop, length-set, drop-cons}
+use Rattle.std.specs.Prelude.{◌≡◌, refl, List, [], ◌∷◌, ◌++◌, ℕ, zero, suc, Bool, ◌+◌, ◌-◌, ◌<◌, length, set}
+use Rattle.std.proofs.Common.{ap, sym, add-one, ◌∙◌, append-nil, append_assoc, arith, length-append, length-drop, length-set, drop-cons}
 use Rattle.std.proofs.Math.Seq.{set-append_seam}
 use Rattle.model.specs.Lists.{snoc}
+use Rattle.model.specs.Equivalence.{byte}
 use Rattle.model.specs.Check.{overwrite}
 
 -- From a list of which the first `place` were written, bs were written after them.
@@ -50,3 +51,17 @@ wrote_append place next cs bs t t₁ t₂ e j k =
 pub wrote_all : (bs t t' : List ℕ) → Wrote 0 bs t t' → t' ≡ overwrite bs t
 unfolding overwrite
 wrote_all bs t t' k = k.is [] t refl refl
+
+-- the bytes of the first n bits
+unfoldable pub bytes : (ℕ → Bool) → ℕ → List ℕ
+bytes f zero = []
+bytes f (suc n) = snoc (bytes f n) (byte (f n))
+
+pub bytes-suc : (f : ℕ → Bool) (n : ℕ) → bytes f (n + 1) ≡ snoc (bytes f n) (byte (f n))
+unfolding bytes
+bytes-suc f n = rw add-one
+
+pub length-bytes : (f : ℕ → Bool) (n : ℕ) → length (bytes f n) ≡ n
+unfolding bytes snoc
+length-bytes f zero = refl
+length-bytes f (suc n) = simp length-append (omega (arith, length-bytes f n))

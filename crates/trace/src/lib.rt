@@ -1,20 +1,18 @@
 // The trace of a counterexample: the inputs of each cycle up to the first mismatch, and the outputs that differ in it.
 #![tactic(auto)]
 
-ghost use Rattle.std.specs.Prelude.{◌≡◌, ◌++◌, ◌+◌, ◌*◌, ◌≤◌, ◌<◌, length, get_or, set};
-ghost use Rattle.std.specs.Bool.{xor as xorBool};
+ghost use Rattle.std.specs.Prelude.{◌≡◌, ℕ, Bool, ◌++◌, ◌+◌, ◌*◌, ◌≤◌, ◌<◌, length, get_or, unwrap_or};
 ghost use Rattle.words.specs.Layout.{LENT, SMALL, FRAMES, ROW, GOLD-OUTPUTS, GATE-OUTPUTS};
 ghost use Rattle.words.specs.Region.{region};
 ghost use Rattle.model.specs.Aig.{evaluate};
-ghost use Rattle.model.specs.Equivalence.{byte};
 ghost use Rattle.assignment.specs.State.{model_of};
 ghost use Rattle.trace.specs.Trace.{FirstMismatch, Traceable, Traced};
-ghost use Rattle.trace.specs.Writing.{Wrote};
-ghost use Rattle.trace.specs.Cycles.{bytes_of, marks_of, inputs_of};
+ghost use Rattle.trace.specs.Writing.{Wrote, bytes};
+ghost use Rattle.trace.specs.Cycles.{marks_of, inputs_of};
 
 use aig::Aig;
 use literals::Literal;
-use words::{FRAMES, GATE_OUTPUTS, GOLD_OUTPUTS, MISMATCH, ROW, SMALL, fetch, wide};
+use words::{FRAMES, GATE_OUTPUTS, GOLD_OUTPUTS, MISMATCH, ROW, SMALL, fetch};
 
 // The value of the literal at a place of FRAMES.
 fn value_at(words: &[u32], nodes: usize, place: usize) -> bool
@@ -25,52 +23,27 @@ fn value_at(words: &[u32], nodes: usize, place: usize) -> bool
     Aig::evaluate(literal, words, nodes)
 }
 
-// A bit as a byte.
-fn byte(bit: bool) -> u8
-    ensures { result ≡ byte bit }
-{
-    if bit { 1 } else { 0 }
-}
-
-// The mark of two bits: 1 where they differ.
-fn mark(gold: bool, gate: bool) -> u8
-    ensures { result ≡ byte (xorBool gold gate) }
-{
-    if gold { byte(!gate) } else { byte(gate) }
-}
-
-// A byte put at a place.
-fn put(trace: &mut [u8], place: usize, value: u8)
-    requires { place < length trace.old }
-    ensures { trace.new ≡ set trace.old place value }
-{
-    trace[place] = value;
-}
-
-// The first cycle whose mismatch the values assert; 0 where there is none.
-fn first_mismatch(words: &[u32], nodes: usize, cycles: usize) -> usize
+// The first cycle whose mismatch the values assert.
+fn first_mismatch(words: &[u32], nodes: usize, cycles: usize) -> Option<usize>
     requires { (LENT ≤ length words.now) × (cycles ≤ 65) }
-    ensures { FirstMismatch nodes cycles words.now result }
+    ensures { FirstMismatch nodes cycles words.now (unwrap_or result 0) }
 {
-    let mut cycle: usize = 0;
-    while cycle < cycles {
+    for cycle in 0..cycles {
         if value_at(words, nodes, ROW * cycle + MISMATCH) {
-            return cycle;
+            return Some(cycle);
         }
-        cycle += 1;
     }
-    0
+    None
 }
 
-// The values of `n` literals from a place of FRAMES on, written from a place of the trace on.
-fn write_values(words: &[u32], trace: &mut [u8], nodes: usize, row: usize, place: usize, n: usize)
-    requires { (LENT ≤ length words.now) × (row + n ≤ SMALL) × (place + n ≤ length trace.old) }
-    ensures { Wrote place (bytes_of (model_of nodes words.now) n row (region FRAMES words.now)) trace.old trace.new }
+// `n` bits as bytes, written from a place of the trace on.
+fn write_bits<F: Fn(usize) -> bool>(trace: &mut [u8], place: usize, n: usize, bit: F)
+    requires room { place + n ≤ length trace.old }
+    requires callable { (i : ℕ) → i < n → F.pre bit i }
+    ensures { (f : ℕ → Bool) → ((i : ℕ) (b : Bool) → i < n → F.post bit i b → b ≡ f i) → Wrote place (bytes f n) trace.old trace.new }
 {
-    let mut i: usize = 0;
-    while i < n {
-        put(trace, place + i, byte(value_at(words, nodes, row + i)));
-        i += 1;
+    for i in 0..n {
+        trace[place + i] = u8::from(bit(i));
     }
 }
 
@@ -79,31 +52,11 @@ fn write_inputs(words: &[u32], trace: &mut [u8], nodes: usize, input_count: usiz
     requires { (LENT ≤ length words.now) × (input_count ≤ 128) × (n ≤ 65) × (n * input_count ≤ length trace.old) }
     ensures { Wrote 0 (inputs_of (model_of nodes words.now) input_count n (region FRAMES words.now)) trace.old trace.new }
 {
-    let mut cycle: usize = 0;
-    while cycle < n {
-        write_values(
-            words,
-            trace,
-            nodes,
-            ROW * cycle,
-            cycle * input_count,
-            input_count,
-        );
-        cycle += 1;
-    }
-}
-
-// A mark for each of the first `n` outputs of the cycle whose row begins at `row`, written from a place of the trace on.
-fn write_marks(words: &[u32], trace: &mut [u8], nodes: usize, row: usize, place: usize, n: usize)
-    requires { (LENT ≤ length words.now) × (row + GATE-OUTPUTS + n ≤ SMALL) × (place + n ≤ length trace.old) }
-    ensures { Wrote place (marks_of (model_of nodes words.now) n (row + GOLD-OUTPUTS) (row + GATE-OUTPUTS) (region FRAMES words.now)) trace.old trace.new }
-{
-    let mut i: usize = 0;
-    while i < n {
-        let gold = value_at(words, nodes, row + GOLD_OUTPUTS + i);
-        let gate = value_at(words, nodes, row + GATE_OUTPUTS + i);
-        put(trace, place + i, mark(gold, gate));
-        i += 1;
+    for cycle in 0..n {
+        let row = ROW * cycle;
+        write_bits(trace, cycle * input_count, input_count, |i| {
+            value_at(words, nodes, row + i)
+        });
     }
 }
 
@@ -120,14 +73,12 @@ fn write_trace(
     ensures { Wrote 0 (inputs_of (model_of nodes words.now) input_count (mismatch + 1) (region FRAMES words.now) ++ marks_of (model_of nodes words.now) output_count (ROW * mismatch + GOLD-OUTPUTS) (ROW * mismatch + GATE-OUTPUTS) (region FRAMES words.now)) trace.old trace.new }
 {
     write_inputs(words, trace, nodes, input_count, mismatch + 1);
-    write_marks(
-        words,
-        trace,
-        nodes,
-        ROW * mismatch,
-        (mismatch + 1) * input_count,
-        output_count,
-    );
+    let row = ROW * mismatch;
+    write_bits(trace, (mismatch + 1) * input_count, output_count, |i| {
+        let gold = value_at(words, nodes, row + GOLD_OUTPUTS + i);
+        let gate = value_at(words, nodes, row + GATE_OUTPUTS + i);
+        gold != gate
+    });
 }
 
 // The trace of query 1's comparisons under the values that the search left, over the first bytes lent; the answer is the first mismatch.
@@ -142,11 +93,11 @@ pub fn write_counterexample(
     requires { Traceable input_count output_count cycles words.now trace.old }
     ensures { Traced nodes input_count output_count cycles words.now trace.old result trace.new }
 {
-    let mismatch = first_mismatch(words, wide(nodes), cycles);
+    let mismatch = first_mismatch(words, nodes as usize, cycles).unwrap_or(0);
     write_trace(
         words,
         trace,
-        wide(nodes),
+        nodes as usize,
         input_count,
         output_count,
         mismatch,

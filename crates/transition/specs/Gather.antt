@@ -1,7 +1,6 @@
 -- Arrays that are read by the entries of an order, and the lists that they hold. Assumes nothing.
-use Rattle.std.specs.Prelude.{◌≡◌, refl, Bool, true, false, List, [], ◌∷◌, map, ℕ, zero, suc, ◌+◌, ◌≤◌, ◌<◌, eqb, length, get_or, set, take}
-use Rattle.std.proofs.Common.{ap, ap₂, sym, ◌∙◌, arith, get_or-set_other, get_or-set_same, take-suc, eqb-true}
-use Rattle.std.proofs.lemmas.Bool.{eqb-false}
+use Rattle.std.specs.Prelude.{◌≡◌, refl, List, [], ◌∷◌, map, ℕ, zero, suc, ◌≤◌, ◌<◌, length, get_or, take}
+use Rattle.std.proofs.Common.{ap, ap₂, sym, ◌∙◌, arith, take-suc, get_or-take, length-take}
 use Rattle.model.specs.Names.{Place}
 use Rattle.model.specs.Lists.{snoc}
 use Rattle.struo_ir.specs.Orders.{no_entry, place_of, held, places}
@@ -19,16 +18,9 @@ abbrev pub by_number : (ℕ → ℕ) → Entry → ℕ
 by_number g e = g e.number
 
 module _ (f : Entry → ℕ) (es : List Entry) where
-  pub gathered_none : (xs : List ℕ) → Gathered f es 0 xs
-  gathered_none xs = record { at = λ i h. absurd (omega arith) }
-
-  -- one element more
-  pub gathered_more : (n : ℕ) (xs : List ℕ) (v : ℕ) → n < length xs → v ≡ f (get_or es n no_entry) → Gathered f es n xs → Gathered f es (n + 1) (set xs n v)
-  gathered_more n xs v l e b = record { at = λ i j. go i j (eqb i n) refl }
-    where
-      go : (i : ℕ) → i < n + 1 → (t : Bool) → eqb i n ≡ t → get_or (set xs n v) i 0 ≡ f (get_or es i no_entry)
-      go i j true q = rw (eqb-true i n q, get_or-set_same xs n v 0 l) e
-      go i j false q = rw (get_or-set_other xs n i v 0 (eqb-false i n q)) (b.at i (omega (arith, eqb-false i n q)))
+  -- by the entries taken
+  pub gathered_taken : (n : ℕ) (xs : List ℕ) → n ≤ length es → ((i : ℕ) → i < length (take n es) → get_or xs i 0 ≡ f (get_or (take n es) i no_entry)) → Gathered f es n xs
+  gathered_taken n xs l h = record { at = λ i j. rw get_or-take at (h i (omega (arith, length-take n es))) }
 
   -- a bound of what f says
   pub gathered_below : (k n : ℕ) (xs : List ℕ) → ((e : Entry) → f e < k) → Gathered f es n xs → Below k n xs

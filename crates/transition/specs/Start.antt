@@ -1,9 +1,8 @@
 -- The literals that the states start with: those of a row of stored bits, read in byte order of the registers' names. Assumes nothing.
-use Rattle.std.specs.Prelude.{◌≡◌, Bool, false, List, map, length, get_or}
+use Rattle.std.specs.Prelude.{◌≡◌, Bool, List, map}
 use Rattle.std.proofs.Math.Path.{ap, sym}
 use Rattle.std.proofs.Common.{◌∙◌, arith}
-use Prim.Native.Nat.{ℕ, ◌≤◌}
-use Rattle.std.proofs.Math.ListN.{get_or-eq_default}
+use Prim.Native.Nat.{ℕ}
 use Rattle.model.specs.Literal.{constant_literal}
 use Rattle.model.specs.Names.{Place}
 use Rattle.model.specs.Netlist.{registers_by_name}
@@ -22,15 +21,6 @@ use Rattle.transition.specs.Named.{Starts}
 -- the literal of an entry's bit
 abbrev pub start_of : List Bool → Entry → ℕ
 start_of row e = constant_literal (bit_at row e.number)
-
--- the bit at the number, by whatever name the number has
-pub start-bit : (row : List Bool) (k number : ℕ) (b : Bool) → k ≡ number → get_or row k false ≡ b → constant_literal b ≡ constant_literal (bit_at row number)
-unfolding bit_at
-start-bit row k number b e h = ap constant_literal (sym h ∙ ap (λ (i : ℕ). get_or row i false) e)
-
--- no bit past the row
-pub start-past : (row : List Bool) (k number : ℕ) → k ≡ number → length row ≤ k → constant_literal false ≡ constant_literal (bit_at row number)
-start-past row k number e h = start-bit row k number false e (get_or-eq_default row false h)
 
 module _ (d : Design) (row : List Bool) (xs : List ℕ) (f : Orders.Formed d.registers) (read : Gathered (start_of row) d.registers.entries d.registers.count xs) where
   starts_are : (s : List ℕ) → Sided s d → firsts d.registers.count xs ≡ map constant_literal (by_name (decoded s d.netlist) row)

@@ -1,5 +1,5 @@
 // Values and literals read in byte order of names, by the entries of an order.
-ghost use Rattle.std.specs.Prelude.{◌≡◌, ◌≤◌, length};
+ghost use Rattle.std.specs.Prelude.{◌≡◌, ◌≤◌, ◌<◌, ℕ, length, get_or};
 ghost use Rattle.words.specs.Layout.{LENT, NETS};
 ghost use Rattle.words.specs.Region.{region};
 ghost use Rattle.model.specs.Literal.{node};
@@ -9,15 +9,20 @@ ghost use Rattle.struo_ir.specs.Orders.{Formed};
 ghost use Rattle.transition.specs.Gather.{Gathered, by_number};
 
 use literals::Literal;
-use lowering::nets::{index, net_literal};
-use struo_ir::design::Order;
+use lowering::nets::net_literal;
+use struo_ir::design::{Entry, Order};
 
-// The value at a number; 0 past the end.
-fn value_at(values: [u32; 128], number: u16) -> u32
-    ensures { result ≡ net_literal values number }
+// What `read` gives of each item, at the item's place; 0 past the items.
+pub(crate) fn of_each<T: Copy, F: Fn(T) -> u32>(items: &[T], read: F) -> [u32; 128]
+    requires short { length items.now ≤ 128 }
+    requires callable { F.IsAlwaysCallable read }
+    ensures { (i : ℕ) (d : T) → i < length items.now → F.post read (get_or items.now i d) (get_or result i 0) }
 {
-    let at = index(number);
-    if at < 128 { values[at] } else { 0 }
+    let mut values = [0u32; 128];
+    for (i, item) in items.iter().enumerate() {
+        values[i] = read(*item);
+    }
+    values
 }
 
 // The literals of the nets at the numbers of an order's entries.
@@ -25,16 +30,8 @@ pub fn port_literals(words: &[u32], order: Order) -> [u32; 128]
     requires { (LENT ≤ length words.now) × Formed order }
     ensures { Gathered (by_number (net_literal (region NETS words.now))) order.entries order.count result }
 {
-    let count = order.count;
-    let mut literals = [0u32; 128];
-    let mut i: usize = 0;
-    while i < count {
-        let entry = order.entries[i];
-        let literal = net_literal(words, entry.number);
-        literals[i] = literal.0;
-        i += 1;
-    }
-    literals
+    let entries = &order.entries[..order.count];
+    of_each(entries, |entry| net_literal(words, entry.number).0)
 }
 
 // The nodes of the first `count` literals.
@@ -42,14 +39,15 @@ pub fn nodes_of(literals: [u32; 128], count: usize) -> [u32; 128]
     requires { count ≤ 128 }
     ensures { Mapped node count literals result }
 {
-    let mut nodes = [0u32; 128];
-    let mut i: usize = 0;
-    while i < count {
-        let literal = Literal(literals[i]);
-        nodes[i] = literal.node();
-        i += 1;
-    }
-    nodes
+    of_each(&literals[..count], |literal| Literal(literal).node())
+}
+
+// The value at the number of an entry; 0 past the end.
+#[tactic(auto, unfolding(model::specs::Transition::net_literal))]
+fn value_at(values: &[u32; 128], entry: Entry) -> u32
+    ensures { result ≡ net_literal values.now entry.number }
+{
+    values.get(usize::from(entry.number)).copied().unwrap_or(0)
 }
 
 // The values at the numbers of an order's entries.
@@ -57,13 +55,6 @@ pub fn gather(order: Order, values: [u32; 128]) -> [u32; 128]
     requires { Formed order }
     ensures { Gathered (by_number (net_literal values)) order.entries order.count result }
 {
-    let count = order.count;
-    let mut read = [0u32; 128];
-    let mut i: usize = 0;
-    while i < count {
-        let entry = order.entries[i];
-        read[i] = value_at(values, entry.number);
-        i += 1;
-    }
-    read
+    let entries = &order.entries[..order.count];
+    of_each(entries, |entry| value_at(&values, entry))
 }

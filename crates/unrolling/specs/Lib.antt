@@ -6,3 +6,4 @@ pub mod Comparing
 pub mod Matching
 pub mod Naming
 pub mod Cycling
+pub mod Matched

@@ -1,16 +1,18 @@
--- The comparison of states named alike, one gold state after another. Assumes nothing.
-use Rattle.std.specs.Prelude.{◌≡◌, Bool, true, false, List, ℕ, zero, suc, ◌+◌, ◌-◌, ◌*◌, ◌≤◌, ◌<◌, get_or}
+-- The comparison of literals with others at their places, one after another: outputs, and states named alike. Assumes nothing.
+use Rattle.std.specs.Prelude.{◌≡◌, refl, List, [], ℕ, zero, suc, ◌+◌, ◌*◌, ◌≤◌, ◌<◌, get_or}
 use Rattle.std.proofs.Math.Option.{Option, none, some}
-use Rattle.std.proofs.Common.{arith}
+use Rattle.std.proofs.Common.{ap, arith, add-one}
 use Rattle.model.specs.Literal.{Literal}
-use Rattle.model.specs.Aig.{Aig, Built, variable}
+use Rattle.model.specs.Lists.{snoc}
+use Rattle.model.specs.Aig.{Built}
 use Rattle.model.specs.Equivalence.{compare_pairs}
 use Rattle.aig.specs.Graph.{graph_of}
 use Rattle.aig.specs.Made.{Made}
-use Rattle.lowering.specs.Firsts.{Below}
+use Rattle.lowering.specs.Firsts.{pairs, Below}
 use Rattle.unrolling.specs.Comparing.{or_difference, compare-more}
 use Rattle.unrolling.specs.Comparing as Comparing
-use Rattle.unrolling.specs.Matching.{at_match, add_pair, named_by, named-suc, gate_built, shared_match}
+use Rattle.unrolling.specs.Matching.{at_match, add_pair, named_by}
+use Rattle.unrolling.specs.Matched.{Places}
 
 -- the mismatch so far, or a difference from what stands at a match
 unfoldable pub or_named : Literal → Option Literal → Built → Built
@@ -27,42 +29,35 @@ pub matches-below : (k n m : ℕ) (ms ks : List ℕ) → m ≤ 128 → Below (m 
 matches-below k n m ms ks h b c =
     record { small = λ i l. omega (arith, b.at i l); at = λ i l. record { at = λ j x. c.at j (omega (arith, b.at i l)) } }
 
--- no match
-pub or_unmatched : (l : Literal) (x : ℕ) (ks : List ℕ) (m : Built) → x ≡ 0 → m ≡ or_named l (at_match x ks) m
-unfolding or_named at_match
-or_unmatched l x ks m e = rw e
+-- the pairs of the first n literals that have another at their place
+unfoldable pub paired_by : ℕ → Places → List ℕ → List (ℕ × ℕ)
+paired_by zero f ls = []
+paired_by (suc n) f ls = add_pair (paired_by n f ls) (get_or ls n 0) (f n)
 
--- a match
-pub or-matched : (l : Literal) (x : ℕ) (ks : List ℕ) (m : Built) → 0 < x → or_difference l (get_or ks (x - 1) 0) m ≡ or_named l (at_match x ks) m
-unfolding or_named at_match
-or-matched l zero ks m h = absurd (omega arith)
-or-matched l (suc x) ks m h = let e : suc x - 1 ≡ x = omega arith in rw e
+paired-suc : (n : ℕ) (f : Places) (ls : List ℕ) → paired_by (n + 1) f ls ≡ add_pair (paired_by n f ls) (get_or ls n 0) (f n)
+unfolding paired_by
+paired-suc n f ls = rw add-one
 
--- a comparison and one state more
-pub named_more : (i c₀ : ℕ) (w₀ : List ℕ) (c : ℕ) (w : List ℕ) (m c' : ℕ) (w' : List ℕ) (l : ℕ) (ms ls ks : List ℕ)
-    → Made (4 * i) c₀ w₀ c w m (compare_pairs (graph_of c₀ w₀) (named_by i ms ls ks)) → Made 4 c w c' w' l (or_named (get_or ls i 0) (at_match (get_or ms i 0) ks) (record { aig = graph_of c w; literal = m }))
-    → Made (4 * (i + 1)) c₀ w₀ c' w' l (compare_pairs (graph_of c₀ w₀) (named_by (i + 1) ms ls ks))
+-- with another at each place
+pub all-paired : (n : ℕ) (ls ks : List ℕ) → paired_by n (λ i. some (get_or ks i 0)) ls ≡ pairs n ls ks
+unfolding paired_by add_pair pairs
+all-paired zero ls ks = refl
+all-paired (suc n) ls ks = ap (λ (ps : List (ℕ × ℕ)). snoc ps (get_or ls n 0, get_or ks n 0)) (all-paired n ls ks)
+
+-- with another at each match
+pub named-paired : (n : ℕ) (ms ls ks : List ℕ) → paired_by n (λ i. at_match (get_or ms i 0) ks) ls ≡ named_by n ms ls ks
+unfolding paired_by named_by
+named-paired zero ms ls ks = refl
+named-paired (suc n) ms ls ks = ap (λ (ps : List (ℕ × ℕ)). add_pair ps (get_or ls n 0) (at_match (get_or ms n 0) ks)) (named-paired n ms ls ks)
+
+-- a comparison and one place more
+pub paired_more : (i c₀ : ℕ) (w₀ : List ℕ) (c : ℕ) (w : List ℕ) (m c' : ℕ) (w' : List ℕ) (l : ℕ) (f : Places) (ls : List ℕ)
+    → Made (4 * i) c₀ w₀ c w m (compare_pairs (graph_of c₀ w₀) (paired_by i f ls)) → Made 4 c w c' w' l (or_named (get_or ls i 0) (f i) (record { aig = graph_of c w; literal = m }))
+    → Made (4 * (i + 1)) c₀ w₀ c' w' l (compare_pairs (graph_of c₀ w₀) (paired_by (i + 1) f ls))
 unfolding or_named add_pair
-named_more i c₀ w₀ c w m c' w' l ms ls ks s t = rw (named-suc i ms ls ks) (go (at_match (get_or ms i 0) ks) t)
+paired_more i c₀ w₀ c w m c' w' l f ls s t = rw (paired-suc i f ls) (go (f i) t)
   where
     go : (o : Option ℕ) → Made 4 c w c' w' l (or_named (get_or ls i 0) o (record { aig = graph_of c w; literal = m }))
-        → Made (4 * (i + 1)) c₀ w₀ c' w' l (compare_pairs (graph_of c₀ w₀) (add_pair (named_by i ms ls ks) (get_or ls i 0) o))
+        → Made (4 * (i + 1)) c₀ w₀ c' w' l (compare_pairs (graph_of c₀ w₀) (add_pair (paired_by i f ls) (get_or ls i 0) o))
     go none u = Comparing.made_then (4 * i) 4 (4 * (i + 1)) c₀ w₀ c w m _ c' w' l (λ (b : Built). b) (omega arith) s u
-    go (some k) u = compare-more i c₀ w₀ c w m c' w' l (named_by i ms ls ks) (get_or ls i 0) k s u
-
--- a gate state without a match
-pub gate_unmatched : (x : ℕ) (ls : List ℕ) (g : Aig) → x ≡ 0 → variable g ≡ gate_built x ls g
-unfolding gate_built
-gate_unmatched x ls g e = rw e
-
--- a gate state with one
-pub gate-matched : (x l : ℕ) (ls : List ℕ) (g : Aig) → 0 < x → l ≡ get_or ls (x - 1) 0 → record { aig = g; literal = l } ≡ gate_built x ls g
-unfolding gate_built
-gate-matched zero l ls g h q = absurd (omega arith)
-gate-matched (suc x) l ls g h q = let e : suc x - 1 ≡ x = omega arith in rw q (rw e)
-
--- a match that counts is the match itself or none
-pub shared_le : (share : Bool) (m : ℕ) → shared_match share m ≤ m
-unfolding shared_match
-shared_le true m = omega arith
-shared_le false m = omega arith
+    go (some k) u = compare-more i c₀ w₀ c w m c' w' l (paired_by i f ls) (get_or ls i 0) k s u

@@ -1,6 +1,6 @@
 -- New variables, one after another, in the proof graph: the literals lie in an array. Assumes nothing.
 use Rattle.std.specs.Prelude.{◌≡◌, refl, List, [], ◌∷◌, ℕ, zero, suc, ◌+◌, ◌*◌, ◌≤◌, ◌<◌, length, set}
-use Rattle.std.proofs.Common.{ap, ◌∙◌, arith, add-one}
+use Rattle.std.proofs.Common.{ap, ◌∙◌, arith}
 use Rattle.model.specs.Lists.{snoc}
 use Rattle.model.specs.Aig.{Aig, Built, variable}
 use Rattle.model.specs.Equivalence.{LiteralList, with_built, new_variables}
@@ -55,7 +55,3 @@ pub new-variables : {A : Type 0} (v : LiteralList) (xs : List A) → new_variabl
 unfolding new_variables grown
 new-variables v [] = refl
 new-variables v (x ∷ xs) = new-variables (with_built v.literals (variable v.aig)) xs ∙ grown-step (length xs) v
-
-pub grown-more : (n : ℕ) (v : LiteralList) → grown (n + 1) v ≡ (let u = grown n v in with_built u.literals (variable u.aig))
-unfolding grown
-grown-more n v = rw add-one

@@ -1,150 +1,79 @@
 // A line of the call check made: its buffers are lent as it says, and the answer and every element of them compared.
 use calls::answers::CheckAnswer;
-use lender::text::first;
-use recorded::check_line::{
-    Asked, Learned, Proved, Recorded, Verdict, asked_of, buffers, fits, least, recorded_answer,
-};
-use recorded::lent::{hold_bytes, hold_scores, hold_words};
-use recorded::outcome::{
-    DEPTH, EQUAL, LEARNED, LEARNED_DEPTH, LEARNED_QUERY, MISMATCH, Outcome, QUERY, STATUS, THROUGH,
-    compared,
-};
-use recorded::refusal::{Refusal, compared_refusal};
+use lender::Memory;
+use recorded::check_line::{Asked, Recorded, buffers, check_line};
+use recorded::lent::{HELD_BYTE, HELD_SCORE, HELD_WORD};
+use recorded::outcome::{Part, Trouble, compared};
+use recorded::refusal::compared_refusal;
 
-// The first seven numbers of an answer compared with the recorded ones.
-fn verdict_numbers(answer: CheckAnswer, r: Refusal, v: Verdict) -> Outcome {
-    let refusal_told = compared_refusal(r, answer.number, answer.side, answer.place);
-    let status_told = compared(refusal_told, STATUS, v.status, answer.status as u64);
-    let depth_told = compared(status_told, DEPTH, v.depth, answer.depth as u64);
-    let mismatch_told = compared(depth_told, MISMATCH, v.mismatch, answer.mismatch as u64);
-    compared(mismatch_told, QUERY, v.query, answer.query as u64)
+// The refusal and the verdict of an answer compared with the recorded ones, then what it says of the search.
+fn numbers(answer: CheckAnswer, told: Recorded) -> Result<(), Trouble> {
+    let verdict = told.verdict;
+    compared_refusal(told.refusal, answer.number, answer.side, answer.place)?;
+    compared(Part::Status, verdict.status, u64::from(answer.status))?;
+    compared(Part::Depth, verdict.depth, u64::from(answer.depth))?;
+    compared(Part::Mismatch, verdict.mismatch, u64::from(answer.mismatch))?;
+    compared(Part::Query, verdict.query, u64::from(answer.query))?;
+    search_numbers(answer, told)
 }
 
-// The query that learned most, after what was compared already.
-fn learned_numbers(so_far: Outcome, answer: CheckAnswer, l: Learned) -> Outcome {
-    let learned_told = compared(so_far, LEARNED, l.total, answer.learned as u64);
-    let depth_told = compared(
-        learned_told,
-        LEARNED_DEPTH,
-        l.depth,
-        answer.learned_depth as u64,
-    );
+// The query that learned most, and the cycle through which outputs are proved equal.
+fn search_numbers(answer: CheckAnswer, told: Recorded) -> Result<(), Trouble> {
+    let most = told.learned;
+    compared(Part::Learned, most.total, u64::from(answer.learned))?;
     compared(
-        depth_told,
-        LEARNED_QUERY,
-        l.query,
-        answer.learned_query as u64,
+        Part::LearnedDepth,
+        most.depth,
+        u64::from(answer.learned_depth),
+    )?;
+    compared(
+        Part::LearnedQuery,
+        most.query,
+        u64::from(answer.learned_query),
+    )?;
+    compared(Part::Equal, told.proved.equal, u64::from(answer.equal))?;
+    compared(
+        Part::Through,
+        told.proved.through,
+        u64::from(answer.through),
     )
 }
 
-// The cycle through which outputs are proved equal, after what was compared already.
-fn proved_numbers(so_far: Outcome, answer: CheckAnswer, p: Proved) -> Outcome {
-    let equal = if answer.equal { 1 } else { 0 };
-    let equal_told = compared(so_far, EQUAL, p.equal, equal);
-    compared(equal_told, THROUGH, p.through, answer.through as u64)
-}
-
-// All numbers of an answer compared with the recorded ones.
-fn numbers(answer: CheckAnswer, t: Recorded) -> Outcome {
-    let verdict_told = verdict_numbers(answer, t.refusal, t.verdict);
-    let learned_told = learned_numbers(verdict_told, answer, t.learned);
-    proved_numbers(learned_told, answer, t.proved)
-}
-
-// Makes the call.
-fn ask(
-    q: Asked,
-    gold: &[u8],
-    gate: &[u8],
-    trace: &mut [u8],
-    words: &mut [u32],
-    scores: &mut [f64],
-) -> CheckAnswer {
-    let earliest = q.earliest == 1;
-    let t = least(q.trace, trace.len());
-    let w = least(q.words, words.len());
-    let s = least(q.scores, scores.len());
-    struo_formal::check(
-        gold,
-        gate,
-        q.depth,
-        q.limit,
-        earliest,
-        &mut trace[..t],
-        &mut words[..w],
-        &mut scores[..s],
-    )
-}
-
-// The same with buffers that hold a pattern before.
-fn ask_held(
-    q: Asked,
-    gold: &[u8],
-    gate: &[u8],
-    trace: &mut [u8],
-    words: &mut [u32],
-    scores: &mut [f64],
-) -> CheckAnswer {
-    hold_bytes(trace);
-    hold_words(words);
-    hold_scores(scores);
-    ask(q, gold, gate, trace, words, scores)
-}
-
-// Makes the call and compares all that it answers and leaves.
-fn judge(
-    line: &[u8],
-    q: Asked,
-    t: Recorded,
-    gold: &[u8],
-    gate: &[u8],
-    claim: &[u8],
-    trace: &mut [u8],
-    words: &mut [u32],
-    scores: &mut [f64],
-) -> Outcome {
-    if !fits(line, q, t, trace.len(), words.len(), scores.len()) {
-        return Outcome::Malformed;
-    }
-    let answer = ask_held(
-        q,
-        first(gold, q.gold),
-        first(gate, q.gate),
+// Makes the call, in buffers that hold a pattern before; none where a line asks for more of them than there is.
+fn ask(asked: Asked, memory: &mut Memory) -> Option<CheckAnswer> {
+    memory.trace.fill(HELD_BYTE);
+    memory.words.fill(HELD_WORD);
+    memory.scores.fill(HELD_SCORE);
+    let trace = memory.trace.get_mut(..asked.trace)?;
+    let words = memory.words.get_mut(..asked.words)?;
+    let scores = memory.scores.get_mut(..asked.scores)?;
+    Some(struo_formal::check(
+        asked.records.gold,
+        asked.records.gate,
+        asked.depth,
+        asked.limit,
+        asked.earliest,
         trace,
         words,
         scores,
-    );
-    let told = numbers(answer, t);
-    buffers(
-        told,
-        q,
-        t.accepted,
-        first(claim, t.written),
-        trace,
-        words,
-        scores,
-    )
+    ))
 }
 
-// A `check` line.
-pub fn run_check(line: &[u8]) -> Outcome {
+// A `check` line, after that word.
+pub fn run_check(line: &[u8]) -> Result<(), Trouble> {
     let mut gold = lender::record();
     let mut gate = lender::record();
     let mut claim = lender::record();
-    let q = asked_of(line, &mut gold, &mut gate);
-    let t = recorded_answer(line, q.next, &mut claim);
+    let told = check_line(line, &mut gold, &mut gate, &mut claim).ok_or(Trouble::Malformed)?;
     let mut trace = lender::trace();
     let mut words = lender::words();
     let mut scores = lender::scores();
-    judge(
-        line,
-        q,
-        t,
-        &gold,
-        &gate,
-        &claim,
-        &mut trace,
-        &mut words,
-        &mut scores,
-    )
+    let mut memory = Memory {
+        trace: &mut trace,
+        words: &mut words,
+        scores: &mut scores,
+    };
+    let answer = ask(told.asked, &mut memory).ok_or(Trouble::Malformed)?;
+    numbers(answer, told.recorded)?;
+    buffers(&told, &memory)
 }

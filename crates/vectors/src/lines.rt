@@ -1,44 +1,31 @@
 // The lines of the file: each is put together from what is read, run, and counted.
 use crate::cases::run_line;
-use lender::text::first;
-use recorded::outcome::Outcome;
-use recorded::tally::{Tally, counted, keep, more};
+use recorded::held::Held;
+use recorded::outcome::Trouble;
+use recorded::tally::Tally;
 use std::io;
 
-// The end of a line: comments and empty lines make no call; every other line makes one or differs.
-pub fn end_line(rt: &impl Print, line: &[u8], t: Tally) -> io::Result<Tally> {
-    let n = t.held;
-    let mut next = t;
-    next.held = 0;
-    next.ended = more(t.ended);
-    if line.len() < n {
-        return counted(rt, next, Outcome::Malformed);
+// The end of a line, of which there is none where it is too long to be held: comments and empty lines make no call; every other line makes one or differs.
+pub fn end_line(rt: &impl Print, line: Option<&[u8]>, tally: &mut Tally) -> io::Result<()> {
+    tally.end_line();
+    match line {
+        None => tally.count(rt, Err(Trouble::Malformed)),
+        Some([] | [b'#', ..]) => Ok(()),
+        Some(line) => tally.count(rt, run_line(line)),
     }
-    if n == 0 {
-        return Ok(next);
-    }
-    if line[0] == b'#' {
-        return Ok(next);
-    }
-    let outcome = run_line(first(line, n));
-    counted(rt, next, outcome)
-}
-
-// One byte of the file.
-fn byte(rt: &impl Print, line: &mut [u8], t: Tally, b: u8) -> io::Result<Tally> {
-    if b == b'\n' {
-        return end_line(rt, line, t);
-    }
-    Ok(keep(line, t, b))
 }
 
 // A part of the file.
-pub fn feed(rt: &impl Print, part: &[u8], line: &mut [u8], start: Tally) -> io::Result<Tally> {
-    let mut t = start;
-    let mut i: usize = 0;
-    while i < part.len() {
-        t = byte(rt, line, t, part[i])?;
-        i += 1;
+pub fn feed(rt: &impl Print, part: &[u8], line: &mut Held, tally: &mut Tally) -> io::Result<()> {
+    for piece in part.split_inclusive(|&byte| byte == b'\n') {
+        match piece.strip_suffix(b"\n") {
+            Some(end) => {
+                line.push(end);
+                end_line(rt, line.bytes(), tally)?;
+                line.clear();
+            }
+            None => line.push(piece),
+        }
     }
-    Ok(t)
+    Ok(())
 }

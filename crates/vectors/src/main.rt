@@ -6,59 +6,29 @@ mod checks;
 mod lines;
 
 use lines::{end_line, feed};
-use recorded::tally::{Tally, line, tell};
+use recorded::held::Held;
+use recorded::tally::{Tally, line};
 use std::env::{Env, FillError};
 use std::fs::File;
 use std::io;
 use std::io::Read;
 
-// A part of the file, and whether it was the last one.
-#[derive(Clone, Copy)]
-struct Part {
-    tally: Tally,
-    more: bool,
-}
-
-// Reads once and runs the lines that end in what came.
-fn some_lines(
+// The whole file. Nothing says that a file ends, so the turns are counted to a number that no run uses up.
+fn all_lines(
     rt: &impl Print,
     file: &mut impl Read,
-    line: &mut [u8],
-    t: Tally,
-) -> io::Result<Part> {
+    line: &mut Held,
+    tally: &mut Tally,
+) -> io::Result<()> {
     let mut buf = [0; 65536];
-    let n = file.read(&mut buf)?;
-    if n == 0 {
-        return Ok(Part {
-            tally: t,
-            more: false,
-        });
-    }
-    let next = feed(rt, &buf[..n], line, t)?;
-    Ok(Part {
-        tally: next,
-        more: true,
-    })
-}
-
-// The whole file. Nothing says that a file ends, so the turns are counted down from a number that no run uses up.
-fn all_lines(rt: &impl Print, file: &mut impl Read, line: &mut [u8]) -> io::Result<Tally> {
-    let mut t = Tally {
-        held: 0,
-        ended: 0,
-        lines: 0,
-        differ: 0,
-    };
-    let mut turns = u64::MAX;
-    while 0 < turns {
-        let part = some_lines(rt, file, line, t)?;
-        t = part.tally;
-        if !part.more {
-            return Ok(t);
+    for _ in 0..u64::MAX {
+        let n = file.read(&mut buf)?;
+        if n == 0 {
+            return Ok(());
         }
-        turns -= 1;
+        feed(rt, &buf[..n], line, tally)?;
     }
-    Ok(t)
+    Ok(())
 }
 
 // The system's numbers of three errors: no such argument, an argument longer than a path can be, and one that is no text.
@@ -72,10 +42,9 @@ const NO_TEXT: i32 = 84;
 fn fail(rt: &(impl Eprint + AllocGlobal), what: &str, why: io::Error) -> io::Result<()> {
     let text = why.to_string(rt.alloc())?;
     let words = text.as_str();
-    let reason = match words.split_once(" (os error ") {
-        Some((before, _)) => before,
-        None => words,
-    };
+    let reason = words
+        .split_once(" (os error ")
+        .map_or(words, |(before, _)| before);
     eprintln!(rt; "{what}: {reason}")
 }
 
@@ -102,9 +71,11 @@ fn main(rt: HostRuntime) -> io::Result<()> {
         Ok(file) => file,
         Err(why) => return fail(&rt, path, why),
     };
-    let mut held = line();
-    let t = all_lines(&rt, &mut file, &mut held)?;
+    let mut room = line();
+    let mut line = Held::new(&mut room);
+    let mut tally = Tally::new();
+    all_lines(&rt, &mut file, &mut line, &mut tally)?;
     // A last line that the file does not end is run too.
-    let whole = end_line(&rt, &held, t)?;
-    tell(&rt, whole)
+    end_line(&rt, line.bytes(), &mut tally)?;
+    println!(rt; "{tally}")
 }

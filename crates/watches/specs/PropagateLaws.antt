@@ -72,9 +72,6 @@ pub record Restoring (m : Store) (t : Trail) (f : ℕ) (w₀ : List ℕ) (d₀ :
   pub left : (s : Solver) → appended f (map half (pending_of d w)) (solver_of s m t w) ≡ appended f (map half (pending_of d₀ w₀)) (solver_of s m t w₀)
 
 module _ (m : Store) (t : Trail) (f : ℕ) (w₀ : List ℕ) (d₀ : Pending) where
-  pub restore_start : SoundStore m t w₀ (pending_of d₀ w₀) → (0 < d₀.left → f < t.variables * 2) → Restoring m t f w₀ d₀ w₀ d₀
-  restore_start s b = record { step = step-none m t w₀ (pending_of d₀ w₀) s; literal = b; left = λ s. refl }
-
   module _ (w : List ℕ) (d : Pending) (i : Restoring m t f w₀ d₀ w d) where
     pub restore_visiting : 0 < d.left → Visiting m t w d × (f < t.variables * 2)
     restore_visiting h = (record { sound = i.step.sound; some = h }, i.literal h)
@@ -117,9 +114,6 @@ pub record Pends (m : Store) (f : ℕ) (t₀ : Trail) (w₀ : List ℕ) (d₀ : 
   pub left : (s : Solver) → Sat.visit_pending f (map half (pending_of d w)) (Sat.propagating (solver_of s m t w)) ≡ Sat.visit_pending f (map half (pending_of d₀ w₀)) (Sat.propagating (solver_of s m t₀ w₀))
 
 module _ (m : Store) (f : ℕ) (t₀ : Trail) (w₀ : List ℕ) (d₀ : Pending) where
-  pub pends_start : SoundStore m t₀ w₀ (pending_of d₀ w₀) → (0 < d₀.left → f < t₀.variables * 2) → Pends m f t₀ w₀ d₀ t₀ w₀ d₀
-  pends_start s b = record { step = step-none m t₀ w₀ (pending_of d₀ w₀) s; literal = b; left = λ s. refl }
-
   module _ (t : Trail) (w : List ℕ) (d : Pending) (i : Pends m f t₀ w₀ d₀ t w d) where
     pub pends_visiting : 0 < d.left → Visiting m t w d
     pends_visiting h = record { sound = i.step.sound; some = h }
@@ -347,11 +341,17 @@ module _ (m : Store) (t₀ : Trail) (w₀ : List ℕ) where
             left = λ s. rw k (rw e at (left s));
           }
 
-      pub round-further : (u : Trail) → q ≡ Propagations.Propagating u → u.head ≡ t.head + 1
-      round-further u e = (rw e at z).head
-
       pub rounds-complete-at : (u : Trail) → q ≡ Propagations.Complete u → Propagates m t₀ w₀ u w' × ((s : Solver) → Sat.complete (solver_of s m u w') ≡ Sat.propagate (solver_of s m t₀ w₀))
       rounds-complete-at u e = (rw e at done, λ s. sym (rounds-complete _ (solver_of s m u w')) ∙ rw e at (left s))
 
       pub rounds-conflict-at : (id : ℕ) (u : Trail) → q ≡ Propagations.Conflict id u → Propagates m t₀ w₀ u w' × ((s : Solver) → Sat.conflict id (solver_of s m u w') ≡ Sat.propagate (solver_of s m t₀ w₀))
       rounds-conflict-at id u e = (rw e at done, λ s. sym (rounds-conflict _ id (solver_of s m u w')) ∙ rw e at (left s))
+
+      -- a round after which there is no other
+      pub rounds-ended : ((u : Trail) → q ≡ Propagations.Propagating u → ⊥) → Propagates m t₀ w₀ (trail_of q) w' × ((s : Solver) → propagation_of s m w' q ≡ Sat.propagate (solver_of s m t₀ w₀))
+      rounds-ended n = (done, go q refl)
+        where
+          go : (p : Propagation) → q ≡ p → (s : Solver) → propagation_of s m w' p ≡ Sat.propagate (solver_of s m t₀ w₀)
+          go (Propagations.Propagating u) e = absurd (n u e)
+          go (Propagations.Complete u) e = (rounds-complete-at u e).1
+          go (Propagations.Conflict id u) e = (rounds-conflict-at id u e).1

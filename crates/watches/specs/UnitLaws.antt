@@ -3,44 +3,42 @@ use Rattle.std.specs.Prelude.{◌≡◌, refl, true, false, ℕ, ◌+◌, ◌-�
 use Rattle.std.proofs.Math.Path.{ap, sym}
 use Rattle.std.proofs.Common.{◌∙◌, arith, add-one, drop_of_length-le, drop-cons}
 use mathlib.Core.List.{List, [], ◌∷◌}
+use Rattle.std.specs.Prelude as Std
 use Rattle.std.proofs.Math.Option.{Option, none, some}
 use Rattle.words.specs.Layout.{SMALL, POOL, CLAUSE-STARTS, LITERALS}
 use Rattle.words.specs.Region.{region}
 use Rattle.model.specs.Sat as Sat
 use Rattle.model.specs.Sat.{Assignment}
-use Rattle.assignment.specs.State.{assignment_of, assignment_regions, value_of, enqueued, word_reason, Assigns}
+use Rattle.assignment.specs.State.{assignment_of, assignment_regions, value_of, enqueued, trail_after, word_reason, Assigns}
 use Rattle.assignment.specs.StateLaws.{unchanged_none, unchanged_both}
 use Rattle.assignment.specs.declared.state.Trail.{Trail}
-use Rattle.assignment.specs.declared.state.Enqueued.{Enqueued}
-use Rattle.assignment.specs.declared.state.Value.{Value}
-use Rattle.assignment.specs.declared.state.Value.TheVariants as Values
 use Rattle.clauses.specs.declared.state.Store.{Store}
 use Rattle.clauses.specs.declared.state.Clause.{Clause}
 use Rattle.clauses.specs.Clauses.{clause_at, literals_of, clauses_of, clause-is, same-literals, length-clauses}
 use Rattle.clauses.specs.State.{span_of, SoundStore}
-use Rattle.clauses.specs.StepLaws.{has_room, assign-step, literal-range}
+use Rattle.clauses.specs.StepLaws.{has_room, assign-step}
 use Rattle.clauses.specs.ClauseLaws.{length_span, span_in}
 use Rattle.watches.specs.State.{UnitStep}
 
 -- ---- a literal
 
-module _ (m : Store) (t : Trail) (w : List ℕ) (l reason : ℕ) (s : SoundStore m t w []) {x : Value} (e : value_of x ≡ Sat.value (assignment_of t w) l) where
-  pub unit_true : x ≡ Values.True → UnitStep m t w (record { ok = true; trail = t }) w × (enqueued true (assignment_of t w) ≡ Sat.enqueue (assignment_of t w) l (word_reason reason))
+module _ (m : Store) (t : Trail) (w : List ℕ) (l reason : ℕ) (s : SoundStore m t w []) {x : Std.Option Std.Bool} (e : value_of x ≡ Sat.value (assignment_of t w) l) where
+  pub unit_true : x ≡ Std.Some true → UnitStep m t w t w × (enqueued (Std.Ok t) w ≡ Sat.enqueue (assignment_of t w) l (word_reason reason))
   unfolding enqueued Sat.enqueue Sat.enqueue_valued
   unit_true k = (record { frame = unchanged_none assignment_regions w; sound = s; variables = refl; level = refl; head = refl; grows = λ y f. f }, rw (← e, k))
 
-  pub unit_false : x ≡ Values.False → UnitStep m t w (record { ok = false; trail = t }) w × (enqueued false (assignment_of t w) ≡ Sat.enqueue (assignment_of t w) l (word_reason reason))
+  pub unit_false : x ≡ Std.Some false → UnitStep m t w t w × (enqueued (Std.Err t) w ≡ Sat.enqueue (assignment_of t w) l (word_reason reason))
   unfolding enqueued Sat.enqueue Sat.enqueue_valued
   unit_false k = (record { frame = unchanged_none assignment_regions w; sound = s; variables = refl; level = refl; head = refl; grows = λ y f. f }, rw (← e, k))
 
-  module _ (k : x ≡ Values.Unassigned) (b : l < t.variables * 2) where
+  module _ (k : x ≡ Std.None) (b : l < t.variables * 2) where
     free : Sat.value (assignment_of t w) l ≡ Sat.Unassigned
     free = sym e ∙ ap value_of k
 
     pub unit_room : t.length < SMALL
     unit_room = has_room m t w l s.formed b free
 
-    pub unit_assigned : (r : Trail) (w' : List ℕ) → Assigns t w l reason r w' → UnitStep m t w (record { ok = true; trail = r }) w' × (enqueued true (assignment_of r w') ≡ Sat.enqueue (assignment_of t w) l (word_reason reason))
+    pub unit_assigned : (r : Trail) (w' : List ℕ) → Assigns t w l reason r w' → UnitStep m t w r w' × (enqueued (Std.Ok r) w' ≡ Sat.enqueue (assignment_of t w) l (word_reason reason))
     unfolding enqueued Sat.enqueue Sat.enqueue_valued
     unit_assigned r w' a =
         let z = assign-step m t w l s.formed b free reason r w' a [] s.queues in
@@ -73,19 +71,16 @@ module _ (m : Store) (t : Trail) (w : List ℕ) (id : ℕ) (s : SoundStore m t w
         let n : c.start - c.start ≡ 0 = omega arith in
         rw (e, n) at (k ∙ sym (span_in c w c.start (omega arith) (omega arith)))
 
-    pub unit_range : l < t.variables * 2
-    unit_range = rw first-is (literal-range m t w s.formed id h 0)
-
     -- one literal
-    pub unit_clause : (r : Enqueued) (w' : List ℕ) (reason : ℕ) → reason ≡ id + 1
-        → UnitStep m t w r w' × (enqueued r.ok (assignment_of r.trail w') ≡ Sat.enqueue (assignment_of t w) l (word_reason reason))
-        → UnitStep m t w r w' × (enqueued r.ok (assignment_of r.trail w') ≡ Sat.initialize_unit (assignment_of t w) id (literals_of w id))
+    pub unit_clause : (r : Std.Result Trail Trail) (w' : List ℕ) (reason : ℕ) → reason ≡ id + 1
+        → UnitStep m t w (trail_after r) w' × (enqueued r w' ≡ Sat.enqueue (assignment_of t w) l (word_reason reason))
+        → UnitStep m t w (trail_after r) w' × (enqueued r w' ≡ Sat.initialize_unit (assignment_of t w) id (literals_of w id))
     unfolding word_reason
     unit_clause r w' reason q a =
         (a.0, rw (unit_is (assignment_of t w) id (literals_of w id) (omega (arith, size)), ← first-is) (rw (q, add-one) at a.1))
 
   -- not one
-  pub unit_skipped : (c.start + 1 ≡ c.end → ⊥) → UnitStep m t w (record { ok = true; trail = t }) w × (enqueued true (assignment_of t w) ≡ Sat.initialize_unit (assignment_of t w) id (literals_of w id))
+  pub unit_skipped : (c.start + 1 ≡ c.end → ⊥) → UnitStep m t w t w × (enqueued (Std.Ok t) w ≡ Sat.initialize_unit (assignment_of t w) id (literals_of w id))
   unfolding enqueued
   unit_skipped n = (
     record { frame = unchanged_none assignment_regions w; sound = s; variables = refl; level = refl; head = refl; grows = λ y f. f },
@@ -111,28 +106,25 @@ units-none id (c ∷ cs) = refl
 -- while units are enqueued: the clauses that are left decide
 pub record Units (m : Store) (t₀ : Trail) (w₀ : List ℕ) (t : Trail) (w : List ℕ) (id : ℕ) : Type 0 where
   pub most : id ≤ m.clauses
-  pub step : UnitStep m t₀ w₀ (record { ok = true; trail = t }) w
+  pub step : UnitStep m t₀ w₀ t w
   pub left : Sat.initialize_units id (drop id (clauses_of m.clauses w₀)) (some (assignment_of t w)) ≡ Sat.initialize_units 0 (clauses_of m.clauses w₀) (some (assignment_of t₀ w₀))
 
 module _ (m : Store) (t₀ : Trail) (w₀ : List ℕ) where
-  pub units-start : SoundStore m t₀ w₀ [] → Units m t₀ w₀ t₀ w₀ 0
-  units-start s = record { most = omega arith; step = record { frame = unchanged_none assignment_regions w₀; sound = s; variables = refl; level = refl; head = refl; grows = λ y f. f }; left = refl }
-
   module _ (t : Trail) (w : List ℕ) (id : ℕ) (u : Units m t₀ w₀ t w id) where
-    pub units-done : m.clauses ≤ id → UnitStep m t₀ w₀ (record { ok = true; trail = t }) w × (enqueued true (assignment_of t w) ≡ Sat.initialize_units 0 (clauses_of m.clauses w₀) (some (assignment_of t₀ w₀)))
+    pub units-done : m.clauses ≤ id → UnitStep m t₀ w₀ t w × (enqueued (Std.Ok t) w ≡ Sat.initialize_units 0 (clauses_of m.clauses w₀) (some (assignment_of t₀ w₀)))
     unfolding enqueued
     units-done h = (u.step, sym (units-end id (clauses_of m.clauses w₀) (some (assignment_of t w)) (omega (arith, length-clauses m.clauses w₀))) ∙ u.left)
 
-    module _ (h : id < m.clauses) (r : Enqueued) (w' : List ℕ) (a : UnitStep m t w r w')
-        (k : enqueued r.ok (assignment_of r.trail w') ≡ Sat.initialize_unit (assignment_of t w) id (literals_of w id)) where
+    module _ (h : id < m.clauses) (t' : Trail) (w' : List ℕ) (a : UnitStep m t w t' w') where
       same-clause : (get_or (clauses_of m.clauses w₀) id Sat.empty_clause).literals ≡ literals_of w id
       unfolding clause_at
       same-clause = ap (λ (c : Sat.Clause). c.literals) (clause-is m.clauses w₀ id Sat.empty_clause h) ∙ sym (same-literals w w₀ (u.step.frame.same CLAUSE-STARTS refl) (u.step.frame.same LITERALS refl) id)
 
-      left : Sat.initialize_units (id + 1) (drop (id + 1) (clauses_of m.clauses w₀)) (enqueued r.ok (assignment_of r.trail w')) ≡ Sat.initialize_units 0 (clauses_of m.clauses w₀) (some (assignment_of t₀ w₀))
-      left = rw (k, ← same-clause) (sym (units-more id (clauses_of m.clauses w₀) (assignment_of t w) (omega (arith, length-clauses m.clauses w₀))) ∙ u.left)
+      left : (r : Option Assignment) → r ≡ Sat.initialize_unit (assignment_of t w) id (literals_of w id)
+          → Sat.initialize_units (id + 1) (drop (id + 1) (clauses_of m.clauses w₀)) r ≡ Sat.initialize_units 0 (clauses_of m.clauses w₀) (some (assignment_of t₀ w₀))
+      left r k = rw (k, ← same-clause) (sym (units-more id (clauses_of m.clauses w₀) (assignment_of t w) (omega (arith, length-clauses m.clauses w₀))) ∙ u.left)
 
-      steps : UnitStep m t₀ w₀ r w'
+      steps : UnitStep m t₀ w₀ t' w'
       steps = record {
         frame = unchanged_both assignment_regions u.step.frame a.frame;
         sound = a.sound;
@@ -142,14 +134,11 @@ module _ (m : Store) (t₀ : Trail) (w₀ : List ℕ) where
         grows = λ y f. u.step.grows y (a.grows y f);
       }
 
-      pub units-next : r.ok ≡ true → Units m t₀ w₀ r.trail w' (id + 1)
+      pub units-next : enqueued (Std.Ok t') w' ≡ Sat.initialize_unit (assignment_of t w) id (literals_of w id) → Units m t₀ w₀ t' w' (id + 1)
       unfolding enqueued
-      units-next e = record {
-        most = omega arith;
-        step = record { frame = steps.frame; sound = steps.sound; variables = steps.variables; level = steps.level; head = steps.head; grows = steps.grows };
-        left = rw e at left;
-      }
+      units-next k = record { most = omega arith; step = steps; left = left _ k }
 
-      pub units_failed : r.ok ≡ false → UnitStep m t₀ w₀ r w' × (enqueued r.ok (assignment_of r.trail w') ≡ Sat.initialize_units 0 (clauses_of m.clauses w₀) (some (assignment_of t₀ w₀)))
+      pub units_failed : enqueued (Std.Err t') w' ≡ Sat.initialize_unit (assignment_of t w) id (literals_of w id)
+          → UnitStep m t₀ w₀ t' w' × (enqueued (Std.Err t') w' ≡ Sat.initialize_units 0 (clauses_of m.clauses w₀) (some (assignment_of t₀ w₀)))
       unfolding enqueued
-      units_failed e = (steps, rw e (sym (units-none (id + 1) (drop (id + 1) (clauses_of m.clauses w₀))) ∙ rw e at left))
+      units_failed k = (steps, sym (units-none (id + 1) (drop (id + 1) (clauses_of m.clauses w₀))) ∙ left _ k)

@@ -2,8 +2,9 @@
 use Rattle.std.proofs.Math.Path.{◌≡◌, refl, sym}
 use Rattle.std.proofs.Common.{ap, ◌∙◌, inl, eqb-true}
 use Rattle.std.specs.Prelude.{Bool, true, false, List, ◌∷◌, eqb, get_or}
+use Rattle.std.specs.Prelude as Std
 use Rattle.std.proofs.Math.Option.{none, some}
-use Prim.Native.Nat.{ℕ, zero, suc, ◌+◌, ◌-◌, ◌*◌, ◌<◌, ◌≤◌}
+use Prim.Native.Nat.{ℕ, zero, suc, ◌+◌, ◌-◌, ◌*◌, ◌<◌}
 use native.Mathlib.Omega.{arith}
 use Rattle.std.proofs.Math.Numerals.{add-one}
 use Rattle.words.specs.Layout.{SMALL, CELLS, WATCH-TAILS, WATCH-COUNTS, CLAUSE-STARTS, WATCHED, LINKS}
@@ -13,8 +14,6 @@ use Rattle.model.specs.Sat.{Solver}
 use Rattle.assignment.specs.State.{assignment_of, value_of, Assigns, word_reason}
 use Rattle.assignment.specs.StateLaws.{unchanged_none}
 use Rattle.assignment.specs.declared.state.Trail.{Trail}
-use Rattle.assignment.specs.declared.state.Value.{Value}
-use Rattle.assignment.specs.declared.state.Value.TheVariants as Values
 use Rattle.clauses.specs.declared.state.Store.{Store}
 use Rattle.clauses.specs.declared.state.Clause.{Clause}
 use Rattle.watches.specs.declared.state.Pending.{Pending}
@@ -84,21 +83,21 @@ module _ (m : Store) (t : Trail) (w : List ℕ) (d : Pending) (v : Visiting m t 
       value-kept = ap (λ (a : Sat.Assignment). Sat.value a o) assignment-kept
 
       -- the other literal enqueued: it is true already
-      pub enqueued-true : {x : Value} → value_of x ≡ Sat.value (assignment_of t u) o → x ≡ Values.True
+      pub enqueued-true : {x : Std.Option Bool} → value_of x ≡ Sat.value (assignment_of t u) o → x ≡ Std.Some true
           → Visits m t w d t u × ((s : Solver) → Sat.propagating (solver_of s m t u)
           ≡ Sat.visit_enqueued (half d.cell) (Sat.keep_watch f (half d.cell) (solver_of s m t w)) (Sat.enqueue (assignment_of t w) o (some (half d.cell))))
       unfolding Sat.visit_enqueued Sat.enqueue Sat.enqueue_valued Sat.keep_watch Sat.with_assignment Sat.with_watches solver_of
       enqueued-true {x} g k = (rw e kept_visits, λ s. rw (← value-kept, ← g, k, e) (ap (λ (q : Solver). Sat.propagating q) (kept s)))
 
       -- it is false: a conflict
-      pub enqueued-false : {x : Value} → value_of x ≡ Sat.value (assignment_of t u) o → x ≡ Values.False → {id : ℕ} → id ≡ half d.cell
+      pub enqueued-false : {x : Std.Option Bool} → value_of x ≡ Sat.value (assignment_of t u) o → x ≡ Std.Some false → {id : ℕ} → id ≡ half d.cell
           → Visits m t w d t u × ((s : Solver) → Sat.conflict id (solver_of s m t u)
           ≡ Sat.visit_enqueued (half d.cell) (Sat.keep_watch f (half d.cell) (solver_of s m t w)) (Sat.enqueue (assignment_of t w) o (some (half d.cell))))
       unfolding Sat.visit_enqueued Sat.enqueue Sat.enqueue_valued
       enqueued-false {x} g k {id} h = (rw e kept_visits, λ s. rw (← value-kept, ← g, k, e, h) (ap (λ (q : Solver). Sat.conflict (half d.cell) q) (kept s)))
 
       -- it is unassigned
-      module _ {x : Value} (g : value_of x ≡ Sat.value (assignment_of t u) o) (k : x ≡ Values.Unassigned) (b : o < t.variables * 2) where
+      module _ {x : Std.Option Bool} (g : value_of x ≡ Sat.value (assignment_of t u) o) (k : x ≡ Std.None) (b : o < t.variables * 2) where
         formed-after : Formed m t u
         formed-after = rw e kept_visits.step.sound.formed
 
@@ -160,8 +159,12 @@ module _ (m : Store) (t : Trail) (w : List ℕ) (d : Pending) (v : Visiting m t 
 
 -- ---- by the other literal's value
 
-pub is_true : (t : Sat.Assignment) (l : ℕ) {x : Value} → value_of x ≡ Sat.value t l → {y : Value} → x ≡ y → Sat.is_true (value_of y) ≡ Sat.is_true (Sat.value t l)
-is_true t l {x} e {y} k = rw (← e, k)
+-- a value that is none counts as not true
+pub if_true : (o : Std.Option Bool) → Std.unwrap_or o false ≡ Sat.is_true (value_of o)
+unfolding Sat.is_true
+if_true Std.None = refl
+if_true (Std.Some true) = refl
+if_true (Std.Some false) = refl
 
 true_other : (f id : ℕ) (s : Solver) (c : Sat.Clause) (k : Sat.Slot) (v : Sat.Value) → true ≡ Sat.is_true v → Sat.visit_other f id s c k v ≡ Sat.propagating (Sat.keep_watch f id s)
 unfolding Sat.visit_other Sat.is_true
@@ -217,23 +220,18 @@ module _ (m : Store) (t : Trail) (w : List ℕ) (d : Pending) (v : Visiting m t 
   unfolding Sat.visit Sat.visit_clause solver_of
   visited s = rw (clause-is m.clauses w (half d.cell) Sat.empty_clause (clause_there m t w d v), slot_is)
 
-  module _ (n : ℕ) (e : slot_of n ≡ slot_by a b f) where
-    -- neither is the false literal: nothing is changed
-    pub slot_neither : 1 < n → (s : Solver) → Sat.propagating (solver_of s m t w) ≡ Sat.visit f (half d.cell) (solver_of s m t w)
-    unfolding Sat.visit_slot slot_of
-    slot_neither h s = rw (visited s, ← e, past n h)
-      where
-        past : (n : ℕ) → 1 < n → slot_of n ≡ Sat.neither
-        past zero h = absurd (omega arith)
-        past (suc zero) h = absurd (omega arith)
-        past (suc (suc k)) h = refl
+  -- neither is the false literal: nothing is changed
+  pub slot_neither : Sat.neither ≡ slot_by a b f → (s : Solver) → Sat.propagating (solver_of s m t w) ≡ Sat.visit f (half d.cell) (solver_of s m t w)
+  unfolding Sat.visit_slot
+  slot_neither e s = rw (visited s, ← e)
 
+  module _ (n : ℕ) (e : slot_of n ≡ slot_by a b f) where
     -- one of them is the false literal, which is of the variables
-    pub false-range : n ≤ 1 → f < t.variables * 2
+    pub false-range : n < 2 → f < t.variables * 2
     unfolding slot_by slot_of
     false-range low = go (eqb a f) (eqb b f) refl refl
       where
-        some_slot : (k : ℕ) → k ≤ 1 → slot_of k ≡ Sat.neither → ⊥
+        some_slot : (k : ℕ) → k < 2 → slot_of k ≡ Sat.neither → ⊥
         some_slot zero h z = let y : ◌≡◌ {A = ℕ} 0 1 = cc z in omega arith
         some_slot (suc zero) h z = let y : ◌≡◌ {A = ℕ} 0 1 = cc z in omega arith
         some_slot (suc (suc k)) h z = omega arith
@@ -243,12 +241,12 @@ module _ (m : Store) (t : Trail) (w : List ℕ) (d : Pending) (v : Visiting m t 
         go false true g h = rw (← eqb-true b f h) (stands-range m t w d v b second-stands)
         go false false g h = absurd (some_slot n low (rw (g, h) at e))
 
-    module _ (low : n ≤ 1) (o : ℕ) (eo : o ≡ other_by n a b) where
+    module _ (low : n < 2) (o : ℕ) (eo : o ≡ other_by n a b) where
       pub other_is : o ≡ Sat.other_literal (clause_at w (half d.cell)) (slot_of n)
       unfolding other_by Sat.other_literal slot_of
       other_is = eo ∙ go n low
         where
-          go : (k : ℕ) → k ≤ 1 → other_by k a b ≡ Sat.other_literal (clause_at w (half d.cell)) (slot_of k)
+          go : (k : ℕ) → k < 2 → other_by k a b ≡ Sat.other_literal (clause_at w (half d.cell)) (slot_of k)
           go zero h = sym second_is
           go (suc zero) h = sym first-is
           go (suc (suc k)) h = absurd (omega arith)
@@ -266,7 +264,7 @@ module _ (m : Store) (t : Trail) (w : List ℕ) (d : Pending) (v : Visiting m t 
       unfolding solver_of Sat.visit_slot slot_of
       by_other s = visited s ∙ rw (← e, other_is) (go n low)
         where
-          go : (k : ℕ) → k ≤ 1 → Sat.visit_slot f (half d.cell) (solver_of s m t w) (clause_at w (half d.cell)) (slot_of k)
+          go : (k : ℕ) → k < 2 → Sat.visit_slot f (half d.cell) (solver_of s m t w) (clause_at w (half d.cell)) (slot_of k)
               ≡ Sat.visit_other f (half d.cell) (solver_of s m t w) (clause_at w (half d.cell)) (slot_of k) (Sat.value (solver_of s m t w).assignment (Sat.other_literal (clause_at w (half d.cell)) (slot_of k)))
           go zero h = refl
           go (suc zero) h = refl

@@ -13,16 +13,15 @@ use assignment::state::Trail;
 use clauses::queue::push_back;
 use clauses::state::Store;
 use literals::Literal;
-use words::{LINKS, TRAIL, WATCH_COUNTS, WATCH_HEADS, load, put, wide};
+use words::{LINKS, TRAIL, WATCH_COUNTS, WATCH_HEADS, load, put};
 
 // The pending cells after the first.
 fn rest(words: &[u32], d: Pending) -> Pending
     requires { (LENT ≤ length words.now) × (0 < d.left) × (d.cell < CELLS) }
     ensures { (result.cell ≡ get_or (region LINKS words.now) d.cell 0) × (result.left ≡ d.left - 1) }
 {
-    let cell = load(words, LINKS, wide(d.cell));
     Pending {
-        cell,
+        cell: load(words, LINKS, d.cell as usize),
         left: d.left - 1,
     }
 }
@@ -33,7 +32,7 @@ fn keep(words: &mut [u32], store: Store, t: Trail, f: Literal, d: Pending)
     ensures { Visits store t words.old d t words.new
         × ((s : Sat.Solver) → solver_of s store t words.new ≡ Sat.keep_watch f.0 (half d.cell) (solver_of s store t words.old)) }
 {
-    push_back(words, wide(f.0), d.cell);
+    push_back(words, f.0 as usize, d.cell);
 }
 
 // The pending clauses go back to the queue of f, in order.
@@ -71,9 +70,7 @@ fn visit_pending(
                 t = u;
                 d = next;
             }
-            Propagation::Complete(u) => {
-                return Propagation::Complete(u);
-            }
+            Propagation::Complete(u) => return Propagation::Complete(u),
             Propagation::Conflict(id, u) => {
                 restore(words, store, u, f, next);
                 return Propagation::Conflict(id, u);
@@ -88,12 +85,12 @@ fn take_watches(words: &mut [u32], store: Store, t: Trail, f: Literal) -> Pendin
     requires { SoundStore store t words.old [] }
     ensures { Taken store t words.old f.0 result words.new }
 {
-    let l = wide(f.0);
+    let l = f.0 as usize;
     if t.variables * 2 <= l {
         return Pending { cell: 0, left: 0 };
     }
     let cell = load(words, WATCH_HEADS, l);
-    let left = wide(load(words, WATCH_COUNTS, l));
+    let left = load(words, WATCH_COUNTS, l) as usize;
     put(words, WATCH_COUNTS, l, 0);
     Pending { cell, left }
 }
@@ -104,15 +101,11 @@ fn propagate_round(words: &mut [u32], store: Store, t: Trail) -> Propagation
     ensures { Step store (advanced t) words.old (trail_of result) words.new []
         × ((s : Sat.Solver) → propagation_of s store words.new result ≡ Sat.propagate_round (solver_of s store t words.old)) }
 {
-    let head = t.head;
-    let literal = Literal(load(words, TRAIL, head));
-    let f = literal.negate();
+    let f = Literal(load(words, TRAIL, t.head)).negate();
     let d = take_watches(words, store, t, f);
     let next = Trail {
-        variables: t.variables,
-        length: t.length,
-        head: head + 1,
-        level: t.level,
+        head: t.head + 1,
+        ..t
     };
     visit_pending(words, store, next, f, d)
 }
@@ -126,15 +119,8 @@ pub fn propagate(words: &mut [u32], store: Store, start: Trail) -> Propagation
     let mut t = start;
     while t.head < t.length {
         match propagate_round(words, store, t) {
-            Propagation::Propagating(u) => {
-                t = u;
-            }
-            Propagation::Complete(u) => {
-                return Propagation::Complete(u);
-            }
-            Propagation::Conflict(id, u) => {
-                return Propagation::Conflict(id, u);
-            }
+            Propagation::Propagating(u) => t = u,
+            ended => return ended,
         }
     }
     Propagation::Complete(t)

@@ -17,7 +17,7 @@
 // A new region needs a name here and in specs/Layout.antt; its size by its base is what `size_of` of specs/Region.antt says.
 #![tactic(auto)]
 
-ghost use Rattle.std.specs.Prelude.{◌≡◌, ◌+◌, ◌<◌, ◌≤◌, min, length, get_or, replicate, pos, false};
+ghost use Rattle.std.specs.Prelude.{◌≡◌, ◌+◌, ◌<◌, ◌≤◌, length, get_or, replicate, pos, false};
 ghost use Rattle.std.specs.Float.{fin};
 ghost use Rattle.words.specs.Layout.{LENT};
 ghost use Rattle.words.specs.Region.{region, size_of, stored, cleared};
@@ -124,14 +124,8 @@ pub const NETS: usize = 5505024;
 // While a design is lowered, the variable of each register output by its net.
 pub const STATES: usize = 5506048;
 
-// A word as an index.
-pub fn wide(x: u32) -> usize
-    ensures { result ≡ x }
-{
-    x as usize
-}
-
 // A word of the region at `base`, of `size` words; 0 past its end.
+#[tactic(auto, using(crate::specs::Region::read, crate::specs::Region::read_out))]
 pub fn fetch(words: &[u32], base: usize, size: usize, i: usize) -> u32
     requires { (LENT ≤ length words.now) × (base + size ≤ LENT) × (size ≡ size_of base) }
     ensures { result ≡ get_or (region base words.now) i 0 }
@@ -140,6 +134,7 @@ pub fn fetch(words: &[u32], base: usize, size: usize, i: usize) -> u32
 }
 
 // A store into the region at `base`, of `size` words; nothing past its end. The words stay long enough for the next call.
+#[tactic(auto, unfolding(crate::specs::Region::stored))]
 pub fn stash(words: &mut [u32], base: usize, size: usize, i: usize, value: u32)
     requires { (LENT ≤ length words.old) × (base + size ≤ LENT) × (size ≡ size_of base) }
     ensures { (words.new ≡ stored base words.old i value) × (LENT ≤ length words.new) }
@@ -150,6 +145,7 @@ pub fn stash(words: &mut [u32], base: usize, size: usize, i: usize, value: u32)
 }
 
 // A word of the region at `base`, whose place is within it.
+#[tactic(auto, using(crate::specs::Region::read))]
 pub fn load(words: &[u32], base: usize, i: usize) -> u32
     requires { (LENT ≤ length words.now) × (base + size_of base ≤ LENT) × (i < size_of base) }
     ensures { result ≡ get_or (region base words.now) i 0 }
@@ -158,6 +154,7 @@ pub fn load(words: &[u32], base: usize, i: usize) -> u32
 }
 
 // A store into the region at `base`, whose place is within it. The words stay long enough for the next call.
+#[tactic(auto, unfolding(crate::specs::Region::stored))]
 pub fn put(words: &mut [u32], base: usize, i: usize, value: u32)
     requires { (LENT ≤ length words.old) × (base + size_of base ≤ LENT) × (i < size_of base) }
     ensures { (words.new ≡ stored base words.old i value) × (LENT ≤ length words.new) }
@@ -165,44 +162,24 @@ pub fn put(words: &mut [u32], base: usize, i: usize, value: u32)
     words[base + i] = value;
 }
 
-// The lower of two numbers.
-pub fn lower(a: usize, b: usize) -> usize
-    ensures { result ≡ min a b }
-{
-    if a < b { a } else { b }
-}
-
 // Clears the first `n` words of the region at `base`, of `size` words; nothing past its end.
 pub fn clear(words: &mut [u32], base: usize, size: usize, n: usize)
     requires { (LENT ≤ length words.old) × (base + size ≤ LENT) × (size ≡ size_of base) }
     ensures { (words.new ≡ cleared base words.old n) × (LENT ≤ length words.new) }
 {
-    let end = lower(n, size);
-    let mut i: usize = 0;
-    while i < end {
-        words[base + i] = 0;
-        i += 1;
-    }
+    words[base..base + n.min(size)].fill(0);
 }
 
 // Clears all words, whatever their number.
 pub fn clear_words(words: &mut [u32])
     ensures { words.new ≡ replicate (length words.old) 0 }
 {
-    let mut i: usize = 0;
-    while i < words.len() {
-        words[i] = 0;
-        i += 1;
-    }
+    words.fill(0);
 }
 
 // Clears all scores, whatever their number.
 pub fn clear_scores(scores: &mut [f64])
     ensures { scores.new ≡ replicate (length scores.old) (fin false 0 (pos 0)) }
 {
-    let mut i: usize = 0;
-    while i < scores.len() {
-        scores[i] = 0.0;
-        i += 1;
-    }
+    scores.fill(0.0);
 }

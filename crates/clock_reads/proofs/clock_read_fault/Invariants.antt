@@ -1,13 +1,8 @@
 -- `clock_read_fault` meets its contract: the numbers that are left to check give the whole outcome. Assumes nothing.
-use Rattle.std.proofs.Common.{ℕ, ◌-◌, ◌≤◌, ◌≡◌, List, drop}
+use Rattle.std.proofs.Common.{ℕ, ◌≡◌, List, drop}
 use Rattle.model.specs.Validate.{clock_read_fault}
 use Rattle.struo_ir.specs.Decoded.{decoded}
 use Rattle.clock_reads.proofs.clock_read_fault.Given as goal
 
 abbrev pub invariant-loop-i : goal.invariant-loop-i
-invariant-loop-i l =
-    (l.i ≤ l.netlist.node_count)
-    × ((s : List ℕ) → clock_read_fault (decoded s l.netlist) l.i (drop l.i (decoded s l.netlist).nodes) ≡ clock_read_fault (decoded s l.netlist) 0 (decoded s l.netlist).nodes)
-
-abbrev pub decreases-loop-i : goal.decreases-loop-i
-decreases-loop-i l = l.netlist.node_count - l.i
+invariant-loop-i l = (s : List ℕ) → clock_read_fault (decoded s l.fn.netlist) l.i (drop l.i (decoded s l.fn.netlist).nodes) ≡ clock_read_fault (decoded s l.fn.netlist) 0 (decoded s l.fn.netlist).nodes

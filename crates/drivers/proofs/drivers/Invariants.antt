@@ -4,6 +4,3 @@ use Rattle.drivers.proofs.drivers.Given as goal
 
 abbrev pub invariant-loop-k : goal.invariant-loop-k
 invariant-loop-k l = DriversSoFar l.netlist l.table l.k
-
-abbrev pub decreases-loop-k : goal.decreases-loop-k
-decreases-loop-k l = l.k

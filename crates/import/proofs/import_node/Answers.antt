@@ -1,6 +1,5 @@
 -- `import::import_node` meets its contract. Assumes nothing.
 use Rattle.std.proofs.Common.{sym, ◌∙◌, ◌+◌, ◌<◌, arith, get_or}
-use Rattle.aig.specs.Side.{side-size}
 use Rattle.words.specs.Layout.{SMALL}
 use Rattle.words.specs.Region.{region}
 use Rattle.import.specs.Importing.{remap_inside, stepped-variable, stepped-and}
@@ -12,17 +11,9 @@ conjunction : (c : Else-rhs-eq0) → let a = c.args in 0 < get_or (region (a.bas
 conjunction c =
     omega (arith, c.fetch-rhs.ensures, c.if-rhs-eq0.false)
 
-pub fetch-rhs-requires : goal.fetch-rhs-requires
-fetch-rhs-requires c =
-    (c.requires.ready.long, omega (arith, c.requires.high), sym (side-size (c.args.base + SMALL) (omega (arith, c.requires.low)) (omega (arith, c.requires.high))))
-
 pub returns-then-rhs-eq0 : goal.returns-then-rhs-eq0
 returns-then-rhs-eq0 c =
     stepped-variable _ _ _ _ c.requires (sym c.fetch-rhs.ensures ∙ c.if-rhs-eq0.true)
-
-pub fetch-lhs-requires : goal.fetch-lhs-requires
-fetch-lhs-requires c =
-    (c.requires.ready.long, omega (arith, c.requires.high), sym (side-size c.args.base c.requires.low (omega (arith, c.requires.high))))
 
 pub and-made-requires : goal.and-made-requires
 and-made-requires c =

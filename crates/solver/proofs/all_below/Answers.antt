@@ -1,22 +1,15 @@
 -- `all_below` is the definition's test of all literals. Assumes nothing.
-use Rattle.std.proofs.Common.{refl, sym, ◌∙◌, arith}
+use Rattle.std.proofs.Common.{sym, ◌∙◌, arith}
 use Rattle.solver.specs.QueryLaws.{below_stop, below_more, below-done}
 use Rattle.solver.proofs.all_below.Goals as goal
 
-pub loop-i-init : goal.loop-i-init
-loop-i-init c = (omega arith, refl)
+pub returns-then-literal-bound : goal.returns-then-literal-bound
+returns-then-literal-bound c =
+    sym (c.loop-literal.invariant ∙ below_stop _ c.args.literals.now c.loop-literal.literal-index (omega arith) c.if-literal-bound.true)
 
-pub returns-then-literals-i : goal.returns-then-literals-i
-returns-then-literals-i c =
-    let l = c.loop-i in
-    sym (l.invariant.1 ∙ below_stop _ _ l.i c.loop-i-test.true c.if-literals-i.true)
-
-pub loop-i-preserved : goal.loop-i-preserved
-loop-i-preserved c =
-    let l = c.loop-i in
-    (omega arith, l.invariant.1 ∙ below_more _ _ l.i c.loop-i-test.true c.if-literals-i.false)
+pub loop-literal-preserved : goal.loop-literal-preserved
+loop-literal-preserved c =
+    c.loop-literal.invariant ∙ below_more _ c.args.literals.now c.loop-literal.literal-index (omega arith) c.if-literal-bound.false
 
 pub returns : goal.returns
-returns c =
-    let l = c.loop-i in
-    sym (l.invariant.1 ∙ below-done _ _ l.i c.loop-i-test.false)
+returns c = sym (c.loop-literal.invariant ∙ below-done _ c.args.literals.now _ (omega arith))

@@ -11,11 +11,11 @@ rebuild-requires c =
     let k = within-fits _ _ _ _ _ (sym c.fits.ensures ∙ c.if-not-fits.false) in
     (k.words_long, omega arith, omega (arith, k.nodes_few))
 
-pub returns-in-Refused : goal.returns-in-Refused
-returns-in-Refused c =
-    size_unbuilt _ _ (sym c.fits.ensures ∙ c.if-not-fits.false) (unbuilt _ _ _ _ c.rebuild.ensures c.in-Refused.is)
+pub returns-in-None : goal.returns-in-None
+returns-in-None c =
+    size_unbuilt _ _ (sym c.fits.ensures ∙ c.if-not-fits.false) (unbuilt _ _ _ _ c.rebuild.ensures c.in-None.is)
 
-pub returns-in-Graph : goal.returns-in-Graph
-returns-in-Graph c =
-    let g = built _ _ _ _ c.rebuild.ensures _ c.in-Graph.is in
+pub returns-in-Some : goal.returns-in-Some
+returns-in-Some c =
+    let g = built _ _ _ _ c.rebuild.ensures _ c.in-Some.is in
     size-built _ _ (sym c.fits.ensures ∙ c.if-not-fits.false) _ _ g.is

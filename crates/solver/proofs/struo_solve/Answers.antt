@@ -15,14 +15,14 @@ rebuild-requires c =
 pub search_graph-requires : goal.search_graph-requires
 search_graph-requires c =
     let k = within-fits _ _ _ _ _ (sym c.fits.ensures ∙ c.if-not-fits.false) in
-    let g = built _ _ _ _ c.rebuild.ensures _ c.in-Graph.is in
+    let g = built _ _ _ _ c.rebuild.ensures _ c.in-Some.is in
     record { standing = g.standing.0; few = g.standing.1; scores = k.scores_long; assumed = k.assumptions_few; limited = k.limited }
 
-pub returns-in-Refused : goal.returns-in-Refused
-returns-in-Refused c =
-    call_unbuilt _ _ _ _ _ (sym c.fits.ensures ∙ c.if-not-fits.false) (unbuilt _ _ _ _ c.rebuild.ensures c.in-Refused.is) _ _ c.refused-in-Refused.ensures
+pub returns-in-None : goal.returns-in-None
+returns-in-None c =
+    call_unbuilt _ _ _ _ _ (sym c.fits.ensures ∙ c.if-not-fits.false) (unbuilt _ _ _ _ c.rebuild.ensures c.in-None.is) _ _ c.refused-in-None.ensures
 
-pub returns-in-Graph : goal.returns-in-Graph
-returns-in-Graph c =
-    let g = built _ _ _ _ c.rebuild.ensures _ c.in-Graph.is in
+pub returns-in-Some : goal.returns-in-Some
+returns-in-Some c =
+    let g = built _ _ _ _ c.rebuild.ensures _ c.in-Some.is in
     call-searched _ _ _ _ _ (sym c.fits.ensures ∙ c.if-not-fits.false) _ g.is _ c.search_graph.ensures

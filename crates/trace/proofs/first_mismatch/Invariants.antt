@@ -1,5 +1,4 @@
 -- `trace::first_mismatch` meets its contract. Assumes nothing.
-use Rattle.std.proofs.Common.{◌-◌, ◌≤◌}
 use Rattle.assignment.specs.State.{model_of}
 use Rattle.words.specs.Layout.{FRAMES}
 use Rattle.words.specs.Region.{region}
@@ -7,7 +6,4 @@ use Rattle.trace.specs.Cycles.{Equal}
 use Rattle.trace.proofs.first_mismatch.Given as goal
 
 abbrev pub invariant-loop-cycle : goal.invariant-loop-cycle
-invariant-loop-cycle l = (l.cycle ≤ l.cycles) × Equal (model_of l.nodes l.words) l.cycle (region FRAMES l.words)
-
-abbrev pub decreases-loop-cycle : goal.decreases-loop-cycle
-decreases-loop-cycle l = l.cycles - l.cycle
+invariant-loop-cycle l = Equal (model_of l.nodes l.words) l.cycle (region FRAMES l.words)

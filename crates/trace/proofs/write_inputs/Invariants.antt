@@ -1,5 +1,5 @@
 -- `trace::write_inputs` meets its contract. Assumes nothing.
-use Rattle.std.proofs.Common.{◌≡◌, ◌-◌, ◌≤◌, length}
+use Rattle.std.proofs.Common.{◌≡◌, length}
 use Rattle.assignment.specs.State.{model_of}
 use Rattle.words.specs.Layout.{FRAMES}
 use Rattle.words.specs.Region.{region}
@@ -9,7 +9,4 @@ use Rattle.trace.proofs.write_inputs.Given as goal
 
 abbrev pub invariant-loop-cycle : goal.invariant-loop-cycle
 invariant-loop-cycle l =
-    (l.cycle ≤ l.n) × (length l.trace ≡ length l.initial.trace) × Wrote 0 (inputs_of (model_of l.nodes l.words) l.input_count l.cycle (region FRAMES l.words)) l.initial.trace l.trace
-
-abbrev pub decreases-loop-cycle : goal.decreases-loop-cycle
-decreases-loop-cycle l = l.n - l.cycle
+    (length l.trace ≡ length l.initial.trace) × Wrote 0 (inputs_of (model_of l.nodes l.words) l.input_count l.cycle (region FRAMES l.words)) l.initial.trace l.trace

@@ -1,26 +1,38 @@
--- `words::clear` stores 0 at each place of the region below the lower of `n` and `size`. Assumes nothing.
-use Rattle.std.proofs.Common.{◌≡◌, sym, ◌∙◌, ap, List, ℕ, ◌+◌, min, arith, length, set, length-set, rules}
-use Rattle.words.specs.Region.{size_of, cleared, cleared-none, cleared-next, cleared-least, length-cleared}
+-- `words::clear` fills the part of the region below the lower of `n` and `size` with 0. Assumes nothing.
+use Rattle.std.proofs.Common.{◌≡◌, refl, sym, ◌∙◌, ap, List, ◌∷◌, ◌++◌, ℕ, zero, suc, ◌+◌, ◌<◌, ◌≤◌, min, arith, length, set, get_or, take, drop, replicate, length-take, length-append, append_assoc, lt-ltb}
+use Rattle.std.proofs.lemmas.List.{length-replicate}
+use Rattle.std.proofs.lemmas.Grind.{common_steps}
+use Rattle.std.proofs.Math.Seq.{drop-cons, set-append_seam}
+use Rattle.words.specs.Region.{size_of, stored, cleared, cleared-least}
 use Rattle.words.proofs.clear.Goals as goal
 
-pub loop-i-init : goal.loop-i-init
-loop-i-init c = (search rules, search rules, sym (cleared-none _ _))
+zero-after : (n : ℕ) (xs : List ℕ) → replicate n 0 ++ 0 ∷ xs ≡ replicate (suc n) 0 ++ xs
+zero-after zero xs = refl
+zero-after (suc n) xs = ap (λ (ys : List ℕ). 0 ∷ ys) (zero-after n xs)
 
-pub loop-i-preserved : goal.loop-i-preserved
-loop-i-preserved c =
-    let l = c.loop-i in
-    let a = c.args in
-    (search rules, simp length-set l.invariant.1, ap (λ (xs : List ℕ). set xs (a.base + l.i) 0) l.invariant.2 ∙ cleared-next a.base a.words.now l.i (omega arith))
+-- one more zero after n of them
+zeros-more : (b n : ℕ) (w : List ℕ) → b + n < length w → set (take b w ++ (replicate n 0 ++ drop (b + n) w)) (b + n) 0 ≡ take b w ++ (replicate (suc n) 0 ++ drop (suc (b + n)) w)
+zeros-more b n w h =
+    let xs : List ℕ = take b w ++ replicate n 0 in
+    let ys : List ℕ = drop (suc (b + n)) w in
+    let p : length xs ≡ b + n = simp (length-append, length-take, length-replicate) (omega arith) in
+    let q : drop (b + n) w ≡ get_or w (b + n) 0 ∷ ys = drop-cons w (b + n) 0 h in
+    rw (q, ← (append_assoc (take b w) (replicate n 0) (get_or w (b + n) 0 ∷ ys)))
+    (ap (λ (i : ℕ). set (xs ++ get_or w (b + n) 0 ∷ ys) i 0) (sym p) ∙ set-append_seam xs _ ys 0 ∙ append_assoc (take b w) (replicate n 0) (0 ∷ ys) ∙ ap (λ (zs : List ℕ). take b w ++ zs) (zero-after n ys))
 
-pub shape_of-words : goal.shape_of-words
-shape_of-words c =
-    let l = c.loop-i in
-    let a = c.args in
-    ap length l.invariant.2 ∙ length-cleared a.base a.words.now l.i
+-- the words with the first n of a region 0, as a part written over
+cleared-part : (b : ℕ) (w : List ℕ) (n : ℕ) → n ≤ size_of b → b + n ≤ length w → cleared b w n ≡ take b w ++ (replicate n 0 ++ drop (b + n) w)
+unfolding cleared stored
+cleared-part b w zero h k = grind (arith, common_steps)
+cleared-part b w (suc n) h k =
+    let e : b + suc n ≡ suc (b + n) = omega arith in
+    rw (e, lt-ltb n (size_of b) (omega arith), cleared-part b w n (omega arith) (omega arith)) (zeros-more b n w (omega arith))
 
 pub returns : goal.returns
 returns c =
-    let l = c.loop-i in
     let a = c.args in
-    let e : l.i ≡ min a.n (size_of a.base) = omega arith in
-    (l.invariant.2 ∙ ap (cleared a.base a.words.now) e ∙ cleared-least a.base a.words.now a.n, l.invariant.1)
+    let m : c.min.result ≡ min a.n (size_of a.base) = cc in
+    let h = c.fill.ensures.after (λ y e. e) in
+    let e = cleared-part a.base a.words.now c.min.result (omega arith) (omega arith) in
+    let f = ap (cleared a.base a.words.now) m ∙ cleared-least a.base a.words.now a.n in
+    (grind (arith, common_steps, e, f), grind (arith, common_steps, h))

@@ -1,5 +1,4 @@
 -- `bounds` meets its contract: by whether there is such a clause. Assumes nothing.
-use Rattle.std.proofs.Common.{◌∙◌}
 use Rattle.analysis.specs.RoundLaws.{spans_not, spans}
 use Rattle.analysis.proofs.resolve.bounds.Goals as goal
 
@@ -8,4 +7,4 @@ returns-then-clauses-id c = spans_not _ _ _ c.if-clauses-id.true
 
 pub returns : goal.returns
 returns c =
-    spans _ _ _ _ _ _ c.requires c.if-clauses-id.false (c.wide-start.ensures ∙ c.fetch.ensures) (c.wide-end.ensures ∙ c.fetch-2.ensures) c.lower-stop.ensures
+    spans _ _ _ _ _ _ c.requires c.if-clauses-id.false c.fetch-start.ensures c.fetch-end.ensures c.min.ensures

@@ -5,4 +5,4 @@ use Rattle.analysis.proofs.resolve.reason_of.Goals as goal
 
 pub returns : goal.returns
 returns c =
-    c.one_less.ensures ∙ reason-is _ _ _ _ c.requires.1 (c.wide.ensures ∙ c.load.ensures)
+    c.saturating_sub.ensures ∙ reason-is _ _ _ _ c.requires.1 c.load.ensures

@@ -7,6 +7,6 @@ pub returns-then-skipped : goal.returns-then-skipped
 returns-then-skipped c =
     sees_not _ _ _ _ _ _ c.requires.0 (sym c.if-skipped.true ∙ c.skipped.ensures _ (seen_of_lem _ _ _ _))
 
-pub returns : goal.returns
-returns c =
+pub returns-else-skipped : goal.returns-else-skipped
+returns-else-skipped c =
     sees_it _ _ _ _ _ _ _ _ _ (sym c.if-skipped.false ∙ c.skipped.ensures _ (seen_of_lem _ _ _ _)) c.see_variable.ensures

@@ -1,10 +1,6 @@
 -- `unassign_from` meets its contract. The invariant: the literals of the trail up to here are unassigned. Assumes nothing.
-use Rattle.std.proofs.Common.{◌-◌}
 use Rattle.assignment.specs.BacktrackLaws.{Undoing}
 use Rattle.assignment.proofs.trail.unassign_from.Given as goal
 
 abbrev pub invariant-loop-i : goal.invariant-loop-i
 invariant-loop-i l = Undoing l.t l.initial.words l.from l.i l.words
-
-abbrev pub decreases-loop-i : goal.decreases-loop-i
-decreases-loop-i l = l.n - l.i

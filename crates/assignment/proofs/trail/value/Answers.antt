@@ -1,7 +1,7 @@
 -- `value` meets its contract: by the word of the literal's variable. Assumes nothing.
 use Rattle.std.proofs.Common.{◌≡◌, sym, ◌∙◌, arith}
 use Rattle.assignment.specs.State.{assignment_of, word_value}
-use Rattle.assignment.specs.StateLaws.{value-is, word_unassigned, word_false, word_true}
+use Rattle.assignment.specs.StateLaws.{value-is, word_unassigned, word_known}
 use Rattle.model.specs.Sat as Sat
 use Rattle.model.specs.Literal as Literals
 use Rattle.assignment.proofs.trail.value.Goals as goal
@@ -11,20 +11,16 @@ use Rattle.assignment.proofs.trail.value.Goals.{After-load-word}
 read : (c : After-load-word) → let a = c.args in
     Sat.value (assignment_of a.t a.words.now) a.literal.0 ≡ Sat.literal_value (Literals.inverted a.literal.0) (word_value c.load-word.result)
 read c =
-    value-is c.args.t c.args.words.now c.args.literal.0 _ _ c.requires.1 (c.wide.ensures ∙ c.node.ensures) c.load-word.ensures
+    value-is c.args.t c.args.words.now c.args.literal.0 _ _ c.requires.1 c.node.ensures c.load-word.ensures
 
 pub load-word-requires : goal.load-word-requires
 unfolding Literals.node
 load-word-requires c =
-    (c.requires.0.words, omega arith, omega (arith, c.wide.ensures, c.node.ensures, c.requires.1, c.requires.0.variables))
+    (c.requires.0.words, omega arith, omega (arith, c.node.ensures, c.requires.1, c.requires.0.variables))
 
 pub returns-then-word-eq0 : goal.returns-then-word-eq0
 returns-then-word-eq0 c = sym (read (goal.at.returns-then-word-eq0 c).After-load-word ∙ word_unassigned _ _ c.if-word-eq0.true)
 
-pub returns-then-word-inverted : goal.returns-then-word-inverted
-returns-then-word-inverted c =
-    sym (read (goal.at.returns-then-word-inverted c).After-load-word ∙ word_false _ _ c.if-word-eq0.false (rw (← c.inverted.ensures) c.if-word-inverted.true))
-
-pub returns-else-word-inverted : goal.returns-else-word-inverted
-returns-else-word-inverted c =
-    sym (read (goal.at.returns-else-word-inverted c).After-load-word ∙ word_true _ _ c.if-word-eq0.false (rw (← c.inverted.ensures) c.if-word-inverted.false))
+pub returns-else-word-eq0 : goal.returns-else-word-eq0
+returns-else-word-eq0 c =
+    rw c.inverted.ensures (word_known _ _ c.if-word-eq0.false) ∙ sym (read (goal.at.returns-else-word-eq0 c).After-load-word)

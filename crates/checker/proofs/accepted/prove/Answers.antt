@@ -8,19 +8,18 @@ use Rattle.checker.specs.ResultLaws.{most-small, answer_of_lem, proved, words_en
 use Rattle.checker.proofs.accepted.prove.Goals as goal
 
 pub sides-problem-requires : goal.sides-problem-requires
-sides-problem-requires c = let p = c.requires in (words_enough _ _ _ _ _ _ p.2, p.0, p.1)
+sides-problem-requires c = words_enough _ _ _ _ _ _ c.requires
 
 pub prove_sequential_equivalence-outcome-requires : goal.prove_sequential_equivalence-outcome-requires
 unfolding options_of
 prove_sequential_equivalence-outcome-requires c =
-    let p = c.requires in
-    provable _ _ _ _ _ _ _ _ _ _ _ _ p.0 p.1 c.sides-problem.ensures (accepted _ _ _ _ p.2)
+    let p = c.args.pair.now in
+    provable _ _ _ _ _ _ _ _ _ _ _ _ p.gold.sided p.gate.sided c.sides-problem.ensures (accepted _ _ _ _ c.requires)
 
 pub answered-requires : goal.answered-requires
 unfolding options_of
 answered-requires c =
-    let p = c.requires in
-    most-small _ _ _ _ _ (accepted _ _ _ _ p.2).limit_small (c.prove_sequential_equivalence-outcome.ensures.most _ c.sides-problem.ensures.stands)
+    most-small _ _ _ _ _ (accepted _ _ _ _ c.requires).limit_small (c.prove_sequential_equivalence-outcome.ensures.most _ c.sides-problem.ensures.stands)
 
 pub returns : goal.returns
 unfolding check_designs options_of

@@ -1,23 +1,17 @@
 -- `check` answers the refusal of a record, or checks the pair. Assumes nothing.
-use Rattle.std.proofs.Common.{ap, ◌∙◌}
 use Rattle.model.specs.Check.{check}
-use Rattle.pair.specs.PairReading.{pair_of, pair_by}
+use Rattle.pair.specs.PairReadingLaws.{pair-refused, pair-accepted}
 use Rattle.checker.specs.ResultLaws.{read-refused, read-accepted}
 use Rattle.checker.proofs.call.check.Goals as goal
 
-pub check_pair-requires : goal.check_pair-requires
-check_pair-requires c =
-    let p = c.read_pair-reading.ensures.sided c.in-Nothing.is in
-    (p.0, p.1)
-
-pub returns-in-Refused : goal.returns-in-Refused
-unfolding check pair_of pair_by
-returns-in-Refused c =
+pub returns-in-Err : goal.returns-in-Err
+unfolding check
+returns-in-Err c =
     let a = c.args in
-    read-refused _ _ _ _ _ _ _ _ _ (c.read_pair-reading.ensures.is ∙ ap (pair_by a.gold.now a.gate.now c.read_pair-reading.result.gold c.read_pair-reading.result.gate) c.in-Refused.is) c.refused_check.ensures
+    read-refused _ _ _ _ _ _ _ _ _ (pair-refused a.gold.now a.gate.now c.read_pair-read.result c.read_pair-read.ensures _ c.in-Err.is) c.from.ensures
 
-pub returns-in-Nothing : goal.returns-in-Nothing
-unfolding check pair_of pair_by
-returns-in-Nothing c =
+pub returns-in-Ok : goal.returns-in-Ok
+unfolding check
+returns-in-Ok c =
     let a = c.args in
-    read-accepted _ _ _ _ _ _ _ _ _ _ (c.read_pair-reading.ensures.is ∙ ap (pair_by a.gold.now a.gate.now c.read_pair-reading.result.gold c.read_pair-reading.result.gate) c.in-Nothing.is) c.check_pair.ensures
+    read-accepted _ _ _ _ _ _ _ _ _ _ (pair-accepted a.gold.now a.gate.now c.read_pair-read.result c.read_pair-read.ensures _ c.in-Ok.is) c.check_pair.ensures

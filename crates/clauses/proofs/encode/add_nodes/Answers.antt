@@ -1,18 +1,7 @@
 -- `add_nodes` meets its contract. The invariant: the nodes that are left are to be added, and there is room for them. Assumes nothing.
 use Rattle.std.proofs.Common.{rules}
-use Rattle.clauses.specs.GateLaws.{nodes-start, node-asked, node-step, nodes-done}
+use Rattle.clauses.specs.GateLaws.{node-step, nodes-done}
 use Rattle.clauses.proofs.encode.add_nodes.Goals as goal
-
-pub loop-i-init : goal.loop-i-init
-loop-i-init c =
-    let a = c.args in
-    (search rules, search rules, nodes-start a.t a.start a.words.now a.scores.now c.requires.0)
-
-pub add_node-store-requires : goal.add_node-store-requires
-add_node-store-requires c =
-    let l = c.loop-i in
-    let a = c.args in
-    node-asked a.t a.start a.words.now a.scores.now c.requires.0 l.store l.words l.scores l.i l.invariant.2 c.requires.1 c.loop-i-test.true
 
 pub loop-i-preserved : goal.loop-i-preserved
 loop-i-preserved c =

@@ -4,12 +4,12 @@ use Rattle.depths.proofs.depth.query_0.Goals as goal
 
 pub returns-in-Model : goal.returns-in-Model
 returns-in-Model c =
-    differs_0 c.args.problem c.args.limit _ _ _ _ _ _ c.find_counterexample-found.ensures _ _ c.counted-now.ensures _ c.in-Model.is
+    rw c.decided.ensures (differs_0 c.args.problem.now c.args.limit _ _ _ _ _ _ c.find_counterexample-found.ensures _ _ c.counted-now.ensures _ c.in-Model.is)
 
 pub returns-in-NoModel : goal.returns-in-NoModel
 returns-in-NoModel c =
-    alike_0 c.args.problem c.args.limit _ _ _ _ _ _ c.find_counterexample-found.ensures _ _ c.counted-now.ensures _ c.in-NoModel.is
+    alike_0 c.args.problem.now c.args.limit _ _ _ _ _ _ c.find_counterexample-found.ensures _ _ c.counted-now.ensures _ c.in-NoModel.is
 
 pub returns-in-GaveUp : goal.returns-in-GaveUp
 returns-in-GaveUp c =
-    gave_up_0 c.args.problem c.args.limit _ _ _ _ _ _ c.find_counterexample-found.ensures _ _ c.counted-now.ensures _ c.in-GaveUp.is
+    rw c.decided-in-GaveUp.ensures (gave_up_0 c.args.problem.now c.args.limit _ _ _ _ _ _ c.find_counterexample-found.ensures _ _ c.counted-now.ensures _ c.in-GaveUp.is)

@@ -8,11 +8,11 @@ pub deepen-requires : goal.deepen-requires
 deepen-requires c =
     provable_kept _ _ _ _ _ _ _ _ _ c.requires c.before_query_1-begun.ensures.kept (search rules) (search rules) (search rules)
 
-pub returns-in-Undecided : goal.returns-in-Undecided
-returns-in-Undecided c =
+pub returns-in-Continue : goal.returns-in-Continue
+returns-in-Continue c =
     let e = c.before_query_1-begun.ensures in
-    deepened _ _ _ _ _ _ _ _ _ c.requires.some e _ c.in-Undecided.is (stands_for_kept _ _ _ c.requires.paired e.kept) _ _ c.deepen.ensures
+    deepened _ _ _ _ _ _ _ _ _ c.requires.some e _ c.in-Continue.is (stands_for_kept _ _ _ c.requires.paired e.kept) _ _ c.deepen.ensures
 
-pub returns-in-Decided : goal.returns-in-Decided
-returns-in-Decided c =
-    decided-first _ _ _ _ _ _ _ _ _ c.requires.some c.before_query_1-begun.ensures _ c.in-Decided.is
+pub returns-in-Break : goal.returns-in-Break
+returns-in-Break c =
+    decided-first _ _ _ _ _ _ _ _ _ c.requires.some c.before_query_1-begun.ensures _ c.in-Break.is

@@ -5,10 +5,11 @@ use Rattle.equivalence.proofs.base.base_preserves_named_state.Goals as goal
 
 pub named_state_cycles-requires : goal.named_state_cycles-requires
 named_state_cycles-requires c =
-    let e = c.new-aig.ensures.0 in
-    (rw e (startable-base c.args.gold c.args.gate _ _ _ c.args.depth _ _ c.requires c.new-aig.ensures.3 c.new-aig.ensures.2), c.requires.matches, rw e (omega arith))
+    let s = c.start-start.ensures in
+    (rw (s.0, s.4, s.5) (startable-base c.args.gold.now c.args.gate.now _ _ _ c.args.depth _ _ c.requires s.3 s.2), c.requires.matches, omega (arith, s.0, s.6))
 
 pub returns : goal.returns
 returns c =
-    let left = rw c.new-aig.ensures.0 at c.named_state_cycles.ensures in
-    preserves c.args.gold c.args.gate _ _ _ c.args.depth _ _ c.requires c.new-aig.ensures.3 c.new-aig.ensures.2 _ _ _ _ _ c.new-aig.ensures.1 left
+    let s = c.start-start.ensures in
+    let left = rw (s.0, s.4, s.5, s.6) at c.named_state_cycles.ensures in
+    preserves c.args.gold.now c.args.gate.now _ _ _ c.args.depth _ _ c.requires s.3 s.2 _ _ _ _ _ s.1 left

@@ -5,10 +5,11 @@ use Rattle.equivalence.proofs.counterexample.base_counterexample.Goals as goal
 
 pub counterexample_cycles-requires : goal.counterexample_cycles-requires
 counterexample_cycles-requires c =
-    let e = c.new-aig.ensures.0 in
-    (rw e (startable_compared c.args.gold c.args.gate _ _ c.args.depth _ _ c.requires c.new-aig.ensures.3 c.new-aig.ensures.2), rw e (omega arith), omega (arith, c.requires.depth_small))
+    let s = c.start-start.ensures in
+    (rw (s.0, s.4, s.5) (startable_compared c.args.gold.now c.args.gate.now _ _ c.args.depth _ _ c.requires s.3 s.2), omega (arith, s.0, s.6), omega (arith, c.requires.depth_small))
 
 pub returns : goal.returns
 returns c =
-    let left = rw c.new-aig.ensures.0 at c.counterexample_cycles.ensures in
-    compares c.args.gold c.args.gate _ _ c.args.depth _ _ c.requires c.new-aig.ensures.3 c.new-aig.ensures.2 _ _ _ _ _ c.new-aig.ensures.1 left
+    let s = c.start-start.ensures in
+    let left = rw (s.0, s.4, s.5, s.6) at c.counterexample_cycles.ensures in
+    compares c.args.gold.now c.args.gate.now _ _ c.args.depth _ _ c.requires s.3 s.2 _ _ _ _ _ s.1 left

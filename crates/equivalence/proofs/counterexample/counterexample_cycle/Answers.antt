@@ -8,4 +8,4 @@ keep_comparison-requires c =
 
 pub returns : goal.returns
 returns c =
-    compared_next c.args.gold c.args.gate c.args.cycle _ _ _ _ _ c.requires.0 _ _ _ _ _ _ _ _ c.compared_cycle-compared.ensures _ _ _ c.or-made.ensures _ c.keep_comparison.ensures
+    compared_next c.args.gold.now c.args.gate.now c.args.cycle _ _ _ _ _ c.requires.0 _ _ _ _ _ _ _ _ c.compared_cycle-compared.ensures _ _ _ c.or-made.ensures _ c.keep_comparison.ensures

@@ -1,11 +1,8 @@
 -- `equivalence::counterexample::keep_row` meets its contract. Assumes nothing.
-use Rattle.std.proofs.Common.{◌≡◌, ◌-◌, ◌≤◌, length}
+use Rattle.std.proofs.Common.{◌≡◌, length}
 use Rattle.equivalence.specs.Rows.{KeptRow}
 use Rattle.equivalence.proofs.counterexample.keep_row.Given as goal
 
 abbrev pub invariant-loop-i : goal.invariant-loop-i
 invariant-loop-i l =
-    (l.i ≤ l.n) × (length l.words ≡ length l.initial.words) × KeptRow l.place l.i l.literals l.initial.words l.words
-
-abbrev pub decreases-loop-i : goal.decreases-loop-i
-decreases-loop-i l = l.n - l.i
+    (length l.words ≡ length l.initial.words) × KeptRow l.place l.i l.literals l.initial.words l.words

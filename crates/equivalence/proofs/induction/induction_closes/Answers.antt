@@ -11,9 +11,9 @@ free_product_state-start-requires c =
 pub induction_cycles-requires : goal.induction_cycles-requires
 induction_cycles-requires c =
     let g = rw c.new-aig.ensures.0 at c.free_product_state-start.ensures.0 in
-    (startable-free c.args.gold c.args.gate _ _ c.args.depth _ _ _ _ _ _ c.requires.paired c.new-aig.ensures.3 c.requires.room g, c.requires.gold_matches, c.requires.depth_small, c.free_product_state-start.ensures.1)
+    (startable-free c.args.gold.now c.args.gate.now _ _ c.args.depth _ _ _ _ _ _ c.requires.paired c.new-aig.ensures.3 c.requires.room g, c.requires.gold_matches, c.requires.depth_small, c.free_product_state-start.ensures.1)
 
 pub returns : goal.returns
 returns c =
     let g = rw c.new-aig.ensures.0 at c.free_product_state-start.ensures.0 in
-    induces c.args.gold c.args.gate _ _ c.args.depth _ _ _ _ _ _ c.requires.paired c.new-aig.ensures.3 c.requires.room g _ _ _ _ _ c.new-aig.ensures.1 c.induction_cycles.ensures
+    induces c.args.gold.now c.args.gate.now _ _ c.args.depth _ _ _ _ _ _ c.requires.paired c.new-aig.ensures.3 c.requires.room g _ _ _ _ _ c.new-aig.ensures.1 c.induction_cycles.ensures

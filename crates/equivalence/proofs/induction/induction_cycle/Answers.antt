@@ -13,14 +13,8 @@ cycle_mismatch-made-requires c =
       omega (arith, m.within, c.requires.0.room),
       m.mismatch,
       below_le _ _ _ _ (omega (arith, m.grows)) c.requires.0.gold_state_lem,
-      matches-below _ _ c.args.gate.state_count _ _ c.requires.0.paired.gate.state_count c.requires.1 (below_le _ _ _ _ (omega (arith, m.grows)) c.requires.0.gate_state_lem),
+      matches-below _ _ c.args.gate.now.state_count _ _ c.requires.0.paired.gate.state_count c.requires.1 (below_le _ _ _ _ (omega (arith, m.grows)) c.requires.0.gate_state_lem),
     )
-
-pub offset_bounds-assumptions-n : goal.offset_bounds-assumptions-n
-offset_bounds-assumptions-n c = omega (arith, c.requires.2)
-
-pub bounds-assumptions-n : goal.bounds-assumptions-n
-bounds-assumptions-n c = omega (arith, c.requires.2, c.requires.3)
 
 pub returns : goal.returns
 returns c = (

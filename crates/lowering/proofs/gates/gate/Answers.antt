@@ -1,28 +1,25 @@
 -- `gate` meets its contract. Assumes nothing.
-use Rattle.std.proofs.Common.{arith}
+use Rattle.std.proofs.Common.{⊎_elim, arith, rules}
 use Rattle.aig.specs.Shortcut.{negate-below}
 use Rattle.lowering.specs.Gate.{made_more, made_as, made-literal, constant-below, gate-input, gate-constant, gate-register, gate-not, gate-output, gate-pair}
 use Rattle.lowering.proofs.gates.gate.Goals as goal
 
-pub returns-then-kind-eq-INPUT : goal.returns-then-kind-eq-INPUT
-returns-then-kind-eq-INPUT c = made_as (gate-input _ _ _ _ _ _ _ c.if-kind-eq-INPUT.true) (made_more 3 (omega arith) c.variable.ensures)
+pub returns-in-0 : goal.returns-in-0
+returns-in-0 c =
+    made_as (⊎_elim (λ k. gate-input _ _ _ _ _ _ _ k) (λ k. gate-register _ _ _ _ _ _ _ k) c.in-0.is) (made_more 3 (omega arith) c.variable.ensures)
 
-pub returns-then-kind-eq-CONSTANT : goal.returns-then-kind-eq-CONSTANT
-returns-then-kind-eq-CONSTANT c =
-    rw c.constant_literal.ensures (made-literal _ _ _ _ c.requires.0 (constant-below _ _ c.requires.0.ready.positive) (gate-constant _ _ _ _ _ _ _ c.if-kind-eq-CONSTANT.true))
+pub returns-in-1 : goal.returns-in-1
+returns-in-1 c =
+    rw c.constant_literal.ensures (made-literal _ _ _ _ c.requires.0 (constant-below _ _ c.requires.0.ready.positive) (gate-constant _ _ _ _ _ _ _ c.in-1.is))
 
-pub returns-then-kind-eq-REGISTER_OUTPUT : goal.returns-then-kind-eq-REGISTER_OUTPUT
-returns-then-kind-eq-REGISTER_OUTPUT c =
-    made_as (gate-register _ _ _ _ _ _ _ c.if-kind-eq-REGISTER_OUTPUT.true) (made_more 3 (omega arith) c.variable-then-kind-eq-REGISTER_OUTPUT.ensures)
+pub returns-in-16 : goal.returns-in-16
+returns-in-16 c =
+    rw (c.negate.ensures, c.net_literal.ensures) (made-literal _ _ _ _ c.requires.0 (negate-below _ _ (c.requires.0.nets _)) (gate-not _ _ _ _ _ _ _ c.in-16.is))
 
-pub returns-then-kind-eq-NOT : goal.returns-then-kind-eq-NOT
-returns-then-kind-eq-NOT c =
-    rw (c.negate.ensures, c.net_literal-literal.ensures) (made-literal _ _ _ _ c.requires.0 (negate-below _ _ (c.requires.0.nets _)) (gate-not _ _ _ _ _ _ _ c.if-kind-eq-NOT.true))
+pub returns-in-17 : goal.returns-in-17
+returns-in-17 c =
+    rw c.net_literal-in-17.ensures (made-literal _ _ _ _ c.requires.0 (c.requires.0.nets _) (gate-output _ _ _ _ _ _ _ c.in-17.is))
 
-pub returns-then-kind-eq-OUTPUT : goal.returns-then-kind-eq-OUTPUT
-returns-then-kind-eq-OUTPUT c =
-    rw c.net_literal.ensures (made-literal _ _ _ _ c.requires.0 (c.requires.0.nets _) (gate-output _ _ _ _ _ _ _ c.if-kind-eq-OUTPUT.true))
-
-pub returns : goal.returns
-returns c =
-    made_as (gate-pair _ _ _ _ _ _ _ c.if-kind-eq-INPUT.false c.if-kind-eq-CONSTANT.false c.if-kind-eq-REGISTER_OUTPUT.false c.if-kind-eq-NOT.false c.if-kind-eq-OUTPUT.false) c.pair_gate.ensures
+pub returns-in_default : goal.returns-in_default
+returns-in_default c =
+    made_as (gate-pair _ _ _ _ _ _ _ (search rules) (search rules) (search rules) (search rules) (search rules)) c.pair_gate.ensures

@@ -5,9 +5,9 @@ use Rattle.lowering.specs.Registers.{enabled_always, enabled_when}
 use Rattle.lowering.specs.Step.{asserted-below}
 use Rattle.lowering.proofs.registers.enabled.Goals as goal
 
-pub returns-then-code-eq0 : goal.returns-then-code-eq0
-returns-then-code-eq0 c =
-    rw c.net_literal-data.ensures (made-literal _ _ _ _ c.requires.0 (c.requires.0.nets _) (enabled_always _ _ c.args.register _ _ c.if-code-eq0.true))
+pub returns-then-register-eq0 : goal.returns-then-register-eq0
+returns-then-register-eq0 c =
+    rw c.net_literal-data.ensures (made-literal _ _ _ _ c.requires.0 (c.requires.0.nets _) (enabled_always _ _ c.args.register _ _ c.if-register-eq0.true))
 
 pub mux-requires : goal.mux-requires
 mux-requires c = (

@@ -14,4 +14,4 @@ returns-then-entry-eq0 c = λ s. sym (reset_unnamed s _ _ c.if-entry-eq0.true)
 pub returns : goal.returns
 returns c =
     let a = c.args in
-    λ s. c.reset_cell.ensures ∙ ap (λ (k : ℕ). cell_reset (get_or a.netlist.registers (k - 1) no_register)) c.index.ensures ∙ reset-named s a.netlist.registers a.entry (omega (arith, c.if-entry-eq0.false))
+    λ s. c.reset_cell.ensures ∙ ap (λ (k : ℕ). cell_reset (get_or a.netlist.registers (k - 1) no_register)) c.from.ensures ∙ reset-named s a.netlist.registers a.entry (omega (arith, c.if-entry-eq0.false))

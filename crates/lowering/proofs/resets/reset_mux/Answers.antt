@@ -11,7 +11,3 @@ mux-requires c = (
   rw c.constant_literal-reset_value.ensures (constant-below _ _ c.requires.0.ready.positive),
   c.requires.2,
 )
-
-pub returns : goal.returns
-returns c =
-    rw (c.asserted_literal-asserted.ensures, c.net_literal-signal.ensures, c.constant_literal-reset_value.ensures, c.widen.ensures) at c.mux.ensures

@@ -1,11 +1,8 @@
 -- `netlist_checks::connections::connection_fault` meets its contract: the nodes that are left to check give the whole outcome, by the table of drivers. Assumes nothing.
-use Rattle.std.proofs.Common.{ℕ, ◌-◌, ◌≤◌, ◌≡◌, List, drop}
+use Rattle.std.proofs.Common.{ℕ, ◌≡◌, List, drop}
 use Rattle.model.specs.Validate.{connection_fault}
 use Rattle.struo_ir.specs.Decoded.{decoded}
 use Rattle.netlist_checks.proofs.connections.connection_fault.Given as goal
 
 abbrev pub invariant-loop-i : goal.invariant-loop-i
-invariant-loop-i l = (l.i ≤ l.netlist.node_count) × ((s : List ℕ) → connection_fault (decoded s l.netlist).registers l.i (drop l.i (decoded s l.netlist).nodes) ≡ connection_fault (decoded s l.netlist).registers 0 (decoded s l.netlist).nodes)
-
-abbrev pub decreases-loop-i : goal.decreases-loop-i
-decreases-loop-i l = l.count - l.i
+invariant-loop-i l = (s : List ℕ) → connection_fault (decoded s l.netlist).registers l.i (drop l.i (decoded s l.netlist).nodes) ≡ connection_fault (decoded s l.netlist).registers 0 (decoded s l.netlist).nodes

@@ -1,6 +1,7 @@
 -- `netlist_checks::registers::registers_fault` meets its contract: the registers that are left to check give the whole outcome. Assumes nothing.
 use Rattle.std.proofs.Common.{◌<◌, ◌≡◌, sym, ◌∙◌, true, false, arith, get_or, eq-eqb, ne_eqb}
-use Rattle.calls.specs.Faults.{fault_of}
+use Rattle.calls.specs.Faults.{refusal}
+use Rattle.calls.specs.Causes.{fault_of}
 use Rattle.model.specs.Lists.{member}
 use Rattle.model.specs.Names.{member_name}
 use Rattle.model.specs.Validate.{is_register_output_at}
@@ -33,85 +34,39 @@ pub loop-i-init : goal.loop-i-init
 loop-i-init c = registers_unchecked _ _
 
 pub returns-then-repeated : goal.returns-then-repeated
-unfolding fault_of
+unfolding fault_of refusal
 returns-then-repeated c =
-    name-repeats c.args.bytes.now _ _ _ _ c.loop-i.invariant c.requires c.loop-i-test.true (sym c.if-repeated.true ∙ c.repeated.ensures)
+    rw c.at.ensures
+    (name-repeats c.args.bytes.now _ _ _ _ c.loop-i.invariant c.requires (omega arith) (sym c.if-repeated.true ∙ c.repeated.ensures))
 
 pub returns-then-count-o : goal.returns-then-count-o
-unfolding fault_of
+unfolding fault_of refusal
 returns-then-count-o c =
-    no_output c.args.bytes.now _ _ _ _ c.loop-i.invariant c.requires c.loop-i-test.true (fresh (goal.at.returns-then-count-o c).Else-repeated) (output-outside c.args.bytes.now _ _ c.if-count-o.true)
+    rw c.at-then-count-o.ensures
+    (no_output c.args.bytes.now _ _ _ _ c.loop-i.invariant c.requires (omega arith) (fresh (goal.at.returns-then-count-o c).Else-repeated) (output-outside c.args.bytes.now _ _ c.if-count-o.true))
 
 pub returns-then-node-ne-REGISTER_OUTPUT : goal.returns-then-node-ne-REGISTER_OUTPUT
-unfolding fault_of
+unfolding fault_of refusal
 returns-then-node-ne-REGISTER_OUTPUT c =
-    no_output c.args.bytes.now _ _ _ _ c.loop-i.invariant c.requires c.loop-i-test.true (fresh (goal.at.returns-then-node-ne-REGISTER_OUTPUT c).Else-repeated) (output-inside c.args.bytes.now _ c.requires _ c.if-count-o.false ∙ ne_eqb _ _ c.if-node-ne-REGISTER_OUTPUT.true)
+    rw c.at-then-node-ne-REGISTER_OUTPUT.ensures
+    (no_output c.args.bytes.now _ _ _ _ c.loop-i.invariant c.requires (omega arith) (fresh (goal.at.returns-then-node-ne-REGISTER_OUTPUT c).Else-repeated) (output-inside c.args.bytes.now _ c.requires _ c.if-count-o.false ∙ ne_eqb _ _ c.if-node-ne-REGISTER_OUTPUT.true))
 
 pub returns-then-taken : goal.returns-then-taken
-unfolding fault_of
+unfolding fault_of refusal
 returns-then-taken c =
-    output-taken c.args.bytes.now _ _ _ _ c.loop-i.invariant c.requires c.loop-i-test.true (fresh (goal.at.returns-then-taken c).Else-repeated) (shows (goal.at.returns-then-taken c).Else-node-ne-REGISTER_OUTPUT) (sym c.if-taken.true ∙ c.taken.ensures)
+    rw c.at-then-taken.ensures
+    (output-taken c.args.bytes.now _ _ _ _ c.loop-i.invariant c.requires (omega arith) (fresh (goal.at.returns-then-taken c).Else-repeated) (shows (goal.at.returns-then-taken c).Else-node-ne-REGISTER_OUTPUT) (sym c.if-taken.true ∙ c.taken.ensures))
 
 pub returns-else-nets_below : goal.returns-else-nets_below
-unfolding fault_of
+unfolding fault_of refusal
 returns-else-nets_below c =
-    nets_undefined c.args.bytes.now _ _ _ _ c.loop-i.invariant c.requires c.loop-i-test.true (fresh (goal.at.returns-else-nets_below c).Else-repeated) (shows (goal.at.returns-else-nets_below c).Else-node-ne-REGISTER_OUTPUT) (free (goal.at.returns-else-nets_below c).Else-taken) (sym c.if-nets_below.false ∙ c.nets_below.ensures c.args.bytes.now)
+    rw c.at-else-nets_below.ensures
+    (nets_undefined c.args.bytes.now _ _ _ _ c.loop-i.invariant c.requires (omega arith) (fresh (goal.at.returns-else-nets_below c).Else-repeated) (shows (goal.at.returns-else-nets_below c).Else-node-ne-REGISTER_OUTPUT) (free (goal.at.returns-else-nets_below c).Else-taken) (sym c.if-nets_below.false ∙ c.nets_below.ensures c.args.bytes.now))
 
 pub loop-i-preserved : goal.loop-i-preserved
 loop-i-preserved c =
-    register-checked c.args.bytes.now _ _ _ _ c.loop-i.invariant c.requires c.loop-i-test.true (fresh (goal.at.loop-i-preserved c).Else-repeated) (shows (goal.at.loop-i-preserved c).Else-node-ne-REGISTER_OUTPUT) (free (goal.at.loop-i-preserved c).Else-taken) (sym c.if-nets_below.true ∙ c.nets_below.ensures c.args.bytes.now)
+    register-checked c.args.bytes.now _ _ _ _ c.loop-i.invariant c.requires (omega arith) (fresh (goal.at.loop-i-preserved c).Else-repeated) (shows (goal.at.loop-i-preserved c).Else-node-ne-REGISTER_OUTPUT) (free (goal.at.loop-i-preserved c).Else-taken) (sym c.if-nets_below.true ∙ c.nets_below.ensures c.args.bytes.now)
 
 pub returns : goal.returns
-unfolding fault_of
-returns c = registers-all-checked c.args.bytes.now _ _ _ _ c.loop-i.invariant c.requires c.loop-i-test.false
-
-pub offset_bounds-netlist-i : goal.offset_bounds-netlist-i
-offset_bounds-netlist-i c = omega (arith, small c)
-
-pub bounds-netlist-i : goal.bounds-netlist-i
-bounds-netlist-i c = omega (arith, small c)
-
-pub repeated-requires : goal.repeated-requires
-repeated-requires c = omega (arith, small (goal.at.repeated-requires c).In-loop-i)
-
-pub overflow_cast-result : goal.overflow_cast-result
-overflow_cast-result c = omega (arith, small (goal.at.overflow_cast-result c).In-loop-i)
-
-pub overflow_cast-result-then-count-o : goal.overflow_cast-result-then-count-o
-overflow_cast-result-then-count-o c = omega (arith, small (goal.at.overflow_cast-result-then-count-o c).In-loop-i)
-
-pub offset_bounds-netlist-o : goal.offset_bounds-netlist-o
-offset_bounds-netlist-o c = omega (arith, c.requires.nodes_padded.fits)
-
-pub bounds-netlist-o : goal.bounds-netlist-o
-bounds-netlist-o c = omega (arith, c.requires.nodes_padded.fits)
-
-pub overflow_cast-result-then-node-ne-REGISTER_OUTPUT : goal.overflow_cast-result-then-node-ne-REGISTER_OUTPUT
-overflow_cast-result-then-node-ne-REGISTER_OUTPUT c = omega (arith, small (goal.at.overflow_cast-result-then-node-ne-REGISTER_OUTPUT c).In-loop-i)
-
-pub taken-requires : goal.taken-requires
-taken-requires c = omega (arith, small (goal.at.taken-requires c).In-loop-i)
-
-pub overflow_cast-result-then-taken : goal.overflow_cast-result-then-taken
-overflow_cast-result-then-taken c = omega (arith, small (goal.at.overflow_cast-result-then-taken c).In-loop-i)
-
-pub offset_bounds-names-i : goal.offset_bounds-names-i
-offset_bounds-names-i c = omega (arith, small (goal.at.offset_bounds-names-i c).In-loop-i)
-
-pub bounds-names-i : goal.bounds-names-i
-bounds-names-i c = omega (arith, small (goal.at.bounds-names-i c).In-loop-i)
-
-pub offset_bounds-outputs-i : goal.offset_bounds-outputs-i
-offset_bounds-outputs-i c = omega (arith, small (goal.at.offset_bounds-outputs-i c).In-loop-i)
-
-pub bounds-outputs-i : goal.bounds-outputs-i
-bounds-outputs-i c = omega (arith, small (goal.at.bounds-outputs-i c).In-loop-i)
-
-pub overflow_cast-result-else-nets_below : goal.overflow_cast-result-else-nets_below
-overflow_cast-result-else-nets_below c = omega (arith, small (goal.at.overflow_cast-result-else-nets_below c).In-loop-i)
-
-pub overflow_add-i : goal.overflow_add-i
-overflow_add-i c = omega (arith, small (goal.at.overflow_add-i c).In-loop-i)
-
-pub loop-i-smaller : goal.loop-i-smaller
-loop-i-smaller c = omega arith
+unfolding fault_of refusal
+returns c = registers-all-checked c.args.bytes.now _ _ _ _ c.loop-i.invariant c.requires (omega arith)

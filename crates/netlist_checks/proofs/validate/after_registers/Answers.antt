@@ -1,12 +1,13 @@
 -- `netlist_checks::validate::after_registers` meets its contract: the first check that refuses decides. Assumes nothing.
 use Rattle.calls.specs.FaultLaws.{stops, goes_on}
+use Rattle.calls.specs.Causes.{fault_of}
 use Rattle.netlist_checks.specs.Chain.{after_registers}
 use Rattle.netlist_checks.proofs.validate.after_registers.Goals as goal
 
-pub returns-in-Refused : goal.returns-in-Refused
-unfolding after_registers
-returns-in-Refused c = λ s. stops _ _ _ (c.connection_fault-fault.ensures s) _ _ _ c.in-Refused.is
+pub returns-in_err-connection_fault : goal.returns-in_err-connection_fault
+unfolding after_registers fault_of
+returns-in_err-connection_fault c = λ s. stops _ _ _ _ c.from_residual.ensures.1 (c.in_err-connection_fault.ensures s)
 
-pub returns-in-Nothing : goal.returns-in-Nothing
-unfolding after_registers
-returns-in-Nothing c = λ s. goes_on _ _ _ (c.connection_fault-fault.ensures s) c.in-Nothing.is _ (c.after_connections.ensures s)
+pub returns : goal.returns
+unfolding after_registers fault_of
+returns c = λ s. goes_on _ _ (c.in_ok-connection_fault.ensures s) _ (c.after_connections.ensures s)

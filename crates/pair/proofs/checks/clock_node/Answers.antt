@@ -6,8 +6,8 @@ use Rattle.pair.proofs.checks.clock_node.Goals as goal
 pub returns-then-clock-netlist : goal.returns-then-clock-netlist
 returns-then-clock-netlist c =
     let a = c.args in
-    let l : length a.netlist.nodes ≡ 1024 = c.well_formed.0.1.1.1.1.0.1.0.1 in
-    λ s. clock_in s a.netlist a.clock c.if-clock-netlist.true (omega arith)
+    let l : length a.netlist.now.nodes ≡ 1024 = omega arith in
+    λ s. clock_in s a.netlist.now a.clock c.if-clock-netlist.true (omega arith)
 
 pub returns-else-clock-netlist : goal.returns-else-clock-netlist
-returns-else-clock-netlist c = let a = c.args in λ s. clock_out s a.netlist a.clock _ refl c.if-clock-netlist.false
+returns-else-clock-netlist c = let a = c.args in λ s. clock_out s a.netlist.now a.clock _ refl c.if-clock-netlist.false

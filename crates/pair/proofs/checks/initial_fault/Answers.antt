@@ -1,15 +1,14 @@
--- `initial_fault` takes gold's fault, or gate's where gold has none. Assumes nothing.
-use Rattle.std.proofs.Common.{sym, ap, ◌∙◌}
-use Rattle.calls.specs.Faults.{fault_of, first-refuses, second-decides}
+-- `initial_fault` takes gold's refusal, or gate's where gold has none. Assumes nothing.
+use Rattle.std.proofs.Common.{◌∙◌}
+use Rattle.calls.specs.FaultLaws.{stops, goes_on}
+use Rattle.calls.specs.Causes.{fault_of}
 use Rattle.pair.specs.PairCheckLaws.{initial_of}
 use Rattle.pair.proofs.checks.initial_fault.Goals as goal
 
-pub returns-in-Refused : goal.returns-in-Refused
+pub returns-in_err-resets_fault : goal.returns-in_err-resets_fault
 unfolding fault_of
-returns-in-Refused c =
-    λ s t v u. first-refuses _ _ _ (sym (c.resets_fault-gold_fault.ensures s) ∙ ap fault_of c.in-Refused.is) ∙ initial_of s t _ _ v u
+returns-in_err-resets_fault c = λ s t v u. stops _ _ _ _ c.from_residual.ensures.1 (c.in_err-resets_fault.ensures s) ∙ initial_of s t _ _ v u
 
-pub returns-in-Nothing : goal.returns-in-Nothing
+pub returns : goal.returns
 unfolding fault_of
-returns-in-Nothing c =
-    λ s t v u. c.resets_fault.ensures t ∙ second-decides _ _ (sym (c.resets_fault-gold_fault.ensures s) ∙ ap fault_of c.in-Nothing.is) ∙ initial_of s t _ _ v u
+returns c = λ s t v u. goes_on _ _ (c.in_ok-resets_fault.ensures s) _ (c.resets_fault-2.ensures t) ∙ initial_of s t _ _ v u

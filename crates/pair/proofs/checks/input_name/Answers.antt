@@ -7,7 +7,7 @@ use Rattle.pair.proofs.checks.input_name.Goals as goal
 pub returns-then-node-eq-INPUT : goal.returns-then-node-eq-INPUT
 returns-then-node-eq-INPUT c =
     let a = c.args in
-    c.name_of.ensures ∙ ap (name_at a.bytes.now) c.wide.ensures ∙ sym (input-name_of a.bytes.now a.node ∙ rw (eq-eqb a.node.kind 0 c.if-node-eq-INPUT.true))
+    c.name_of.ensures ∙ ap (name_at a.bytes.now) c.from.ensures ∙ sym (input-name_of a.bytes.now a.node ∙ rw (eq-eqb a.node.kind 0 c.if-node-eq-INPUT.true))
 
 pub returns-else-node-eq-INPUT : goal.returns-else-node-eq-INPUT
 returns-else-node-eq-INPUT c =

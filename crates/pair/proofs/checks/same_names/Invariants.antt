@@ -1,13 +1,10 @@
 -- `same_names` compares name by name. Assumes nothing.
-use Rattle.std.proofs.Common.{◌≡◌, ◌-◌, ◌≤◌, drop}
+use Rattle.std.proofs.Common.{◌≡◌, ◌≤◌, drop}
 use Rattle.model.specs.Names.{same_names, names_of}
 use Rattle.struo_ir.specs.Orders.{places}
 use Rattle.pair.proofs.checks.same_names.Given as goal
 
 abbrev pub invariant-loop-k : goal.invariant-loop-k
 invariant-loop-k l =
-    (l.gold_count ≡ l.gold_order.count) × (l.gate_count ≡ l.gate_order.count) × (l.k ≤ l.gold_count) × (l.k ≤ l.gate_count) ×
+    (l.k ≤ l.gate_order.count) ×
     (same_names (names_of (places l.gold l.gold_order)) (names_of (places l.gate l.gate_order)) ≡ same_names (names_of (drop l.k (places l.gold l.gold_order))) (names_of (drop l.k (places l.gate l.gate_order))))
-
-abbrev pub decreases-loop-k : goal.decreases-loop-k
-decreases-loop-k l = l.gold_count - l.k

@@ -7,12 +7,12 @@ use Rattle.queries.proofs.query.find_counterexample.Goals as goal
 
 pub base_counterexample-base-requires : goal.base_counterexample-base-requires
 base_counterexample-base-requires c =
-    comparable c.args.problem _ _ _ _ c.requires.0
+    comparable c.args.problem.now _ _ _ _ c.requires.0
 
 pub ask-answer-requires : goal.ask-answer-requires
 ask-answer-requires c =
-    askable c.args.problem _ c.args.depth _ _ _ _ _ _ _ c.requires.0
-    (stated_compares c.args.problem _ _ _ _ c.requires.0 _ _ _ c.base_counterexample-base.ensures) (λ p. query_1_askable p c.args.depth)
+    askable c.args.problem.now _ c.args.depth _ _ _ _ _ _ _ c.requires.0
+    (stated_compares c.args.problem.now _ _ _ _ c.requires.0 _ _ _ c.base_counterexample-base.ensures) (λ p. query_1_askable p c.args.depth)
 
 pub overflow_add-depth : goal.overflow_add-depth
 overflow_add-depth c =
@@ -20,16 +20,16 @@ overflow_add-depth c =
 
 pub write_counterexample-mismatch-requires : goal.write_counterexample-mismatch-requires
 write_counterexample-mismatch-requires c =
-    traceable c.args.problem c.args.limit c.args.depth _ _ _ c.requires.0 _ _ _ c.base_counterexample-base.ensures _ _ _ c.ask-answer.ensures c.requires.1
+    traceable c.args.problem.now c.args.limit c.args.depth _ _ _ c.requires.0 _ _ _ c.base_counterexample-base.ensures _ _ _ c.ask-answer.ensures c.requires.1
 
 pub returns-in-Model : goal.returns-in-Model
 returns-in-Model c =
-    found c.args.problem c.args.limit c.args.depth _ _ _ c.requires.0 _ _ _ c.base_counterexample-base.ensures _ _ _ c.ask-answer.ensures _ c.in-Model.is _ _ c.write_counterexample-mismatch.ensures
+    found c.args.problem.now c.args.limit c.args.depth _ _ _ c.requires.0 _ _ _ c.base_counterexample-base.ensures _ _ _ c.ask-answer.ensures _ c.in-Model.is _ _ c.write_counterexample-mismatch.ensures
 
 pub returns-in-NoModel : goal.returns-in-NoModel
 returns-in-NoModel c =
-    found_none c.args.problem c.args.limit c.args.depth _ _ _ c.requires.0 _ _ _ c.base_counterexample-base.ensures _ _ _ c.ask-answer.ensures _ c.in-NoModel.is _
+    found_none c.args.problem.now c.args.limit c.args.depth _ _ _ c.requires.0 _ _ _ c.base_counterexample-base.ensures _ _ _ c.ask-answer.ensures _ c.in-NoModel.is _
 
 pub returns-in-GaveUp : goal.returns-in-GaveUp
 returns-in-GaveUp c =
-    found_gave_up c.args.problem c.args.limit c.args.depth _ _ _ c.requires.0 _ _ _ c.base_counterexample-base.ensures _ _ _ c.ask-answer.ensures _ c.in-GaveUp.is _
+    found_gave_up c.args.problem.now c.args.limit c.args.depth _ _ _ c.requires.0 _ _ _ c.base_counterexample-base.ensures _ _ _ c.ask-answer.ensures _ c.in-GaveUp.is _

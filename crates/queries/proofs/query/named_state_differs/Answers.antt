@@ -5,14 +5,14 @@ use Rattle.queries.proofs.query.named_state_differs.Goals as goal
 
 pub base_preserves_named_state-base-requires : goal.base_preserves_named_state-base-requires
 base_preserves_named_state-base-requires c =
-    preservable c.args.problem _ _ _ _ c.requires
+    preservable c.args.problem.now _ _ _ _ c.requires
 
 pub ask-requires : goal.ask-requires
 ask-requires c =
-    askable c.args.problem _ c.args.depth _ _ _ _ _ _ _ c.requires
-    (stated_preserves c.args.problem _ _ _ _ c.requires _ _ _ c.base_preserves_named_state-base.ensures) (λ p. query_2_askable p c.args.depth)
+    askable c.args.problem.now _ c.args.depth _ _ _ _ _ _ _ c.requires
+    (stated_preserves c.args.problem.now _ _ _ _ c.requires _ _ _ c.base_preserves_named_state-base.ensures) (λ p. query_2_askable p c.args.depth)
 
 pub returns : goal.returns
 returns c =
-    queried c.args.problem _ c.args.depth _ _ _ _ _ _ _ c.requires
-    (stated_preserves c.args.problem _ _ _ _ c.requires _ _ _ c.base_preserves_named_state-base.ensures) _ _ _ c.ask.ensures
+    queried c.args.problem.now _ c.args.depth _ _ _ _ _ _ _ c.requires
+    (stated_preserves c.args.problem.now _ _ _ _ c.requires _ _ _ c.base_preserves_named_state-base.ensures) _ _ _ c.ask.ensures

@@ -1,10 +1,7 @@
 -- `all_bits` passes every byte 0 or 1. Assumes nothing.
-use Rattle.std.proofs.Common.{◌≡◌, ◌-◌, ◌≤◌, length, drop}
+use Rattle.std.proofs.Common.{◌≡◌, drop}
 use Rattle.model.specs.Pair.{all_bits}
 use Rattle.replay.proofs.claim.all_bits.Given as goal
 
-abbrev pub invariant-loop-k : goal.invariant-loop-k
-invariant-loop-k l = (l.k ≤ length l.claim) × (all_bits l.claim ≡ all_bits (drop l.k l.claim))
-
-abbrev pub decreases-loop-k : goal.decreases-loop-k
-decreases-loop-k l = length l.claim - l.k
+abbrev pub invariant-loop-byte : goal.invariant-loop-byte
+invariant-loop-byte l = all_bits l.claim ≡ all_bits (drop l.byte-index l.claim)

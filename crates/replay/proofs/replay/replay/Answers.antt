@@ -4,19 +4,14 @@ use Rattle.pair.specs.PairReadingLaws.{pair-refused, pair-accepted}
 use Rattle.replay.specs.ReplayRight.{read-refused, read-accepted}
 use Rattle.replay.proofs.replay.replay.Goals as goal
 
-pub replay_pair-requires : goal.replay_pair-requires
-replay_pair-requires c = c.read_pair-reading.ensures.sided c.in-Nothing.is
-
-pub returns-in-Refused : goal.returns-in-Refused
-returns-in-Refused c =
+pub returns-in-Err : goal.returns-in-Err
+returns-in-Err c =
     let a = c.args in
-    c.refused_replay.ensures
-    ∙ read-refused a.gold.now a.gate.now a.cycle a.claim.now _
-    (pair-refused a.gold.now a.gate.now c.read_pair-reading.result c.read_pair-reading.ensures _ _ _ c.in-Refused.is)
+    c.from.ensures
+    ∙ read-refused a.gold.now a.gate.now a.cycle a.claim.now _ (pair-refused a.gold.now a.gate.now c.read_pair-read.result c.read_pair-read.ensures _ c.in-Err.is)
 
-pub returns-in-Nothing : goal.returns-in-Nothing
-returns-in-Nothing c =
+pub returns-in-Ok : goal.returns-in-Ok
+returns-in-Ok c =
     let a = c.args in
     c.replay_pair.ensures
-    ∙ read-accepted a.gold.now a.gate.now a.cycle a.claim.now _ _
-    (pair-accepted a.gold.now a.gate.now c.read_pair-reading.result c.read_pair-reading.ensures c.in-Nothing.is)
+    ∙ read-accepted a.gold.now a.gate.now a.cycle a.claim.now _ _ (pair-accepted a.gold.now a.gate.now c.read_pair-read.result c.read_pair-read.ensures _ c.in-Ok.is)

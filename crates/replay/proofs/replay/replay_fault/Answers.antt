@@ -1,26 +1,22 @@
 -- `replay_fault` takes the interface's fault, or the initial bits' and the claim's where there is none. Assumes nothing.
-use Rattle.std.proofs.Common.{sym, ap, ◌∙◌}
-use Rattle.calls.specs.Faults.{fault_of, first-refuses, second-decides}
+use Rattle.calls.specs.FaultLaws.{stops, goes_on}
+use Rattle.calls.specs.Causes.{fault_of}
 use Rattle.model.specs.Pair.{interface_fault, replay_fault}
 use Rattle.replay.specs.ClaimChecks.{initial_and_claim_fault}
 use Rattle.replay.proofs.replay.replay_fault.Goals as goal
 
-pub interface_fault-interface-requires : goal.interface_fault-interface-requires
-interface_fault-interface-requires c = let p = c.requires in (p.0, p.1)
-
 pub initial_and_claim_fault-requires : goal.initial_and_claim_fault-requires
 initial_and_claim_fault-requires c =
-    let p = c.requires in
-    let gold = p.0.ordered in
-    (p.0.valid.within.sized, p.1.valid.within.sized, gold.formed_inputs, gold.formed_outputs, gold.formed_registers, p.1.ordered.formed_registers)
+    let p = c.args.pair.now in
+    let gold = p.gold.sided.ordered in
+    (p.gold.sided.valid.within.sized, p.gate.sided.valid.within.sized, gold.formed_inputs, gold.formed_outputs, gold.formed_registers, p.gate.sided.ordered.formed_registers)
 
-pub returns-in-Refused : goal.returns-in-Refused
+pub returns-in_err-interface_fault : goal.returns-in_err-interface_fault
 unfolding fault_of replay_fault
-returns-in-Refused c =
-    first-refuses (interface_fault _ _) _ _ (sym c.interface_fault-interface.ensures ∙ ap fault_of c.in-Refused.is)
+returns-in_err-interface_fault c = stops (interface_fault _ _) _ _ _ c.from_residual.ensures.1 c.in_err-interface_fault.ensures
 
-pub returns-in-Nothing : goal.returns-in-Nothing
+pub returns : goal.returns
 unfolding fault_of replay_fault initial_and_claim_fault
-returns-in-Nothing c =
-    let p = c.requires in
-    c.initial_and_claim_fault.ensures _ _ p.0 p.1 ∙ second-decides (interface_fault _ _) _ (sym c.interface_fault-interface.ensures ∙ ap fault_of c.in-Nothing.is)
+returns c =
+    let p = c.args.pair.now in
+    goes_on (interface_fault _ _) _ c.in_ok-interface_fault.ensures _ (c.initial_and_claim_fault.ensures _ _ p.gold.sided p.gate.sided)

@@ -6,19 +6,19 @@ use Rattle.replay.specs.ReplayRight.{position-more, answer-after, replay_steps}
 use Rattle.steps.specs.StepSides as Sides
 use Rattle.replay.proofs.replay.replays.Goals as goal
 
-pub loop-k-init : goal.loop-k-init
+pub loop-init : goal.loop-init
 unfolding position_after initial_position Sides.position
-loop-k-init c = (omega arith, λ s t q. refl)
+loop-init c = λ s t q. refl
 
-pub loop-k-preserved : goal.loop-k-preserved
-loop-k-preserved c =
+pub loop-preserved : goal.loop-preserved
+loop-preserved c =
     let a = c.args in
-    let t = c.loop-k in
-    (omega arith, λ s u q. position-more s u a.gold a.gate a.cycle a.claim.now _ t.k t.position c.step-stepped.result (t.invariant.1 s u q) (c.step-stepped.ensures s u q))
+    let t = c.loop in
+    λ s u q. position-more s u a.gold.now a.gate.now a.cycle a.claim.now _ t.counter t.position c.step-stepped.result (t.invariant s u q) (c.step-stepped.ensures s u q)
 
 pub returns : goal.returns
 returns c =
     let a = c.args in
-    let t = c.loop-k in
-    let e : t.k ≡ a.cycle = omega arith in
-    λ s u q. answer-after s u a.gold a.gate a.cycle a.claim.now _ t.k t.position c.step-last.result (t.invariant.1 s u q) (c.step-last.ensures s u q) ∙ rw e (replay_steps (decoded s a.gold.netlist) (decoded u a.gate.netlist) _ _ a.cycle a.claim.now)
+    let t = c.loop in
+    let e : t.counter ≡ a.cycle = omega arith in
+    λ s u q. answer-after s u a.gold.now a.gate.now a.cycle a.claim.now _ t.counter t.position c.step-last.result (t.invariant s u q) (c.step-last.ensures s u q) ∙ rw e (replay_steps (decoded s a.gold.now.netlist) (decoded u a.gate.now.netlist) _ _ a.cycle a.claim.now)

@@ -1,19 +1,25 @@
 -- `enabled_bit` goes by the enable's code and its signal. Assumes nothing.
-use Rattle.std.proofs.Common.{sym, ◌∙◌}
+use Rattle.std.proofs.Common.{sym, ◌∙◌, true≢false, eq-eqb}
 use Rattle.run.specs.RowLaws.{enabled-none, enabled-some, signal-asserted}
 use Rattle.run.proofs.run.enabled_bit.Goals as goal
-
-pub returns-then-cell-eq0 : goal.returns-then-cell-eq0
-returns-then-cell-eq0 c = let a = c.args in sym (enabled-none a.values.now a.stored a.next a.cell c.if-cell-eq0.true)
+use Rattle.run.proofs.run.enabled_bit.Goals.{then-cell-eq0, else-cell-eq0}
 
 pub returns-then-asserted : goal.returns-then-asserted
 returns-then-asserted c =
     let a = c.args in
-    let e = signal-asserted a.values.now a.cell.enable a.cell.enable_signal c.wide.ensures c.bit_at.ensures c.asserted.ensures in
-    sym (enabled-some a.values.now a.stored a.next a.cell c.if-cell-eq0.false ∙ rw (← e, c.if-asserted.true))
+    elim c.if-cell-eq0.branch [
+      | then-cell-eq0 w ↦ sym (enabled-none a.values.now a.stored a.next a.cell w.if-cell-eq0.true)
+      | else-cell-eq0 w ↦
+          let e = signal-asserted a.values.now a.cell.enable a.cell.enable_signal w.from.ensures w.bit_at.ensures w.asserted.ensures in
+          sym (enabled-some a.values.now a.stored a.next a.cell w.if-cell-eq0.false ∙ rw (← e, ← w.value-is, c.if-asserted.true))
+    ]
 
 pub returns-else-asserted : goal.returns-else-asserted
 returns-else-asserted c =
     let a = c.args in
-    let e = signal-asserted a.values.now a.cell.enable a.cell.enable_signal c.wide.ensures c.bit_at.ensures c.asserted.ensures in
-    sym (enabled-some a.values.now a.stored a.next a.cell c.if-cell-eq0.false ∙ rw (← e, c.if-asserted.false))
+    elim c.if-cell-eq0.branch [
+      | then-cell-eq0 w ↦ absurd (true≢false (sym (eq-eqb a.cell.enable 0 w.if-cell-eq0.true) ∙ sym w.value-is ∙ c.if-asserted.false))
+      | else-cell-eq0 w ↦
+          let e = signal-asserted a.values.now a.cell.enable a.cell.enable_signal w.from.ensures w.bit_at.ensures w.asserted.ensures in
+          sym (enabled-some a.values.now a.stored a.next a.cell w.if-cell-eq0.false ∙ rw (← e, ← w.value-is, c.if-asserted.false))
+    ]

@@ -8,7 +8,7 @@ pub loop-k-init : goal.loop-k-init
 unfolding next_stored
 loop-k-init c =
     let l : length c.args.rows.new ≡ 128 = c.well_formed.1.1.0.1.1.1.0.1.0.1 in
-    (refl, omega arith, l, refl, λ s. refl)
+    (l, refl, λ s. refl)
 
 pub loop-k-preserved : goal.loop-k-preserved
 loop-k-preserved c =
@@ -17,11 +17,9 @@ loop-k-preserved c =
     let x = c.next_bit-bit.result in
     let lr : length a.netlist.registers ≡ 128 = c.well_formed.0.1.1.1.1.1.0.1.0.1 in
     let w : t.k < length t.new = omega arith in (
-      refl,
-      omega arith,
-      length-set t.new t.k x ∙ t.invariant.2,
-      kept_more t.new a.rows.new t.k x t.invariant.3,
-      λ s. t.invariant.4 s ∙ next_more s a.netlist a.values.now a.rows.old t.new t.k x (omega arith) (omega arith) w c.next_bit-bit.ensures,
+      length-set t.new t.k x ∙ t.invariant.0,
+      kept_more t.new a.rows.new t.k x t.invariant.1,
+      λ s. t.invariant.2 s ∙ next_more s a.netlist a.values.now a.rows.old t.new t.k x (omega arith) (omega arith) w c.next_bit-bit.ensures,
     )
 
 pub returns : goal.returns
@@ -29,4 +27,4 @@ returns c =
     let a = c.args in
     let t = c.loop-k in
     let e : t.k ≡ a.netlist.register_count = omega arith in
-    (refl, rw e at t.invariant.3, λ s. ap (λ (j : ℕ). take j t.new) (sym e) ∙ sym (t.invariant.4 s ∙ next-done s a.netlist a.values.now _ t.new t.k (omega arith)))
+    (refl, rw e at t.invariant.1, λ s. ap (λ (j : ℕ). take j t.new) (sym e) ∙ sym (t.invariant.2 s ∙ next-done s a.netlist a.values.now _ t.new t.k (omega arith)))

@@ -1,5 +1,5 @@
 -- `input_ranks` fills the table in order: every entry below `i` is its node's rank. Assumes nothing.
-use Rattle.std.proofs.Common.{◌≡◌, ℕ, ◌-◌, ◌≤◌, ◌<◌, length, get_or}
+use Rattle.std.proofs.Common.{◌≡◌, ℕ, ◌<◌, length, get_or}
 use Rattle.struo_ir.specs.Nodes.{no_node}
 use Rattle.struo_ir.specs.Orders.{places}
 use Rattle.run.specs.RunTables.{input_rank}
@@ -7,7 +7,4 @@ use Rattle.run.proofs.tables.input_ranks.Given as goal
 
 abbrev pub invariant-loop-i : goal.invariant-loop-i
 invariant-loop-i l =
-    (l.count ≡ l.netlist.node_count) × (l.i ≤ l.count) × (length l.ranks ≡ 1024) × ((k : ℕ) → k < l.i → get_or l.ranks k 0 ≡ input_rank l.bytes (places l.gold l.order) (get_or l.netlist.nodes k no_node))
-
-abbrev pub decreases-loop-i : goal.decreases-loop-i
-decreases-loop-i l = l.count - l.i
+    (length l.ranks ≡ 1024) × ((k : ℕ) → k < l.i → get_or l.ranks k 0 ≡ input_rank l.bytes (places l.gold l.order) (get_or l.netlist.nodes k no_node))

@@ -10,7 +10,7 @@ pub returns-then-node-eq-INPUT : goal.returns-then-node-eq-INPUT
 unfolding input_rank
 returns-then-node-eq-INPUT c =
     let a = c.args in
-    rw (eq-eqb a.node.kind 0 c.if-node-eq-INPUT.true) (c.rank_in.ensures.1 ∙ ap (λ (j : ℕ). rank (name_at a.bytes.now j) (places a.other.now a.order)) c.wide.ensures)
+    rw (eq-eqb a.node.kind 0 c.if-node-eq-INPUT.true) (c.rank_in.ensures.1 ∙ ap (λ (j : ℕ). rank (name_at a.bytes.now j) (places a.other.now a.order)) c.from.ensures)
 
 pub returns-else-node-eq-INPUT : goal.returns-else-node-eq-INPUT
 unfolding input_rank

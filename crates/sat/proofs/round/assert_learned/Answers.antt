@@ -1,13 +1,12 @@
 -- `assert_learned` meets its contract: by whether the asserting literal could be made true. Assumes nothing.
 use Rattle.std.proofs.Common.{refl}
-use borrow.Author.Tests.{not-true, not-false}
 use Rattle.sat.specs.RoundLaws.{asserts_not, asserts}
 use Rattle.sat.proofs.round.assert_learned.Goals as goal
 
-pub returns-then-not-e : goal.returns-then-not-e
-returns-then-not-e c =
-    asserts_not _ _ _ _ _ _ c.requires _ _ _ c.learn-l.ensures _ refl _ _ c.enqueue-e.ensures.0 c.enqueue-e.ensures.1 _ refl (not-true _ c.if-not-e.true)
+pub returns-in-Err : goal.returns-in-Err
+returns-in-Err c =
+    asserts_not _ _ _ _ _ _ c.requires _ _ _ c.learn-l.ensures _ refl _ _ c.in-Err.ensures.0 _ refl c.in-Err.ensures.1
 
-pub returns : goal.returns
-returns c =
-    asserts _ _ _ _ _ _ c.requires _ _ _ c.learn-l.ensures _ refl _ _ c.enqueue-e.ensures.0 c.enqueue-e.ensures.1 _ refl (not-false _ c.if-not-e.false)
+pub returns-in-Ok : goal.returns-in-Ok
+returns-in-Ok c =
+    asserts _ _ _ _ _ _ c.requires _ _ _ c.learn-l.ensures _ refl _ _ c.in-Ok.ensures.0 _ refl c.in-Ok.ensures.1

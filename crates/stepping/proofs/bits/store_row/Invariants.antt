@@ -1,10 +1,7 @@
 -- `store_row` writes the bits in order: those written so far, every other byte as it was. Assumes nothing.
-use Rattle.std.proofs.Common.{◌≡◌, ◌-◌, ◌≤◌, length, take}
+use Rattle.std.proofs.Common.{◌≡◌, length, take}
 use Rattle.model.specs.Stepping.{with_stored}
 use Rattle.stepping.proofs.bits.store_row.Given as goal
 
 abbrev pub invariant-loop-k : goal.invariant-loop-k
-invariant-loop-k l = (l.k ≤ l.count) × (length l.bits ≡ length l.initial.bits) × (length l.row ≡ 128) × (l.bits ≡ with_stored l.at (take l.k l.row) l.initial.bits)
-
-abbrev pub decreases-loop-k : goal.decreases-loop-k
-decreases-loop-k l = l.count - l.k
+invariant-loop-k l = (length l.bits ≡ length l.initial.bits) × (length l.row ≡ 128) × (l.bits ≡ with_stored l.at (take l.k l.row) l.initial.bits)

@@ -1,16 +1,14 @@
 -- `initial_and_short_fault` takes the initial fault, or the length's where there is none. Assumes nothing.
-use Rattle.std.proofs.Common.{sym, ap, ◌∙◌}
-use Rattle.calls.specs.Faults.{fault_of, first-refuses, second-decides}
+use Rattle.calls.specs.FaultLaws.{stops, goes_on}
+use Rattle.calls.specs.Causes.{fault_of}
 use Rattle.model.specs.Pair.{initial_fault}
 use Rattle.stepping.specs.LentBits.{short_fault, initial_and_short_fault}
 use Rattle.stepping.proofs.stepping.initial_and_short_fault.Goals as goal
 
-pub returns-in-Refused : goal.returns-in-Refused
+pub returns-in_err-initial_fault : goal.returns-in_err-initial_fault
 unfolding fault_of initial_and_short_fault
-returns-in-Refused c =
-    λ s t v u. first-refuses (initial_fault _ _) _ _ (sym (c.initial_fault-initial.ensures s t v u) ∙ ap fault_of c.in-Refused.is)
+returns-in_err-initial_fault c = λ s t v u. stops (initial_fault _ _) _ _ _ c.from_residual.ensures.1 (c.in_err-initial_fault.ensures s t v u)
 
-pub returns-in-Nothing : goal.returns-in-Nothing
+pub returns : goal.returns
 unfolding fault_of initial_and_short_fault short_fault
-returns-in-Nothing c =
-    λ s t v u. c.short_fault.ensures ∙ second-decides (initial_fault _ _) _ (sym (c.initial_fault-initial.ensures s t v u) ∙ ap fault_of c.in-Nothing.is)
+returns c = λ s t v u. goes_on (initial_fault _ _) _ (c.in_ok-initial_fault.ensures s t v u) _ c.short_fault.ensures

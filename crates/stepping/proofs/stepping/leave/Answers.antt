@@ -5,4 +5,4 @@ use Rattle.stepping.proofs.stepping.leave.Goals as goal
 pub returns : goal.returns
 returns c =
     let a = c.args in
-    left-right a.gold.register_count a.gate.register_count a.stepped a.bits.now _ c.store_rows.ensures
+    left-right a.gold.now.register_count a.gate.now.register_count a.stepped a.bits.now _ c.store_rows.ensures

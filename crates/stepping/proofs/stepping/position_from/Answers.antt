@@ -5,4 +5,4 @@ use Rattle.stepping.proofs.stepping.position_from.Goals as goal
 pub returns : goal.returns
 returns c =
     let a = c.args in
-    λ s t p q. position-right s t a.gold a.gate c.stored_row-gold_row.result c.stored_row-gate_row.result a.position a.bits.now p q c.stored_row-gold_row.ensures c.stored_row-gate_row.ensures
+    λ s t p q. position-right s t a.gold.now a.gate.now c.stored_row-gold_row.result c.stored_row-gate_row.result a.position a.bits.now p q c.stored_row-gold_row.ensures c.stored_row-gate_row.ensures

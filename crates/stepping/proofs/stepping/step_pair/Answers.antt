@@ -1,6 +1,6 @@
 -- `step_pair` answers the first refusal, or goes one step. Assumes nothing.
-use Rattle.std.proofs.Common.{sym, ap, ◌∙◌}
-use Rattle.calls.specs.Faults.{fault_of}
+use Rattle.std.proofs.Common.{sym, ◌∙◌}
+use Rattle.calls.specs.Causes.{fault_of}
 use Rattle.model.specs.Stepping.{step_fault}
 use Rattle.replay.specs.ReplayRight.{accepted-cycle}
 use Rattle.stepping.specs.LentBitsLaws.{step-long, step-claim}
@@ -11,17 +11,17 @@ pub step_accepted-requires : goal.step_accepted-requires
 unfolding fault_of
 step_accepted-requires c =
     let a = c.args in
-    let e = sym c.step_fault-fault.ensures ∙ ap fault_of c.in-Nothing.is in
-    (c.requires.0, c.requires.1, accepted-cycle _ _ a.cycle a.claim.now (step-claim _ _ a.cycle a.claim.now a.bits.now e), step-long _ _ a.cycle a.claim.now a.bits.now e)
+    let e = sym c.in-Ok.ensures in
+    (accepted-cycle _ _ a.cycle a.claim.now (step-claim _ _ a.cycle a.claim.now a.bits.now e), step-long _ _ a.cycle a.claim.now a.bits.now e)
 
-pub returns-in-Refused : goal.returns-in-Refused
+pub returns-in-Err : goal.returns-in-Err
 unfolding fault_of
-returns-in-Refused c =
-    refused-left _ _ _ _ c.refused_replay-answer.ensures
-    ∙ step-refused _ _ _ _ _ _ (step_fault _ _ _ _ _) _ (sym c.step_fault-fault.ensures ∙ ap fault_of c.in-Refused.is)
+returns-in-Err c =
+    refused-left _ _ _ _ c.from-answer.ensures
+    ∙ step-refused _ _ _ _ _ _ (step_fault _ _ _ _ _) _ (sym c.in-Err.ensures)
 
-pub returns-in-Nothing : goal.returns-in-Nothing
+pub returns-in-Ok : goal.returns-in-Ok
 unfolding fault_of
-returns-in-Nothing c =
+returns-in-Ok c =
     c.step_accepted.ensures
-    ∙ step-accepted _ _ _ _ _ _ (step_fault _ _ _ _ _) (sym c.step_fault-fault.ensures ∙ ap fault_of c.in-Nothing.is)
+    ∙ step-accepted _ _ _ _ _ _ (step_fault _ _ _ _ _) (sym c.in-Ok.ensures)

@@ -6,4 +6,4 @@ use Rattle.stepping.proofs.stepping.store_rows.Goals as goal
 pub returns : goal.returns
 returns c =
     let a = c.args in
-    c.store_row-2.ensures ∙ ap (with_stored gate_bits (take a.gate.register_count a.gate_row)) c.store_row.ensures
+    c.store_row-2.ensures ∙ ap (with_stored gate_bits (take a.gate.now.register_count a.gate_row)) c.store_row.ensures

@@ -32,5 +32,5 @@ returns c =
     let a = c.args in
     let x = c.cycle_of-gold_cycle.result in
     let y = c.cycle_of-gate_cycle.result in
-    λ s t q. advanced s t a.inputs a.gold a.gate a.cycle a.claim.now a.p c.requires.0 c.requires.1 q _ _ x.outputs y.outputs x.rows y.rows c.compare-c.result.differ c.compare-c.result.marked c.outcome.result refl refl
+    λ s t q. advanced s t a.inputs a.gold.now a.gate.now a.cycle a.claim.now a.p c.requires.0 c.requires.1 q _ _ x.outputs y.outputs x.rows y.rows c.compare-c.result.differ c.compare-c.result.marked c.outcome.result refl refl
     (c.cycle_of-gold_cycle.ensures s _ q.gold_prepared) (c.cycle_of-gate_cycle.ensures t _ q.gate_prepared) c.compare-c.ensures.0 c.compare-c.ensures.1 c.outcome.ensures

@@ -1,19 +1,17 @@
--- `bits_differ` passes every pair of equal bits. Assumes nothing.
-use Rattle.std.proofs.Common.{refl, sym, ◌∙◌, arith}
-use Rattle.steps.specs.StepLaws.{differ_longer, differ-here, differ-more, differ-end}
+-- `bits_differ` passes every pair of equal bits: what is left of both rows decides. Assumes nothing.
+use Rattle.std.proofs.Common.{sym, ◌∙◌, inl, inr, arith}
+use Rattle.steps.specs.StepLaws.{differ-here, differ-more, differ-end}
 use Rattle.steps.proofs.step.bits_differ.Goals as goal
 
-pub loop-k-init : goal.loop-k-init
-loop-k-init c = (omega arith, refl)
+pub returns-then-x-y : goal.returns-then-x-y
+returns-then-x-y c =
+    let p = c.in-Some.ensures.steps in
+    sym (c.loop-x.invariant ∙ differ-here _ _ _ _ _ _ p.0 p.1 c.if-x-y.true)
 
-pub returns-then-k-ys : goal.returns-then-k-ys
-returns-then-k-ys c = let t = c.loop-k in let a = c.args in sym (t.invariant.1 ∙ differ_longer a.xs.now a.ys.now t.k (omega arith) (omega arith))
-
-pub returns-then-differ : goal.returns-then-differ
-returns-then-differ c = let t = c.loop-k in let a = c.args in sym (t.invariant.1 ∙ differ-here a.xs.now a.ys.now t.k (omega arith) (omega arith) (sym c.differ.ensures ∙ c.if-differ.true))
-
-pub loop-k-preserved : goal.loop-k-preserved
-loop-k-preserved c = let t = c.loop-k in let a = c.args in (omega arith, t.invariant.1 ∙ differ-more a.xs.now a.ys.now t.k (omega arith) (omega arith) (sym c.differ.ensures ∙ c.if-differ.false))
+pub loop-x-preserved : goal.loop-x-preserved
+loop-x-preserved c =
+    let p = c.in-Some.ensures.steps in
+    c.loop-x.invariant ∙ differ-more _ _ _ _ _ _ p.0 p.1 c.if-x-y.false
 
 pub returns : goal.returns
-returns c = let t = c.loop-k in let a = c.args in sym (t.invariant.1 ∙ differ-end a.xs.now a.ys.now t.k (omega arith))
+returns c = sym (c.loop-x.invariant ∙ differ-end _ _ (elim c.in-None.ensures.steps [ inl w ↦ omega (arith, w.1) | inr w ↦ omega (arith, w.1) ]))

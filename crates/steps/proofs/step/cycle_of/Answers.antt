@@ -11,7 +11,7 @@ use Rattle.steps.proofs.step.cycle_of.Goals as goal
 pub returns : goal.returns
 returns c =
     let a = c.args in
-    let d = a.side in
+    let d = a.side.now in
     let w = c.next_stored-written.ensures in
     λ s ins r.
     let dn = decoded s d.netlist in

@@ -1,25 +1,27 @@
--- `struo_ir::nodes::read_inputs` meets its contract. Assumes nothing.
-use Rattle.std.proofs.Common.{◌∙◌}
-use Rattle.fields.specs.FieldLaws.{known}
-use Rattle.fields.specs.Fields.{number_of}
-use Rattle.model.specs.Record.{refuse}
-use Rattle.struo_ir.specs.NodeLaws.{numbers-none, numbers-refused, numbers-got}
-use Rattle.struo_ir.specs.Nodes.{inputs_of, three, second, third}
+-- `struo_ir::nodes::read_inputs` meets its contract: the numbers that are left to read give them all. Assumes nothing.
+use Rattle.std.proofs.Common.{◌∙◌, arith}
+use Rattle.fields.specs.FieldLaws.{passed_on}
+use Rattle.fields.specs.Fields.{step_of}
+use Rattle.struo_ir.specs.NodeLaws.{numbers-start, numbers-more, numbers-cut, numbers-done}
 use Rattle.struo_ir.proofs.nodes.read_inputs.Goals as goal
 
-pub returns-then-left-lt1 : goal.returns-then-left-lt1
-unfolding inputs_of three
-returns-then-left-lt1 c = let a = c.args in numbers-none (three) a.bytes.now a.at a.left c.if-left-lt1.true
+pub loop-i-init : goal.loop-i-init
+loop-i-init c = let a = c.args in numbers-start a.bytes.now a.left a.at c.requires.1
 
-pub returns-in-Refused : goal.returns-in-Refused
-unfolding inputs_of number_of refuse
-returns-in-Refused c =
+pub returns-in_err-number : goal.returns-in_err-number
+unfolding step_of
+returns-in_err-number c =
     let a = c.args in
-    numbers-refused (three) a.bytes.now a.at a.left _ c.if-left-lt1.false (known number_of c.in-Refused.is c.read_number.ensures)
+    passed_on _ _ c.from_residual.ensures.1 ∙ numbers-cut a.bytes.now a.left a.at _ _ _ c.loop-i.invariant _ (omega (arith, c.from-i-end.ensures)) c.in_err-number.ensures
 
-pub returns-in-Got : goal.returns-in-Got
-unfolding number_of three second third
-returns-in-Got c =
+pub loop-i-preserved : goal.loop-i-preserved
+unfolding step_of
+loop-i-preserved c =
     let a = c.args in
-    c.read_second.ensures
-    ∙ numbers-got (three) a.bytes.now a.at a.left _ _ c.if-left-lt1.false (known number_of c.in-Got.is c.read_number.ensures)
+    numbers-more a.bytes.now a.left a.at _ _ _ c.loop-i.invariant _ _ (omega (arith, c.from-i-end.ensures)) c.requires.1 c.in_ok-number.ensures
+
+pub returns : goal.returns
+unfolding step_of
+returns c =
+    let a = c.args in
+    numbers-done a.bytes.now a.left a.at _ _ _ c.loop-i.invariant (omega (arith, c.from-i-end.ensures)) c.requires.1

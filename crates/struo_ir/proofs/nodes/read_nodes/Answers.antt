@@ -1,27 +1,28 @@
 -- `struo_ir::nodes::read_nodes` meets its contract: the nodes that are left to read give the whole outcome. Assumes nothing.
 use Rattle.std.proofs.Common.{arith}
-use Rattle.fields.specs.FieldLaws.{known}
-use Rattle.struo_ir.specs.Nodes.{node_step}
+use Rattle.std.proofs.lemmas.Result.{err_from_is_err_and}
+use Rattle.fields.specs.Fields.{step_of}
 use Rattle.struo_ir.specs.NodesLaws.{nodes-start, nodes-more, nodes-refused, nodes-done}
 use Rattle.struo_ir.proofs.nodes.read_nodes.Goals as goal
 
 pub loop-i-init : goal.loop-i-init
 loop-i-init c = let a = c.args in nodes-start a.bytes.now a.count a.at
 
-pub returns-in-Refused : goal.returns-in-Refused
-unfolding node_step
-returns-in-Refused c =
+pub returns-in_err-node : goal.returns-in_err-node
+unfolding step_of
+returns-in_err-node c =
     let a = c.args in
-    nodes-refused a.bytes.now a.count a.at _ _ _ _ _ c.loop-i.invariant _ _ c.loop-i-test.true (known node_step c.in-Refused.is c.read_node.ensures)
+    let p = err_from_is_err_and c.from_residual.result c.from_residual.ensures.1 in
+    rw (p.1, p.2) (nodes-refused a.bytes.now a.count a.at _ _ _ _ _ c.loop-i.invariant _ (omega (arith, c.from-i-end.ensures)) c.in_err-node.ensures)
 
 pub loop-i-preserved : goal.loop-i-preserved
-unfolding node_step
+unfolding step_of
 loop-i-preserved c =
     let a = c.args in
     rw (c.counted-outputs.ensures, c.counted-inputs.ensures)
-    (nodes-more a.bytes.now a.count a.at _ _ _ _ _ c.loop-i.invariant _ _ c.loop-i-test.true (omega arith) (known node_step c.in-Got.is c.read_node.ensures))
+    (nodes-more a.bytes.now a.count a.at _ _ _ _ _ c.loop-i.invariant _ _ (omega (arith, c.from-i-end.ensures)) (omega arith) c.in_ok-node.ensures)
 
 pub returns : goal.returns
 returns c =
     let a = c.args in
-    nodes-done a.bytes.now a.count a.at _ _ _ _ _ c.loop-i.invariant c.loop-i-test.false
+    nodes-done a.bytes.now a.count a.at _ _ _ _ _ c.loop-i.invariant (omega (arith, c.from-i-end.ensures))

@@ -1,33 +1,40 @@
 -- `struo_ir::reader::read_fields` meets its contract. Assumes nothing.
-use Rattle.std.proofs.Common.{◌≡◌, ◌∙◌}
-use Rattle.fields.specs.FieldLaws.{known}
-use Rattle.fields.specs.Fields.{number_of}
-use Rattle.model.specs.Record.{finished, version1}
-use Rattle.struo_ir.specs.Reading.{from_nodes}
-use Rattle.struo_ir.specs.ReadingLaws.{read-refused, design-refused, design-named, nodes-refused-at, nodes_then}
+use Rattle.std.proofs.Common.{◌∙◌}
+use Rattle.std.proofs.lemmas.Result.{err_from_is_err_and}
+use Rattle.fields.specs.Fields.{step_of}
+use Rattle.struo_ir.specs.Reading.{outcome_of, PaddedWhere}
+use Rattle.struo_ir.specs.ReadingLaws.{nodes-refused-at, nodes_then, design-refused, design-named}
 use Rattle.struo_ir.proofs.reader.read_fields.Goals as goal
-use Rattle.struo_ir.proofs.reader.read_fields.Goals.{In-Got}
-
--- the outcome from the nodes on
-from-name : (c : In-Got) → let a = c.args in from_nodes a.bytes.now c.in-Got.next ≡ finished (version1 a.bytes.now 5)
-unfolding number_of
-from-name c = let a = c.args in design-named a.bytes.now _ _ (known number_of c.in-Got.is c.read_name.ensures)
 
 pub read_rest-requires : goal.read_rest-requires
-read_rest-requires c = (c.requires, c.read_counted_nodes-read.ensures.whole _ _ c.in-Got-field.is)
+read_rest-requires c = (c.requires, c.read_counted_nodes.ensures.whole _ _ c.in_ok-nodes.was)
 
-pub returns-in-Refused : goal.returns-in-Refused
-unfolding number_of
-returns-in-Refused c =
-    let a = c.args in
-    (read-refused a.bytes.now _ _ _ c.refusal.ensures.0 ∙ design-refused a.bytes.now _ _ (known number_of c.in-Refused.is c.read_name.ensures), c.refusal.ensures.1)
+pub returns-in_err-next-clause-reads : goal.returns-in_err-next-clause-reads
+unfolding outcome_of step_of
+returns-in_err-next-clause-reads c =
+    let p = err_from_is_err_and c.from_residual.result c.from_residual.ensures.1 in
+    rw (p.1, p.2) (design-refused c.args.bytes.now _ c.in_err-next.ensures)
 
-pub returns-in-Refused-field : goal.returns-in-Refused-field
-returns-in-Refused-field c =
-    let a = c.args in
-    (read-refused a.bytes.now _ _ _ c.refusal-in-Refused-field.ensures.0 ∙ nodes-refused-at a.bytes.now _ _ _ c.read_counted_nodes-read.ensures _ _ c.in-Refused-field.is ∙ from-name (goal.at.returns-in-Refused-field c).In-Got, c.refusal-in-Refused-field.ensures.1)
+pub returns-in_err-next-clause-padded : goal.returns-in_err-next-clause-padded
+unfolding PaddedWhere
+returns-in_err-next-clause-padded c = let p = err_from_is_err_and c.from_residual.result c.from_residual.ensures.1 in rw p.1 tt
 
-pub returns-in-Got-field : goal.returns-in-Got-field
-returns-in-Got-field c =
-    let a = c.args in
-    (c.read_rest.ensures.0 ∙ nodes_then a.bytes.now _ _ _ c.read_counted_nodes-read.ensures _ _ c.in-Got-field.is ∙ from-name (goal.at.returns-in-Got-field c).In-Got, c.read_rest.ensures.1)
+pub returns-in_err-nodes-clause-reads : goal.returns-in_err-nodes-clause-reads
+unfolding outcome_of step_of
+returns-in_err-nodes-clause-reads c =
+    let p = err_from_is_err_and c.from_residual-in_err-nodes.result c.from_residual-in_err-nodes.ensures.1 in
+    rw (p.1, p.2)
+    (nodes-refused-at c.args.bytes.now _ _ c.read_counted_nodes.ensures _ c.in_err-nodes.was ∙ design-named c.args.bytes.now _ _ c.in_ok-next.ensures)
+
+pub returns-in_err-nodes-clause-padded : goal.returns-in_err-nodes-clause-padded
+unfolding PaddedWhere
+returns-in_err-nodes-clause-padded c =
+    let p = err_from_is_err_and c.from_residual-in_err-nodes.result c.from_residual-in_err-nodes.ensures.1 in
+    rw p.1 tt
+
+pub returns-clause-reads : goal.returns-clause-reads
+unfolding step_of
+returns-clause-reads c =
+    c.read_rest.ensures.reads
+    ∙ nodes_then c.args.bytes.now _ _ c.read_counted_nodes.ensures _ _ c.in_ok-nodes.was
+    ∙ design-named c.args.bytes.now _ _ c.in_ok-next.ensures

@@ -1,24 +1,40 @@
 -- `struo_ir::reader::read_rest` meets its contract. Assumes nothing.
-use Rattle.std.proofs.Common.{◌∙◌}
+use Rattle.std.proofs.lemmas.Result.{err_from_is_err_and}
+use Rattle.calls.specs.Faults.{refusal}
 use Rattle.struo_ir.specs.Decoded.{decoded}
 use Rattle.struo_ir.specs.Nodes.{nodes_to}
-use Rattle.struo_ir.specs.Reading.{read_of, read_by}
-use Rattle.struo_ir.specs.ReadingLaws.{read-refused, rest-refused, rest-left, rest-done}
 use Rattle.struo_ir.specs.Registers.{registers_to}
+use Rattle.struo_ir.specs.Reading.{outcome_of, PaddedWhere, refused_at}
+use Rattle.struo_ir.specs.ReadingLaws.{rest-refused, rest-left, rest-done}
 use Rattle.struo_ir.proofs.reader.read_rest.Goals as goal
 
-pub returns-in-Refused : goal.returns-in-Refused
-returns-in-Refused c =
-    let a = c.args in
-    (read-refused a.bytes.now _ _ _ c.refusal.ensures.0 ∙ rest-refused _ a.bytes.now a.at _ _ c.read_counted_registers-read.ensures _ _ c.in-Refused.is, c.refusal.ensures.1)
+pub returns-in_err-registers-clause-reads : goal.returns-in_err-registers-clause-reads
+unfolding outcome_of
+returns-in_err-registers-clause-reads c =
+    let p = err_from_is_err_and c.from_residual.result c.from_residual.ensures.1 in
+    rw (p.1, p.2) (rest-refused _ c.args.bytes.now c.args.at _ c.read_counted_registers.ensures _ c.in_err-registers.was)
 
-pub returns-then-end-bytes : goal.returns-then-end-bytes
-returns-then-end-bytes c =
-    let a = c.args in
-    (read-refused a.bytes.now _ _ _ c.refusal-then-end-bytes.ensures.0 ∙ rest-left _ a.bytes.now a.at _ _ c.read_counted_registers-read.ensures _ _ c.in-Got.is c.if-end-bytes.true, c.refusal-then-end-bytes.ensures.1)
+pub returns-in_err-registers-clause-padded : goal.returns-in_err-registers-clause-padded
+unfolding PaddedWhere
+returns-in_err-registers-clause-padded c = let p = err_from_is_err_and c.from_residual.result c.from_residual.ensures.1 in rw p.1 tt
 
-pub returns-else-end-bytes : goal.returns-else-end-bytes
-unfolding read_of read_by decoded nodes_to registers_to
-returns-else-end-bytes c =
-    let a = c.args in
-    (rest-done _ a.bytes.now a.at _ _ c.read_counted_registers-read.ensures _ _ c.in-Got.is c.if-end-bytes.false, record { nodes_padded = c.requires.1; registers_padded = c.read_counted_registers-read.ensures.whole _ _ c.in-Got.is })
+pub returns-then-end-bytes-clause-reads : goal.returns-then-end-bytes-clause-reads
+unfolding outcome_of refused_at refusal
+returns-then-end-bytes-clause-reads c =
+    rw c.at.ensures (rest-left _ c.args.bytes.now c.args.at _ c.read_counted_registers.ensures _ _ c.in_ok-registers.was c.if-end-bytes.true)
+
+pub returns-then-end-bytes-clause-padded : goal.returns-then-end-bytes-clause-padded
+unfolding PaddedWhere
+returns-then-end-bytes-clause-padded c = tt
+
+pub returns-clause-reads : goal.returns-clause-reads
+unfolding outcome_of decoded nodes_to registers_to
+returns-clause-reads c =
+    rw (c.from.ensures, c.from-2.ensures)
+    (rest-done _ c.args.bytes.now c.args.at _ c.read_counted_registers.ensures _ _ c.in_ok-registers.was c.if-end-bytes.false)
+
+pub returns-clause-padded : goal.returns-clause-padded
+unfolding PaddedWhere
+returns-clause-padded c =
+    rw (c.from.ensures, c.from-2.ensures)
+    (record { nodes_padded = c.requires.1; registers_padded = c.read_counted_registers.ensures.whole _ _ c.in_ok-registers.was })

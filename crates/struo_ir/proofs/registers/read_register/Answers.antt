@@ -1,37 +1,34 @@
 -- `struo_ir::registers::read_register` meets its contract. Assumes nothing.
-use Rattle.std.proofs.Common.{◌≡◌, ◌∙◌}
-use Rattle.fields.specs.FieldLaws.{known, bind_refused, bind_got}
-use Rattle.fields.specs.Fields.{number_of}
-use Rattle.model.specs.Record.{refuse}
-use Rattle.struo_ir.specs.Nodes.{inputs_of}
-use Rattle.struo_ir.specs.Registers.{register_step, nets_at, place_at, register_edge, register_nets, register_at}
+use Rattle.std.proofs.Common.{◌≡◌, refl, ◌∙◌, ℕ, List, [], ◌∷◌, get_or}
+use Rattle.fields.specs.FieldLaws.{passed_on, bind_refused, bind_got}
+use Rattle.fields.specs.Fields.{step_of}
+use Rattle.struo_ir.specs.Registers.{fixed, nets_at, place_at, register_edge, register_nets, register_at}
 use Rattle.struo_ir.proofs.registers.read_register.Goals as goal
-use Rattle.struo_ir.proofs.registers.read_register.Goals.{In-Got}
 
--- a register from its nets on
-from-name : (c : In-Got) → let a = c.args in register_nets c.in-Got.name a.bytes.now c.in-Got.next ≡ register_at a.bytes.now a.at
-unfolding register_at number_of place_at
-from-name c =
+-- three nets, one by one
+edge_of : (n : ℕ) (nets s : List ℕ) (i : ℕ) → register_edge n (get_or nets 0 0 ∷ get_or nets 1 0 ∷ get_or nets 2 0 ∷ []) s i ≡ register_edge n nets s i
+unfolding register_edge fixed
+edge_of n nets s i = refl
+
+pub returns-in_err-name : goal.returns-in_err-name
+unfolding step_of register_at place_at
+returns-in_err-name c =
     let a = c.args in
-    bind_got place_at register_nets a.bytes.now a.at _ _ (known number_of c.in-Got.is c.read_name.ensures)
+    passed_on _ _ c.from_residual.ensures.1 ∙ bind_refused place_at register_nets a.bytes.now a.at _ c.in_err-name.ensures
 
-pub returns-in-Refused : goal.returns-in-Refused
-unfolding register_step number_of refuse register_at place_at
-returns-in-Refused c =
+pub returns-in_err-output : goal.returns-in_err-output
+unfolding step_of register_at place_at register_nets nets_at
+returns-in_err-output c =
     let a = c.args in
-    bind_refused place_at register_nets a.bytes.now a.at _ (known number_of c.in-Refused.is c.read_name.ensures)
+    passed_on _ _ c.from_residual-in_err-output.ensures.1
+    ∙ bind_refused nets_at (register_edge c.in_ok-name.name) a.bytes.now c.in_ok-name.next _ c.in_err-output.ensures
+    ∙ bind_got place_at register_nets a.bytes.now a.at _ _ c.in_ok-name.ensures
 
-pub returns-in-Refused-read_inputs : goal.returns-in-Refused-read_inputs
-unfolding register_step inputs_of refuse register_nets nets_at
-returns-in-Refused-read_inputs c =
-    let a = c.args in
-    bind_refused nets_at (register_edge c.in-Got.name) a.bytes.now c.in-Got.next _ (known inputs_of c.in-Refused-read_inputs.is c.read_inputs.ensures)
-    ∙ from-name (goal.at.returns-in-Refused-read_inputs c).In-Got
-
-pub returns-in-Got-read_inputs : goal.returns-in-Got-read_inputs
-unfolding inputs_of register_nets nets_at
-returns-in-Got-read_inputs c =
+pub returns : goal.returns
+unfolding step_of register_at place_at register_nets nets_at
+returns c =
     let a = c.args in
     c.read_edge.ensures
-    ∙ bind_got nets_at (register_edge c.in-Got.name) a.bytes.now c.in-Got.next _ _ (known inputs_of c.in-Got-read_inputs.is c.read_inputs.ensures)
-    ∙ from-name (goal.at.returns-in-Got-read_inputs c).In-Got
+    ∙ edge_of c.in_ok-name.name _ a.bytes.now c.in_ok-output.after
+    ∙ bind_got nets_at (register_edge c.in_ok-name.name) a.bytes.now c.in_ok-name.next _ _ c.in_ok-output.ensures
+    ∙ bind_got place_at register_nets a.bytes.now a.at _ _ c.in_ok-name.ensures

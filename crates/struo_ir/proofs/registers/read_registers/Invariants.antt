@@ -1,10 +1,6 @@
 -- `struo_ir::registers::read_registers` meets its contract: the registers that are left to read give the whole outcome. Assumes nothing.
-use Rattle.std.proofs.Common.{◌-◌}
 use Rattle.struo_ir.specs.Registers.{RegistersSoFar}
 use Rattle.struo_ir.proofs.registers.read_registers.Given as goal
 
 abbrev pub invariant-loop-i : goal.invariant-loop-i
 invariant-loop-i l = RegistersSoFar l.bytes l.count l.at l.registers l.next l.i
-
-abbrev pub decreases-loop-i : goal.decreases-loop-i
-decreases-loop-i l = l.count - l.i

@@ -1,5 +1,5 @@
 -- `match_of` meets its contract. Assumes nothing.
-use Rattle.std.proofs.Common.{◌≡◌, ◌-◌, ◌≤◌, drop}
+use Rattle.std.proofs.Common.{◌≡◌, drop}
 use Rattle.struo_ir.specs.Decoded.{name_at}
 use Rattle.struo_ir.specs.Orders.{held}
 use Rattle.transition.specs.Match.{first_from, named, match_at}
@@ -8,7 +8,4 @@ use Rattle.transition.proofs.matches.match_of.Given as goal
 -- what is left to search finds what the whole search does
 abbrev pub invariant-loop-k : goal.invariant-loop-k
 invariant-loop-k l =
-    (l.count ≡ l.order.count) × (l.k ≤ l.count) × (first_from (named (name_at l.gold l.place) l.gate) l.k (drop l.k (held l.order)) ≡ match_at l.gold l.place l.gate l.order)
-
-abbrev pub decreases-loop-k : goal.decreases-loop-k
-decreases-loop-k l = l.count - l.k
+    first_from (named (name_at l.gold l.place) l.gate) l.k (drop l.k (held l.order)) ≡ match_at l.gold l.place l.gate l.order

@@ -1,34 +1,18 @@
 -- `unrolling::compare::compare_outputs` meets its contract. Assumes nothing.
-use Rattle.std.proofs.Common.{◌≡◌, refl, arith, rules}
-use Rattle.lowering.specs.Firsts.{pairs, pairs-suc}
-use Rattle.unrolling.specs.Comparing.{compare-none, compare-more}
+use Rattle.std.proofs.Common.{◌<◌, arith, get_or, rules}
+use Rattle.std.proofs.Math.Option.{some}
+use Rattle.unrolling.specs.Naming.{all-paired}
 use Rattle.unrolling.proofs.compare.compare_outputs.Goals as goal
 
-pub loop-i-init : goal.loop-i-init
-unfolding pairs
-loop-i-init c = (omega arith, refl, λ r. compare-none _ _ r)
-
-pub or_difference-made-requires : goal.or_difference-made-requires
-or_difference-made-requires c =
-    let l = c.loop-i in
-    let t = c.loop-i-test.true in
-    let s = l.invariant.2 c.requires.0 in (
-      s.ready,
-      omega (arith, s.within, t, c.requires.2),
-      s.below,
-      rw c.at.ensures (omega (arith, s.grows, c.requires.3.at l.i t)),
-      rw c.at-in-loop-i.ensures (omega (arith, s.grows, c.requires.4.at l.i t)),
-    )
-
-pub loop-i-preserved : goal.loop-i-preserved
-loop-i-preserved c =
-    let l = c.loop-i in
-    let a = c.args in
-    let made = rw (c.at.ensures, c.at-in-loop-i.ensures) at c.or_difference-made.ensures in
-    (omega arith, search rules, λ r. rw (pairs-suc l.i a.gold.now a.gate.now) (compare-more _ _ _ _ _ _ _ _ _ _ _ _ (l.invariant.2 r) made))
+pub compare-requires : goal.compare-requires
+compare-requires c =
+    record {
+      room = (c.requires.0, c.requires.1, c.requires.2, c.requires.3);
+      callable = λ i h. let m : i < 128 = omega (arith, h, c.requires.1) in search rules;
+      told = (λ i. some (get_or c.args.gate.now i 0), record { is = λ i o h p. search rules; below = c.requires.4.at });
+    }
 
 pub returns : goal.returns
 returns c =
-    let l = c.loop-i in
-    let e : l.i ≡ c.args.n = omega (arith, l.invariant.0, c.loop-i-test.false) in
-    rw e at (l.invariant.2 c.requires.0)
+    let a = c.args in
+    rw (all-paired a.n a.gold.now a.gate.now) at (c.compare.ensures (λ i. some (get_or a.gate.now i 0)) (record { is = λ i o h p. search rules; below = c.requires.4.at }))

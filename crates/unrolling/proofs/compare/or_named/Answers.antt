@@ -1,22 +1,18 @@
 -- `unrolling::compare::or_named` meets its contract. Assumes nothing.
-use Rattle.std.proofs.Common.{◌≡◌, ap, ◌∙◌, ℕ, ◌-◌, ◌<◌, arith, get_or}
+use Rattle.std.proofs.Common.{refl}
 use Rattle.aig.specs.Made.{made_none}
-use Rattle.unrolling.specs.Naming.{or_unmatched, or-matched}
+use Rattle.unrolling.specs.Naming.{or_named}
 use Rattle.unrolling.proofs.compare.or_named.Goals as goal
-
-pub returns-then-matched-eq0 : goal.returns-then-matched-eq0
-returns-then-matched-eq0 c =
-    made_none 4 _ _ _ _ c.requires.0 c.requires.2 (or_unmatched c.args.literal.0 c.args.matched c.args.gate.now _ c.if-matched-eq0.true)
 
 pub or_difference-requires : goal.or_difference-requires
 or_difference-requires c =
-    let w = c.wide.ensures in
-    let h : 0 < c.args.matched = omega (arith, c.if-matched-eq0.false) in
-    (c.requires.0, c.requires.1, c.requires.2, c.requires.3, rw c.at.ensures (c.requires.5.at _ (omega (arith, w))))
+    let below = rw c.in-Some.is at c.requires.4 in
+    (c.requires.0, c.requires.1, c.requires.2, c.requires.3, below)
 
-pub returns : goal.returns
-returns c =
-    let h : 0 < c.args.matched = omega (arith, c.if-matched-eq0.false) in
-    let e : c.at.result ≡ get_or c.args.gate.now (c.args.matched - 1) 0 =
-    c.at.ensures ∙ ap (λ (i : ℕ). get_or c.args.gate.now (i - 1) 0) c.wide.ensures in
-    rw (← or-matched c.args.literal.0 c.args.matched c.args.gate.now _ h) (rw e at c.or_difference.ensures)
+pub returns-in-Some : goal.returns-in-Some
+unfolding or_named
+returns-in-Some c = rw c.in-Some.is c.or_difference.ensures
+
+pub returns-in-None : goal.returns-in-None
+unfolding or_named
+returns-in-None c = rw c.in-None.is (made_none 4 _ _ _ _ c.requires.0 c.requires.2 refl)

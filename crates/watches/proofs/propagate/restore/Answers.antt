@@ -1,13 +1,8 @@
 -- `restore` meets its contract. The invariant: what is left of the pending clauses is to be appended. Assumes nothing.
 use Rattle.std.proofs.Common.{rules}
-use Rattle.watches.specs.PropagateLaws.{restore_start, restore_visiting, restore_more, restore_end}
+use Rattle.watches.specs.PropagateLaws.{restore_visiting, restore_more, restore_end}
 use Rattle.watches.specs.VisitLaws.{cell_there}
 use Rattle.watches.proofs.propagate.restore.Goals as goal
-
-pub loop-d-init : goal.loop-d-init
-loop-d-init c =
-    let a = c.args in
-    (search rules, restore_start a.store a.t a.f.0 a.words.now a.first c.requires.0 c.requires.1)
 
 pub rest-next-requires : goal.rest-next-requires
 rest-next-requires c =
@@ -15,12 +10,6 @@ rest-next-requires c =
     let a = c.args in
     let v = restore_visiting a.store a.t a.f.0 a.words.now a.first l.words l.d l.invariant.1 c.loop-d-test.true in
     (l.invariant.1.step.sound.formed.ready.words, c.loop-d-test.true, cell_there a.store a.t l.words l.d v.0)
-
-pub keep-requires : goal.keep-requires
-keep-requires c =
-    let l = c.loop-d in
-    let a = c.args in
-    restore_visiting a.store a.t a.f.0 a.words.now a.first l.words l.d l.invariant.1 c.loop-d-test.true
 
 pub loop-d-preserved : goal.loop-d-preserved
 loop-d-preserved c =

@@ -1,13 +1,8 @@
 -- `visit_pending` meets its contract. The invariant: what is left of the pending clauses is to be visited. Assumes nothing.
 use Rattle.std.proofs.Common.{rules}
-use Rattle.watches.specs.PropagateLaws.{pends_start, pends_visiting, pends_end, pends_more, pends_complete, conflict-sound, pends_conflict}
+use Rattle.watches.specs.PropagateLaws.{pends_visiting, pends_end, pends_more, pends_complete, conflict-sound, pends_conflict}
 use Rattle.watches.specs.VisitLaws.{cell_there}
 use Rattle.watches.proofs.propagate.visit_pending.Goals as goal
-
-pub loop-d-init : goal.loop-d-init
-loop-d-init c =
-    let a = c.args in
-    (search rules, pends_start a.store a.f.0 a.start a.words.now a.first c.requires.0 c.requires.1)
 
 pub rest-next-requires : goal.rest-next-requires
 rest-next-requires c =
@@ -15,12 +10,6 @@ rest-next-requires c =
     let a = c.args in
     let v = pends_visiting a.store a.f.0 a.start a.words.now a.first l.t l.words l.d l.invariant.1 c.loop-d-test.true in
     (l.invariant.1.step.sound.formed.ready.words, c.loop-d-test.true, cell_there a.store l.t l.words l.d v)
-
-pub visit-requires : goal.visit-requires
-visit-requires c =
-    let l = c.loop-d in
-    let a = c.args in
-    pends_visiting a.store a.f.0 a.start a.words.now a.first l.t l.words l.d l.invariant.1 c.loop-d-test.true
 
 pub loop-d-preserved : goal.loop-d-preserved
 loop-d-preserved c =

@@ -12,20 +12,18 @@ pub put-requires : goal.put-requires
 put-requires c =
     let a = c.args in
     let h = clause_there a.store a.t a.words.now a.d c.requires.0 in
-    (c.requires.0.sound.formed.ready.words, omega arith, omega (arith, h, c.requires.0.sound.formed.clauses, c.requires.1, c.wide-2.ensures, c.wide.ensures))
+    (c.requires.0.sound.formed.ready.words, omega arith, omega (arith, h, c.requires.0.sound.formed.clauses, c.requires.1))
 
 pub push_back-requires : goal.push_back-requires
 push_back-requires c =
     let a = c.args in
     let r = stands-range a.store a.t a.words.now a.d c.requires.0 a.l.0 c.requires.2 in
-    (c.put.ensures.1, moved-room a.store a.t a.words.now a.d c.requires.0 _ _ _ c.put.ensures.0 c.wide-3.result (rw c.wide-3.ensures r))
+    (c.put.ensures.1, moved-room a.store a.t a.words.now a.d c.requires.0 _ _ _ c.put.ensures.0 a.l.0 r)
 
 pub returns : goal.returns
 unfolding replaced_words
 returns c =
     let a = c.args in
-    let p : c.wide.result * 2 + c.wide-2.result ≡ half a.d.cell * 2 + a.slot = cc in
     let e : c.push_back.new.words ≡ pushed_words (stored WATCHED a.words.now (half a.d.cell * 2 + a.slot) a.l.0) a.l.0 a.d.cell =
-    c.push_back.ensures.0 ∙ ap (λ (l : ℕ). pushed_words c.put.new.words l a.d.cell) c.wide-3.ensures
-    ∙ ap (λ (x : List ℕ). pushed_words x a.l.0 a.d.cell) (c.put.ensures.0 ∙ ap (λ (j : ℕ). stored WATCHED a.words.now j a.l.0) p) in
+    c.push_back.ensures.0 ∙ ap (λ (x : List ℕ). pushed_words x a.l.0 a.d.cell) c.put.ensures.0 in
     rw e (replaced a.store a.t a.words.now a.d c.requires.0 a.slot a.l.0 c.requires.1 c.requires.2)

@@ -1,0 +1,8 @@
+-- `input` writes its kind, then its name. Assumes nothing.
+use Rattle.std.proofs.Common.{[], ◌∷◌}
+use Rattle.designs.specs.WrittenLaws.{kept_then}
+use Rattle.designs.proofs.record.Record.input.Goals as goal
+
+pub returns-clause-bytes : goal.returns-clause-bytes
+returns-clause-bytes c =
+    kept_then _ _ _ (0 ∷ []) _ c.node-number.ensures.bytes c.name.ensures.bytes

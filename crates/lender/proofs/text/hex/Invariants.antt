@@ -1,9 +1,0 @@
--- `hex` ends, and its buffers keep their lengths. Assumes nothing.
-use Rattle.std.proofs.Common.{◌-◌, ◌≡◌, length}
-use Rattle.lender.proofs.text.hex.Given as goal
-
-abbrev pub invariant-loop-n : goal.invariant-loop-n
-invariant-loop-n l = (length l.out ≡ length l.initial.out)
-
-abbrev pub decreases-loop-n : goal.decreases-loop-n
-decreases-loop-n l = length l.initial.out - l.n
