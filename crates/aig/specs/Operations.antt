@@ -1,5 +1,5 @@
 -- Each operation's cases put together: what the code made is what the model's operation gives. Assumes nothing.
-use Rattle.std.specs.Prelude.{◌≡◌, refl, Bool, false, List, map, eqb, take, get_or}
+use Rattle.std.specs.Prelude.{◌≡◌, refl, Bool, true, false, List, map, eqb, take, get_or}
 use Rattle.std.proofs.Common.{ap, ap₂, sym, ◌∙◌, length-take, get_or-take}
 use Rattle.std.proofs.Math.Bool.{xor as xorBool}
 use Rattle.std.proofs.Math.Option.{Option, none, some}
@@ -140,6 +140,15 @@ pub word_of : (nodes : ℕ) (values : List ℕ) (l i v : ℕ) → i ≡ node l �
 word_of nodes values l i v e h f = f ∙ sym (get_or-take nodes values i 0 h) ∙ ap (λ (k : ℕ). get_or (take nodes values) k 0) e
 
 -- past the nodes
-pub evaluate-past : (nodes : ℕ) (values : List ℕ) (l : ℕ) → nodes ≤ node l → xorBool false (inverted l) ≡ evaluate (map is_true (take nodes values)) l
-evaluate-past nodes values l h =
+pub past_by_word : (nodes : ℕ) (values : List ℕ) (l : ℕ) → nodes ≤ node l → xorBool false (inverted l) ≡ evaluate (map is_true (take nodes values)) l
+past_by_word nodes values l h =
     by_word (take nodes values) l 0 (sym (get_or-eq_default (take nodes values) 0 (simp length-take (omega arith))))
+
+xor-false : (t : Bool) → xorBool false t ≡ t
+unfolding xorBool
+xor-false true = refl
+xor-false false = refl
+
+-- so it is whether the literal is inverted
+pub evaluate-past : (nodes : ℕ) (values : List ℕ) (l : ℕ) → nodes ≤ node l → inverted l ≡ evaluate (map is_true (take nodes values)) l
+evaluate-past nodes values l h = sym (xor-false (inverted l)) ∙ past_by_word nodes values l h

@@ -1,5 +1,5 @@
 -- Laws of the scores: a score raised, all of them rescaled, a bump, and the start. Assumes nothing.
-use Rattle.std.specs.Prelude.{◌≡◌, refl, true, false, List, ◌++◌, ℕ, ◌<◌, ◌≤◌, length, take, drop, set, replicate, Float}
+use Rattle.std.specs.Prelude.{◌≡◌, refl, true, false, List, [], ◌∷◌, ◌++◌, map, ℕ, ◌<◌, ◌≤◌, length, take, drop, set, replicate, Float}
 use Rattle.std.proofs.Common.{ap, sym, ◌∙◌, arith, length-set, drop-set-lt, get_or-take, get_or-set_same, length-take-le}
 use Rattle.std.proofs.lemmas.Grind.{common_steps}
 use Rattle.std.proofs.lemmas.List.{length-replicate, get_or_default}
@@ -50,11 +50,32 @@ raised_not n s v x h = record { is = sym (set_out (take n s) v _ (simp length-ta
 replaced : (n : ℕ) (s z : List Float) → n ≤ length s → length z ≡ n → (take n (z ++ drop n s) ≡ z) × Others n s (z ++ drop n s)
 replaced n s z h k = (grind (arith, common_steps), record { long = grind (arith, common_steps); same = grind (arith, common_steps) })
 
-pub zeroed : (n : ℕ) (s z : List Float) → n ≤ length s → z ≡ replicate (length (take n s)) Sat.score_zero → ZeroScores n s (z ++ drop n s)
-zeroed n s z h e =
+pub filled : (n : ℕ) (s z : List Float) → n ≤ length s → z ≡ replicate (length (take n s)) Sat.score_zero → ZeroScores n s (z ++ drop n s)
+filled n s z h e =
     let k : z ≡ replicate n Sat.score_zero = rw (← length-take-le n s h) e in
     let l : length z ≡ n = rw k (length-replicate n Sat.score_zero) in
     record { is = (replaced n s z h l).0 ∙ k; others = (replaced n s z h l).1 }
+
+-- the first i of n scores mapped, the scores being s
+pub record Mapping (f : Float → Float) (n : ℕ) (s₀ : List Float) (i : ℕ) (s : List Float) : Type 0 where
+  pub inside : i ≤ n
+  pub long : length s ≡ length s₀
+  pub done : take i s ≡ map f (take i s₀)
+  pub left : drop i s ≡ drop i s₀
+
+map_same : (x : Float) (s : List Float) → map (λ (y : Float). x) s ≡ replicate (length s) x
+map_same x [] = refl
+map_same x (y ∷ s) = ap (λ (l : List Float). x ∷ l) (map_same x s)
+
+-- all n of them mapped to the score of none
+pub zeroed : (n : ℕ) (s₀ s : List Float) (i : ℕ) → n ≤ length s₀ → Mapping (λ (x : Float). Sat.score_zero) n s₀ i s → n ≤ i → ZeroScores n s₀ s
+zeroed n s₀ s i h m k =
+    let e : i ≡ n = omega (arith, m.inside) in
+    let d : take n s ≡ map (λ (x : Float). Sat.score_zero) (take n s₀) = rw e at m.done in
+    record {
+      is = d ∙ map_same Sat.score_zero (take n s₀) ∙ ap (λ (j : ℕ). replicate j Sat.score_zero) (length-take-le n s₀ h);
+      others = record { long = m.long; same = rw e at m.left };
+    }
 
 -- ---- a bump
 

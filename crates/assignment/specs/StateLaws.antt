@@ -37,6 +37,11 @@ get_or-past n l i h = sym (get_or-eq_default (take n l) 0 (simp length-take (ome
 
 -- ---- literals
 
+-- a sign as a number is 0 or 1
+pub sign_low : (b : Bool) → bool_byte b ≤ 1
+sign_low true = omega arith
+sign_low false = omega arith
+
 -- the word that makes a literal true; the argument: inverted
 pub making_true_lem : (b : Bool) → word_value (bool_byte b + 1) ≡ Sat.making_true b
 unfolding word_value Sat.making_true

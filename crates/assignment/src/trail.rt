@@ -46,12 +46,19 @@ pub fn value(words: &[u32], t: Trail, literal: Literal) -> Option<bool>
     }
 }
 
-// Whether a literal of the variables is not false.
+// Whether a literal of the variables is not false: yes or no, without the value of three answers.
 pub fn not_false(words: &[u32], t: Trail, literal: Literal) -> bool
     requires { TrailReady t words.now × (literal.0 < t.variables * 2) }
     ensures { result ≡ Sat.not_false (Sat.value (assignment_of t words.now) literal.0) }
 {
-    value(words, t, literal).unwrap_or(true)
+    let word = load(words, VALUES, literal.node() as usize);
+    if word == 0 {
+        return true;
+    }
+    if (word % 2 == 1) == literal.inverted() {
+        return false;
+    }
+    true
 }
 
 // An unassigned literal made true. The reason is the word that REASONS holds: 0 for none, else one more than the number of its clause.

@@ -33,40 +33,61 @@ fn tell(rt: &impl Print, name: &str, answer: CheckAnswer) -> io::Result<()> {
     )
 }
 
-// One record to be checked against another, to a depth, in the mode of the earliest cycle or without it.
+// Which two records are checked, by the specification's cases.
+#[derive(Clone, Copy)]
+enum Designs {
+    // y = a And b against y = 0.
+    Conjunction,
+    // A wide side against one of so many.
+    Wide(u8),
+    // Nine-bit counters alike but for y.
+    Counters,
+}
+
+impl Designs {
+    // Gold's record and gate's. They are made where they are checked, so that no table holds them.
+    fn records(self) -> (Record, Record) {
+        match self {
+            Designs::Conjunction => (conjunction(), holding()),
+            Designs::Wide(count) => (wide_side(8), wide_side(count)),
+            Designs::Counters => (counter(260), counter(255)),
+        }
+    }
+}
+
+// Two designs to be checked to a depth, in the mode of the earliest cycle or without it.
 #[derive(Clone, Copy)]
 struct Case<'a> {
     name: &'a str,
-    gold: Record,
-    gate: Record,
+    designs: Designs,
     depth: u64,
     earliest: bool,
 }
 
 impl<'a> Case<'a> {
     // Without the mode of the earliest cycle.
-    fn new(name: &'a str, gold: Record, gate: Record, depth: u64) -> Case<'a> {
+    fn new(name: &'a str, designs: Designs, depth: u64) -> Case<'a> {
         Case {
             name,
-            gold,
-            gate,
+            designs,
             depth,
             earliest: false,
         }
     }
 
     // The same in the mode of the earliest cycle.
-    fn earliest(name: &'a str, gold: Record, gate: Record, depth: u64) -> Case<'a> {
-        let mut case = Case::new(name, gold, gate, depth);
+    fn earliest(name: &'a str, designs: Designs, depth: u64) -> Case<'a> {
+        let mut case = Case::new(name, designs, depth);
         case.earliest = true;
         case
     }
 
     // Makes the check under the largest limit, and writes the answer after its name.
     fn run(&self, rt: &impl Print, memory: &mut Memory) -> io::Result<()> {
+        let (gold, gate) = self.designs.records();
         let answer = struo_formal::check(
-            self.gold.bytes(),
-            self.gate.bytes(),
+            gold.bytes(),
+            gate.bytes(),
             self.depth,
             LIMIT,
             self.earliest,
@@ -88,24 +109,20 @@ fn main(rt: HostRuntime) -> io::Result<()> {
         scores: &mut scores,
     };
     let cases = [
-        // y = a And b against y = 0, to the largest depth.
-        Case::new("y = a And b at 64", conjunction(), holding(), 64),
+        Case::new("y = a And b at 64", Designs::Conjunction, 64),
         // The bound of refusal 23: 65,535 is accepted, 66,186 is not.
-        Case::new("65,535 at 64", wide_side(8), wide_side(7), 64),
-        Case::new("66,186 at 64", wide_side(8), wide_side(8), 64),
-        // Nine-bit counters alike but for y.
-        Case::new("nine-bit counters at 8", counter(260), counter(255), 8),
-        Case::new("nine-bit counters at 64", counter(260), counter(255), 64),
+        Case::new("65,535 at 64", Designs::Wide(7), 64),
+        Case::new("66,186 at 64", Designs::Wide(8), 64),
+        Case::new("nine-bit counters at 8", Designs::Counters, 8),
+        Case::new("nine-bit counters at 64", Designs::Counters, 64),
         Case::earliest(
             "y = a And b at 64, earliest cycle",
-            conjunction(),
-            holding(),
+            Designs::Conjunction,
             64,
         ),
         Case::earliest(
             "nine-bit counters at 8, earliest cycle",
-            counter(260),
-            counter(255),
+            Designs::Counters,
             8,
         ),
     ];

@@ -4,7 +4,7 @@ use Rattle.std.proofs.Math.Path.{refl, sym}
 use Rattle.std.proofs.Common.{◌∙◌, add-one, take-suc-set, get_or-set_other, length-take-le}
 use mathlib.Core.List.{List, [], ◌∷◌}
 use native.Mathlib.Omega.{arith}
-use Rattle.std.proofs.Math.Seq.{length-slice, take-set-le, take-suc, take-length}
+use Rattle.std.proofs.Math.Seq.{slice_empty, length-slice, take-set-le, take-suc, take-length}
 use Rattle.std.proofs.lemmas.List.{drop-append-le}
 use Rattle.words.specs.Layout.{LENT, STARTS, POOL, CLAUSE-STARTS, WATCHED, LITERALS}
 use Rattle.words.specs.Region.{region, stored, stores, stored_in, stored_out, length-stored, length-region}
@@ -100,6 +100,10 @@ pooled m t w count v s k u e = record {
   is = λ q. rw e (pool_solver m t w s (m.literals + count) v (omega arith) q);
   literals = rw e (pool_more m w count v s.formed.ready.words k);
 }
+
+-- no literal
+pub pool_none : (m : Store) (w : List ℕ) → pool_literals m 0 w ≡ []
+pool_none m w = let e : m.literals + 0 ≡ m.literals = omega arith in rw e (slice_empty m.literals (region LITERALS w))
 
 -- ---- several
 

@@ -59,6 +59,10 @@ abbrev pub SpareStands : Option Literal → List ℕ → Type 0
 SpareStands (Some l) ls = Stands l.0 ls
 SpareStands None ls = Unit {0}
 
+-- whether a literal is none of the watched ones of a clause
+unfoldable pub is_spare : Clause → ℕ → Bool
+is_spare c l = not (eqb l c.first.0) && not (eqb l c.second.0)
+
 -- whether a literal of a clause is neither watched nor false
 unfoldable pub can_watch : Sat.Assignment → Clause → ℕ → Bool
 can_watch t c l = not (eqb l c.first.0) && not (eqb l c.second.0) && Sat.not_false (Sat.value t l)

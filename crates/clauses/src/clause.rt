@@ -4,7 +4,7 @@ ghost use Rattle.words.specs.Layout.{LENT, STARTS, CLAUSE-STARTS, WATCHED};
 ghost use Rattle.words.specs.Region.{region};
 ghost use Rattle.assignment.specs.State.{assignment_of, TrailReady};
 ghost use Rattle.clauses.specs.Clauses.{literals_of};
-ghost use Rattle.clauses.specs.State.{span_of, can_watch, Watchable, Spares};
+ghost use Rattle.clauses.specs.State.{span_of, is_spare, can_watch, Watchable, Spares};
 
 use crate::state::Clause;
 use assignment::state::Trail;
@@ -31,13 +31,27 @@ pub fn clause(words: &[u32], id: usize) -> Clause
     }
 }
 
+// Whether a literal is none of the watched ones of a clause.
+#[tactic(auto, unfolding(crate::specs::State::is_spare))]
+fn is_spare(c: Clause, l: Literal) -> bool
+    ensures { result ≡ is_spare c l.0 }
+{
+    if l == c.first {
+        return false;
+    }
+    l != c.second
+}
+
 // Whether a literal of a clause is neither watched nor false. Most are false, so that is asked first.
-#[tactic(auto, unfolding(crate::specs::State::can_watch))]
+#[tactic(auto, unfolding(crate::specs::State::is_spare, crate::specs::State::can_watch))]
 fn can_watch(words: &[u32], t: Trail, c: Clause, l: Literal) -> bool
     requires { TrailReady t words.now × (l.0 < t.variables * 2) }
     ensures { result ≡ can_watch (assignment_of t words.now) c l.0 }
 {
-    not_false(words, t, l) && l != c.first && l != c.second
+    if not_false(words, t, l) {
+        return is_spare(c, l);
+    }
+    false
 }
 
 // The first literal of a clause that is neither watched nor false.

@@ -77,9 +77,9 @@ module _ (x : Problem) (limit d : ℕ) (w : List ℕ) where
       same earlier (Sat.out_of_fuel n) = refl
 
   -- with them it is query 3, where it decides
-  pub closed_3 : (m : Asked) (r : ControlFlow Outcome Asked) (w₁ : List ℕ) → Decides x (goal_induction true limit d) w m r w₁ → (u : Outcome) → r ≡ Break u → Decides x (goal3 limit d) w m (Break u) w₁
+  pub break_3 : (m : Asked) (r : ControlFlow Outcome Asked) (w₁ : List ℕ) → Decides x (goal_induction true limit d) w m r w₁ → (u : Outcome) → r ≡ Break u → Decides x (goal3 limit d) w m (Break u) w₁
   unfolding after_induction after_query3
-  closed_3 m r w₁ b u e =
+  break_3 m r w₁ b u e =
       record { is = λ p k first earlier t o. same p first earlier t (Model.ask limit (induction_closes p true d)) (subst (λ (z : ControlFlow Outcome Asked). Agrees first z t t (goal_induction true limit d p earlier)) e (b.is p k first earlier t o)); kept = b.kept }
     where
       same : (p : Model.Problem) (first : Numbers.Asked) (earlier : List Numbers.Asked) (t : List ℕ) (y : Sat.Answer) → Agrees first (Break u) t t (after_induction true d earlier y) → Agrees first (Break u) t t (after_query3 limit p d earlier y)
@@ -137,10 +137,10 @@ module _ (x : Problem) (limit d : ℕ) (w : List ℕ) (s : List Float) (a : Quer
         at_once _ (λ p earlier y. after_induction include d earlier y) r w₁ s₁ q _ e m _ (λ p first earlier t o. (λ y. refl, refl, counted-more d _ r _ m now c e first earlier o))
 
   -- where the query with named states decides nothing, query 4 follows
-  pub open_3 : (m : Asked) (r : ControlFlow Outcome Asked) (w₁ : List ℕ) → Decides x (goal_induction true limit d) w m r w₁ → (now : Asked) → r ≡ Continue now
+  pub continue_3 : (m : Asked) (r : ControlFlow Outcome Asked) (w₁ : List ℕ) → Decides x (goal_induction true limit d) w m r w₁ → (now : Asked) → r ≡ Continue now
       → (z : ControlFlow Outcome Asked) (w₂ : List ℕ) → Decides x (goal4 limit d) w₁ now z w₂ → Decides x (goal3 limit d) w m z w₂
   unfolding after_induction after_query3 query4
-  open_3 m r w₁ b now e z w₂ f =
+  continue_3 m r w₁ b now e z w₂ f =
       record {
         is = λ p k first earlier t o.
             same p (stands_for_kept x w w₁ a.paired b.kept p k) first earlier t (Model.ask limit (induction_closes p true d))
@@ -154,6 +154,19 @@ module _ (x : Problem) (limit d : ℕ) (w : List ℕ) (s : List Float) (a : Quer
       same p k first earlier t (Sat.no_model n) h = absurd h
       same p k first earlier t (Sat.gave_up n) h = absurd h
       same p k first earlier t (Sat.out_of_fuel n) h = absurd h
+
+  module _ (r : Answer) (w₁ : List ℕ) (s₁ : List Float) (q : Queried x limit d (λ p. induction_closes p true d) w r w₁ s₁) (m now : Asked) (c : Counted d 3 r m now) (k : ℕ) where
+    -- query 3 has a model: query 4 follows
+    pub open_3 : r ≡ Answers.Model k → (z : ControlFlow Outcome Asked) (w₂ : List ℕ) → Decides x (goal4 limit d) w₁ now z w₂ → Decides x (goal3 limit d) w m z w₂
+    unfolding after_query3 query4
+    open_3 e z w₂ b =
+        by_next _ (λ p earlier y. after_query3 limit p d earlier y) r w₁ s₁ q _ e m z (goal4 limit d) (λ earlier. asked_too earlier d 3 k) now w₂ b (counted-more d 3 r _ m now c e) (λ p earlier. refl)
+
+    -- it has none: equivalent
+    pub closed_3 : r ≡ Answers.NoModel k → Decides x (goal3 limit d) w m (Break (record { verdict = Verdicts.Equivalent d; most = now })) w₁
+    unfolding after_query3 answer_of_verdict verdict_answer verdict_trace
+    closed_3 e =
+        at_once _ (λ p earlier y. after_query3 limit p d earlier y) r w₁ s₁ q _ e m _ (λ p first earlier t o. (λ y. refl, refl, counted-more d 3 r _ m now c e first earlier o))
 
   module _ (r : Answer) (w₁ : List ℕ) (s₁ : List Float) (q : Queried x limit d (λ p. base_preserves_named_state p d) w r w₁ s₁) (m now : Asked) (c : Counted d 2 r m now) (k : ℕ) where
     -- query 2 has a model: query 4 follows

@@ -1,9 +1,9 @@
 -- Laws of the names and numbers so far. Assumes nothing.
-use Prim.Native.Nat.{ℕ, zero, suc, ◌+◌, ◌≤◌, ◌<◌}
+use Prim.Native.Nat.{ℕ, zero, suc, ◌+◌, ◌-◌, ◌≤◌, ◌<◌}
 use Rattle.std.specs.Prelude.{◌≡◌, Bool, true, false, ◌||◌, List, [], ◌∷◌, ◌++◌, length, get_or, set, take, eqb}
 use Rattle.std.specs.List.{list_any}
 use Rattle.std.proofs.Math.Path.{refl}
-use Rattle.std.proofs.Common.{ap, ◌∙◌, add-one, take-suc, get_or-set_same, get_or-set_other}
+use Rattle.std.proofs.Common.{sym, ap, ◌∙◌, add-one, take-suc, get_or-set_same, get_or-set_other, eq-eqb, ne_eqb}
 use native.Mathlib.Omega.{arith}
 use Rattle.facts.specs.Numbers.{eqb_swap}
 use Rattle.model.specs.Names.{Name, same_name, member_name}
@@ -44,6 +44,30 @@ some-number x numbers (suc k) h =
     (any-snoc (λ n. eqb n x) (take k numbers) (get_or numbers k 0)
     ∙ ap (λ (b : Bool). eqb (get_or numbers k 0) x || b) (some-number x numbers k (omega arith))
     ∙ ap (λ (b : Bool). b || member x (numbers_before numbers k)) (eqb_swap (get_or numbers k 0) x))
+
+-- the last of the first k names, or numbers: it is the one sought, or those before it are left
+module _ (s : List ℕ) (x : Name) (places : List ℕ) (k : ℕ) (h : 0 < k) where
+  pub name-found : same_name x (name_at s (get_or places (k - 1) 0)) ≡ true → true ≡ member_name x (names_before s places k)
+  unfolding names_before member_name
+  name-found e = let d : k ≡ suc (k - 1) = omega arith in rw d (rw e)
+
+  pub name_passed : same_name x (name_at s (get_or places (k - 1) 0)) ≡ false → member_name x (names_before s places (k - 1)) ≡ member_name x (names_before s places k)
+  unfolding names_before member_name
+  name_passed e = go k refl
+    where
+      go : (j : ℕ) → k ≡ j → member_name x (names_before s places (k - 1)) ≡ member_name x (names_before s places j)
+      go zero f = absurd (omega arith)
+      go (suc j) f = let d : k - 1 ≡ j = omega arith in rw (← d, e)
+
+pub number-found : (x : ℕ) (numbers : List ℕ) (k : ℕ) → 0 < k → x ≡ get_or numbers (k - 1) 0 → true ≡ member x (numbers_before numbers k)
+unfolding numbers_before member
+number-found x numbers zero h e = absurd (omega arith)
+number-found x numbers (suc k) h e = let d : suc k - 1 ≡ k = omega arith in let f : x ≡ get_or numbers k 0 = e ∙ ap (λ (n : ℕ). get_or numbers n 0) d in rw (eq-eqb x (get_or numbers k 0) f)
+
+pub number_passed : (x : ℕ) (numbers : List ℕ) (k : ℕ) → 0 < k → (x ≡ get_or numbers (k - 1) 0 → ⊥) → member x (numbers_before numbers (k - 1)) ≡ member x (numbers_before numbers k)
+unfolding numbers_before member
+number_passed x numbers zero h e = absurd (omega arith)
+number_passed x numbers (suc k) h e = let d : suc k - 1 ≡ k = omega arith in rw (d, ne_eqb x (get_or numbers k 0) (λ f. e (f ∙ ap (λ (n : ℕ). get_or numbers n 0) (sym d))))
 
 -- a store past the first k leaves them, and one more is in front
 pub names-kept : (s places : List ℕ) (k i y : ℕ) → k ≤ i → names_before s (set places i y) k ≡ names_before s places k

@@ -6,13 +6,16 @@ ghost use Rattle.model.specs.Lists.{member};
 ghost use Rattle.struo_ir.specs.Decoded.{name_at};
 ghost use Rattle.netlist_checks.specs.Seen.{names_before, numbers_before};
 
-use name_order::names::same_name;
+use name_order::names::{name_of, same};
 
 // Whether the name at a place is one of those at some places.
 fn names_place(bytes: &[u8], places: &[u16], place: u16) -> bool
     ensures { result ≡ list_any (λ other. same_name (name_at bytes.now place) (name_at bytes.now other)) places.now }
 {
-    places.iter().any(|&other| same_name(bytes, usize::from(place), bytes, usize::from(other)))
+    let name = name_of(bytes, usize::from(place));
+    places
+        .iter()
+        .any(|&other| same(name, name_of(bytes, usize::from(other))))
 }
 
 // Whether the name at a place is one of those at the first places of a list.

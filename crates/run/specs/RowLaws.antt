@@ -3,12 +3,15 @@ use Rattle.std.specs.Prelude.{ℕ, zero, suc, ◌+◌, ◌<◌, ◌≤◌, ◌�
 use Rattle.std.proofs.Common.{sym, ap, ◌∙◌, append-nil, arith, add-one, length-take, drop_of_length-le, drop-set-lt, drop-drop, get_or-take}
 use Rattle.std.proofs.Math.Option.{some}
 use Rattle.std.proofs.lemmas.List.{length-map, map-append, take_more, take_more_set}
+use Rattle.model.specs.Names.{Place}
 use Rattle.model.specs.Netlist.{Register}
 use Rattle.model.specs.Record.{bit, level_of}
 use Rattle.model.specs.Run.{bit_at, asserted, enabled_bit, reset_bit, next_bit, next_from, initial_bit}
 use Rattle.struo_ir.specs.Decoded.{decoded_enable, decoded_reset, cell_enable, cell_reset, decoded_register, decoded}
+use Rattle.struo_ir.specs.Orders.{no_entry, place_of, held, places}
 use Rattle.struo_ir.specs.Registers.{no_register}
 use Rattle.struo_ir.specs.declared.netlist.RegisterCell.{RegisterCell}
+use Rattle.struo_ir.specs.declared.design.Order.{Order}
 use Rattle.struo_ir.specs.declared.netlist.Netlist.{Netlist}
 use Rattle.struo_ir.specs.ListLaws.{drop-map_cons}
 use Rattle.run.specs.RunTables.{next_of}
@@ -61,10 +64,20 @@ initial_some r n = rw (some-reset r.reset r.reset_signal r.reset_kind r.reset_va
 
 -- ---- rows, element by element
 
+module _ {A B : Type 0} (f : A → B) (xs : List A) (row : List B) (k : ℕ) where
+  -- one more element is written
+  pub mapped_more : (a : A) (x : B) → drop k xs ≡ a ∷ drop (suc k) xs → x ≡ f a → k < length row
+      → take k row ++ map f (drop k xs) ≡ take (k + 1) (set row k x) ++ map f (drop (k + 1) xs)
+  mapped_more a x d e h = rw (add-one, d, ← e) (sym (rw add-one at (written-more row k x (map f (drop (suc k) xs)) h)))
+
+  -- none is left
+  pub mapped_done : length xs ≤ k → take k row ++ map f (drop k xs) ≡ take k row
+  mapped_done h = rw drop_of_length-le (append-nil (take k row))
+
 -- one more bit is written, of the element in hand
-pub mapped_more : {A : Type 0} (f : A → Bool) (xs : List A) (row : List Bool) (k : ℕ) (x : A) (b : Bool) → k < length xs → k < length row → x ≡ get_or xs k x → b ≡ f x
+pub mapped_next : {A : Type 0} (f : A → Bool) (xs : List A) (row : List Bool) (k : ℕ) (x : A) (b : Bool) → k < length xs → k < length row → x ≡ get_or xs k x → b ≡ f x
     → take k row ≡ map f (take k xs) → take (k + 1) (set row k b) ≡ map f (take (k + 1) xs)
-mapped_more f xs row k x b h w i e t =
+mapped_next f xs row k x b h w i e t =
     take_more_set row k b w ∙ rw (t, e) (sym (ap (map f) (take_more xs k x h ∙ ap (λ (y : _). take k xs ++ (y ∷ [])) (sym i)) ∙ map-append f (take k xs) (x ∷ [])))
 
 -- past what is written a row stays the old one
@@ -114,3 +127,23 @@ unfolding decoded next_from
 next-done s n values st new k h =
     let l : length (map (decoded_register s) (take n.register_count n.registers)) ≤ k = simp (length-map, length-take) (omega arith) in
     rw drop_of_length-le (append-nil (take k new))
+
+-- ---- initial bits and outputs
+
+-- one more initial bit
+pub initial_more : (s : List ℕ) (n : Netlist) (row : List Bool) (k : ℕ) (x : Bool) → k < n.register_count → n.register_count ≤ length n.registers → k < length row
+    → x ≡ initial_bit (cell_reset (get_or n.registers k no_register))
+    → take k row ++ map (λ (r : Register). initial_bit r.reset) (drop k (decoded s n).registers)
+    ≡ take (k + 1) (set row k x) ++ map (λ (r : Register). initial_bit r.reset) (drop (k + 1) (decoded s n).registers)
+unfolding cell_reset decoded_register
+initial_more s n row k x h l w e =
+    mapped_more (λ (r : Register). initial_bit r.reset) (decoded s n).registers row k (decoded_register s (get_or n.registers k no_register)) x (register-at s n k h l) e w
+
+-- one more output
+pub output-more : (s : List ℕ) (o : Order) (values row : List Bool) (k : ℕ) (x : Bool) → k < o.count → o.count ≤ length o.entries → k < length row
+    → x ≡ bit_at values (get_or o.entries k no_entry).number
+    → take k row ++ map (λ (p : Place). bit_at values p.number) (drop k (places s o)) ≡ take (k + 1) (set row k x) ++ map (λ (p : Place). bit_at values p.number) (drop (k + 1) (places s o))
+unfolding places held place_of
+output-more s o values row k x h l w e =
+    mapped_more (λ (p : Place). bit_at values p.number) (map (place_of s) (take o.count o.entries)) row k (place_of s (get_or o.entries k no_entry)) x
+    (drop-map_cons (place_of s) o.entries o.count k no_entry h l) e w

@@ -1,8 +1,8 @@
 -- Laws of the table that is made once for a netlist. Assumes nothing.
-use Rattle.std.specs.Prelude.{ℕ, suc, ◌+◌, ◌≤◌, ◌≡◌, refl, Bool, true, false, not, cond, Option, List, [], ◌∷◌, map, length, position}
+use Rattle.std.specs.Prelude.{ℕ, suc, ◌+◌, ◌<◌, ◌≤◌, ◌≡◌, refl, Bool, true, false, not, cond, Option, List, [], ◌∷◌, map, length, get_or, set, position}
 use Rattle.std.specs.List.{position_or_len}
 use Rattle.std.specs.Option.{unwrap_or}
-use Rattle.std.proofs.Common.{sym, ap, ◌∙◌, arith}
+use Rattle.std.proofs.Common.{sym, ap, ◌∙◌, ⊎_elim, eq-or-lt_of_le, arith, get_or-set_same, get_or-set_other}
 use Rattle.std.proofs.lemmas.List.Sums.{prefix_len-le-length}
 use Rattle.model.specs.Names.{Name, same_name, rank}
 use Rattle.struo_ir.specs.Decoded.{name_at}
@@ -10,6 +10,16 @@ use Rattle.struo_ir.specs.Orders.{place_of, held, places, Formed}
 use Rattle.name_order.specs.PlaceLaws.{length-held, position-or}
 use Rattle.struo_ir.specs.declared.design.Entry.{Entry}
 use Rattle.struo_ir.specs.declared.design.Order.{Order}
+
+-- ---- a table, entry by entry
+
+-- what holds of every entry below i and of the one that is written holds of every entry below i + 1
+pub filled_more : (row : List ℕ) (i v : ℕ) (f : ℕ → ℕ) → i < length row → v ≡ f i → ((k : ℕ) → k < i → get_or row k 0 ≡ f k) → (k : ℕ) → k < i + 1 → get_or (set row i v) k 0 ≡ f k
+filled_more row i v f h e g k l =
+    let m : k ≤ i = omega arith in
+    ⊎_elim (λ (q : k ≡ i). rw (q, get_or-set_same) e) (λ (q : k < i). get_or-set_other row i k v 0 (λ (z : k ≡ i). omega arith) ∙ g k q) (eq-or-lt_of_le m)
+
+-- ---- ranks
 
 -- the rank of a name is the place of the first entry that has it
 pub rank-position : (x : Name) (s : List ℕ) (es : List Entry) → rank x (map (place_of s) es) ≡ position_or_len (λ (e : Entry). same_name x (name_at s e.name)) es

@@ -2,7 +2,7 @@
 use Rattle.std.specs.Prelude.{◌≡◌, true, false, List, [], ◌∷◌, ℕ, ◌+◌, ◌*◌, ◌<◌, ◌≤◌, take, get_or, Float}
 use Rattle.std.specs.Prelude as Std
 use Rattle.std.proofs.Math.Path.{refl, ap}
-use Rattle.std.proofs.Common.{sym, ◌∙◌, arith, get_or-take}
+use Rattle.std.proofs.Common.{sym, ◌∙◌, arith, mul-le-mul, get_or-take}
 use Rattle.std.proofs.Math.Option.{Option, none, some}
 use Rattle.std.proofs.Math.ListN.{length}
 use Rattle.std.proofs.lemmas.List.{get_or-replicate}
@@ -53,6 +53,10 @@ pub record Solves (limit n : ℕ) (w : List ℕ) (x : List Float) (ls : List ℕ
   pub is : (g : List Node) → Holds n w g → search_answer n r w' ≡ Sat.solve limit g (take count ls)
   pub others : Others n x x'
   pub frame : Unchanged solve_regions w w'
+
+-- the rounds fit a word
+pub rounds_fit : (limit n : ℕ) → limit ≤ MOST-LEARNED → n ≤ MOST-NODES → (limit + 2) * (n + 2) ≤ (MOST-LEARNED + 2) * (MOST-NODES + 2)
+rounds_fit limit n a b = mul-le-mul {n₁ = limit + 2} {m₁ = n + 2} {n₂ = MOST-LEARNED + 2} {m₂ = MOST-NODES + 2} (omega arith) (omega arith)
 
 module _ (limit n : ℕ) (w : List ℕ) (x : List Float) (ls : List ℕ) (count : ℕ) (h : Solvable limit n w x ls count) (r : Encoded) (w₁ : List ℕ) (x₁ : List Float) (E : Encodes n w x ls count r w₁ x₁) where
   -- the assumptions

@@ -1,6 +1,6 @@
 -- States named alike, by an array of matches: one more than the place of the other side's state with the name, 0 for none. Assumes nothing.
 use Rattle.std.specs.Prelude.{◌≡◌, refl, Bool, true, false, cond, List, [], ◌∷◌, ℕ, zero, suc, ◌+◌, ◌<◌, length, get_or}
-use Rattle.std.proofs.Common.{ap, ap₂, sym, ◌∙◌, arith}
+use Rattle.std.proofs.Common.{ap, ap₂, sym, ◌∙◌, arith, add-one}
 use Rattle.std.proofs.Math.Option.{Option, none, some}
 use Rattle.model.specs.Names.{Name, same_name}
 use Rattle.model.specs.Lists.{snoc, position, next_place}
@@ -42,6 +42,10 @@ add_pair ps l (some k) = snoc ps (l, k)
 unfoldable pub named_by : ℕ → List ℕ → List ℕ → List ℕ → List (ℕ × ℕ)
 named_by zero ms ls ks = []
 named_by (suc n) ms ls ks = add_pair (named_by n ms ls ks) (get_or ls n 0) (at_match (get_or ms n 0) ks)
+
+pub named-suc : (n : ℕ) (ms ls ks : List ℕ) → named_by (n + 1) ms ls ks ≡ add_pair (named_by n ms ls ks) (get_or ls n 0) (at_match (get_or ms n 0) ks)
+unfolding named_by
+named-suc n ms ls ks = rw add-one
 
 -- the same over lists
 unfoldable matched_pairs : List ℕ → List ℕ → List ℕ → List (ℕ × ℕ)
@@ -177,3 +181,8 @@ gates_are n m share ms ls v gold ss b e q =
     ∙ ap (λ (xs : List ℕ). gate_over share xs (firsts m ls) v) (sym q)
     ∙ over_firsts n share ms (firsts m ls) v
     ∙ gate-firsts n m share ms ls v b
+
+pub gate-suc : (n : ℕ) (share : Bool) (ms ls : List ℕ) (v : LiteralList)
+    → gate_by (n + 1) share ms ls v ≡ (let u = gate_by n share ms ls v in with_built u.literals (gate_built (shared_match share (get_or ms n 0)) ls u.aig))
+unfolding gate_by
+gate-suc n share ms ls v = rw add-one

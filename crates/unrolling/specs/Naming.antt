@@ -1,5 +1,5 @@
 -- The comparison of literals with others at their places, one after another: outputs, and states named alike. Assumes nothing.
-use Rattle.std.specs.Prelude.{◌≡◌, refl, List, [], ℕ, zero, suc, ◌+◌, ◌*◌, ◌≤◌, ◌<◌, get_or}
+use Rattle.std.specs.Prelude.{◌≡◌, refl, Bool, true, false, List, [], ℕ, zero, suc, ◌+◌, ◌*◌, ◌≤◌, ◌<◌, get_or}
 use Rattle.std.proofs.Math.Option.{Option, none, some}
 use Rattle.std.proofs.Common.{ap, arith, add-one}
 use Rattle.model.specs.Literal.{Literal}
@@ -11,7 +11,7 @@ use Rattle.aig.specs.Made.{Made}
 use Rattle.lowering.specs.Firsts.{pairs, Below}
 use Rattle.unrolling.specs.Comparing.{or_difference, compare-more}
 use Rattle.unrolling.specs.Comparing as Comparing
-use Rattle.unrolling.specs.Matching.{at_match, add_pair, named_by}
+use Rattle.unrolling.specs.Matching.{at_match, add_pair, named_by, shared_match}
 use Rattle.unrolling.specs.Matched.{Places}
 
 -- the mismatch so far, or a difference from what stands at a match
@@ -61,3 +61,9 @@ paired_more i c₀ w₀ c w m c' w' l f ls s t = rw (paired-suc i f ls) (go (f i
         → Made (4 * (i + 1)) c₀ w₀ c' w' l (compare_pairs (graph_of c₀ w₀) (add_pair (paired_by i f ls) (get_or ls i 0) o))
     go none u = Comparing.made_then (4 * i) 4 (4 * (i + 1)) c₀ w₀ c w m _ c' w' l (λ (b : Built). b) (omega arith) s u
     go (some k) u = compare-more i c₀ w₀ c w m c' w' l (paired_by i f ls) (get_or ls i 0) k s u
+
+-- a match that counts only where named states are shared is no larger than the match
+pub shared_le : (share : Bool) (m : ℕ) → shared_match share m ≤ m
+unfolding shared_match
+shared_le true m = omega arith
+shared_le false m = omega arith

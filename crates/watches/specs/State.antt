@@ -1,5 +1,5 @@
 -- What a propagation and its pending cells stand for, and what the functions over them promise. Definitions only.
-use Rattle.std.specs.Prelude.{◌≡◌, List, [], ◌++◌, map, cond, ℕ, zero, suc, ◌+◌, ◌-◌, ◌*◌, ◌<◌, eqb, get_or, set, Option, Some, None}
+use Rattle.std.specs.Prelude.{◌≡◌, List, [], ◌++◌, map, cond, ℕ, zero, suc, ◌+◌, ◌-◌, ◌*◌, ◌<◌, eqb, get_or, set}
 use Rattle.words.specs.Layout.{LINKS}
 use Rattle.words.specs.Region.{region}
 use Rattle.model.specs.Sat as Sat
@@ -7,11 +7,10 @@ use Rattle.model.specs.Sat.{Solver}
 use Rattle.assignment.specs.State.{assignment_of, assignment_regions, Unchanged}
 use Rattle.assignment.specs.Blocks.{Grown}
 use Rattle.assignment.specs.declared.state.Trail.{Trail}
-use Rattle.literals.specs.declared.Literal.{Literal}
 use Rattle.clauses.specs.declared.state.Store.{Store}
 use Rattle.clauses.specs.Queue.{walk}
 use Rattle.clauses.specs.Clauses.{clauses_of, watches_of, half}
-use Rattle.clauses.specs.State.{solver_of, SoundStore, Step, slot_of, search_regions}
+use Rattle.clauses.specs.State.{solver_of, SoundStore, Step, search_regions}
 use Rattle.watches.specs.declared.state.Pending.{Pending}
 use Rattle.watches.specs.declared.state.Propagation.{Propagation}
 use Rattle.watches.specs.declared.state.Propagation.TheVariants as Propagations
@@ -44,11 +43,6 @@ slot_by a b f = cond (eqb a f) Sat.slot0 (cond (eqb b f) Sat.slot1 Sat.neither)
 unfoldable pub other_by : ℕ → ℕ → ℕ → ℕ
 other_by zero a b = b
 other_by (suc k) a b = a
-
--- the slot of an answer of `false_slot`
-abbrev pub found_slot : Option (ℕ × Literal) → Sat.Slot
-found_slot None = Sat.neither
-found_slot (Some r) = slot_of r.0
 
 -- the pending cells after the first, whose link is read in the words w
 unfoldable pub rest_of : Pending → List ℕ → List ℕ → List ℕ

@@ -197,6 +197,13 @@ module _ (m : Store) (t : Trail) (w : List ℕ) (d : Pending) (f k : ℕ) where
 
 -- ---- by the watched literals
 
+-- a number past both slots is neither
+pub slot_past : (n : ℕ) → 1 < n → Sat.neither ≡ slot_of n
+unfolding slot_of
+slot_past zero h = absurd (omega arith)
+slot_past (suc zero) h = absurd (omega arith)
+slot_past (suc (suc k)) h = refl
+
 module _ (m : Store) (t : Trail) (w : List ℕ) (d : Pending) (v : Visiting m t w d) (f a b : ℕ) (ea : a ≡ get_or (region WATCHED w) (half d.cell * 2) 0) (eb : b ≡ get_or (region WATCHED w) (half d.cell * 2 + 1) 0) where
   first-stands : Stands a (literals_of w (half d.cell))
   first-stands = rw ea (v.sound.formed.watching.first (half d.cell) (clause_there m t w d v))

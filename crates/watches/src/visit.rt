@@ -1,11 +1,11 @@
 // A visit of the first pending clause of a literal that has become false: kept, given another watched literal, its other literal enqueued, or a conflict.
-ghost use Rattle.std.specs.Prelude.{◌≡◌, ◌*◌, ◌<◌, IfSome};
+ghost use Rattle.std.specs.Prelude.{◌≡◌, ◌*◌, ◌<◌};
 ghost use Rattle.std.proofs.Math.Option.{some};
 ghost use Rattle.model.specs.Sat as Sat;
 ghost use Rattle.assignment.specs.State.{assignment_of, TrailReady};
 ghost use Rattle.clauses.specs.Clauses.{clause_at, literals_of, place_in, Stands, half};
 ghost use Rattle.clauses.specs.State.{solver_of, slot_of};
-ghost use Rattle.watches.specs.State.{trail_of, propagation_of, found_slot, slot_by, other_by, Visiting, Visits};
+ghost use Rattle.watches.specs.State.{trail_of, propagation_of, slot_by, other_by, Visiting, Visits};
 
 use crate::state::{Pending, Propagation};
 use assignment::state::Trail;
@@ -81,19 +81,23 @@ pub fn is_true(words: &[u32], t: Trail, l: Literal) -> bool
     value(words, t, l).unwrap_or(false)
 }
 
-// The slot of f among the two watched literals of a clause, and the literal in the other one; none where it is neither.
-#[tactic(auto, unfolding(crate::specs::State::slot_by, crate::specs::State::other_by, clauses::specs::State::slot_of))]
-fn false_slot(a: Literal, b: Literal, f: Literal) -> Option<(usize, Literal)>
-    ensures slot { found_slot result ≡ slot_by a.0 b.0 f.0 }
-    ensures other { IfSome result (λ r. (r.0 < 2) × (r.1.0 ≡ other_by r.0 a.0 b.0)) }
+// The slot of f among the two watched literals of a clause: 0 or 1, and 2 where it is neither.
+#[tactic(auto, unfolding(crate::specs::State::slot_by, clauses::specs::State::slot_of))]
+fn false_slot(a: Literal, b: Literal, f: Literal) -> usize
+    ensures { slot_of result ≡ slot_by a.0 b.0 f.0 }
 {
     if a == f {
-        Some((0, b))
-    } else if b == f {
-        Some((1, a))
-    } else {
-        None
+        return 0;
     }
+    if b == f { 1 } else { 2 }
+}
+
+// Of the two watched literals the one that is not in the slot.
+#[tactic(auto, unfolding(crate::specs::State::other_by))]
+fn other_literal(slot: usize, a: Literal, b: Literal) -> Literal
+    ensures { result.0 ≡ other_by slot a.0 b.0 }
+{
+    if slot == 0 { b } else { a }
 }
 
 // One clause of the queue of f, which has become false: kept where its other watched literal is true. Its literals are read only where that one is not.
@@ -105,9 +109,11 @@ pub fn visit(words: &mut [u32], store: Store, t: Trail, f: Literal, d: Pending) 
     let id = (d.cell / 2) as usize;
     let a = Literal(load(words, WATCHED, id * 2));
     let b = Literal(load(words, WATCHED, id * 2 + 1));
-    let Some((slot, other)) = false_slot(a, b, f) else {
+    let slot = false_slot(a, b, f);
+    if 1 < slot {
         return Propagation::Propagating(t);
-    };
+    }
+    let other = other_literal(slot, a, b);
     if is_true(words, t, other) {
         push_back(words, f.0 as usize, d.cell);
         return Propagation::Propagating(t);

@@ -4,7 +4,7 @@ use Rattle.std.proofs.Math.Bool.{xor}
 use mathlib.Core.Bool.{beq}
 use Rattle.words.specs.Layout.{VALUES}
 use Rattle.words.specs.Region.{region}
-use Rattle.aig.specs.Operations.{by_word, word_of, evaluate-past}
+use Rattle.aig.specs.Operations.{by_word, word_of, past_by_word}
 use Rattle.aig.proofs.Aig.evaluate.Goals as goal
 use Rattle.aig.proofs.Aig.evaluate.Goals.{then-node-nodes, else-node-nodes}
 
@@ -25,5 +25,5 @@ returns c =
     let values = region VALUES a.words.now in
     elim c.if-node-nodes.branch [
       | then-node-nodes w ↦ differ-xor _ _ _ _ w.value-is c.inverted.ensures ∙ by_word _ a.literal.0 w.fetch.result (word_of a.nodes values a.literal.0 c.node-node.result _ c.node-node.ensures w.if-node-nodes.true w.fetch.ensures)
-      | else-node-nodes w ↦ differ-xor _ _ _ _ (w.value-is ∙ le-ltb _ _ w.if-node-nodes.false) c.inverted.ensures ∙ evaluate-past a.nodes values a.literal.0 (rw c.node-node.ensures at w.if-node-nodes.false)
+      | else-node-nodes w ↦ differ-xor _ _ _ _ (w.value-is ∙ le-ltb _ _ w.if-node-nodes.false) c.inverted.ensures ∙ past_by_word a.nodes values a.literal.0 (rw c.node-node.ensures at w.if-node-nodes.false)
     ]

@@ -1,7 +1,7 @@
 -- `depths::depth::query_2` meets its contract. Assumes nothing.
 use Rattle.std.proofs.Common.{arith}
 use Rattle.queries.specs.Querying.{queryable_kept}
-use Rattle.depths.specs.Deciding.{as_query4, closed_3, open_3, differ_2, alike_2, gave_up_2}
+use Rattle.depths.specs.Deciding.{as_query4, break_3, continue_3, differ_2, alike_2, gave_up_2}
 use Rattle.depths.proofs.depth.query_2.Goals as goal
 
 pub returns-in-Model : goal.returns-in-Model
@@ -19,11 +19,11 @@ pub returns-in-Continue : goal.returns-in-Continue
 returns-in-Continue c =
     let four = as_query4 c.args.problem.now c.args.limit c.args.depth _ _ _ _ c.induction-in-Continue.ensures in
     alike_2 c.args.problem.now c.args.limit c.args.depth _ _ c.requires _ _ _ c.named_state_differs-answer.ensures _ _ c.counted-now.ensures _ c.in-NoModel.is _ _
-    (open_3 c.args.problem.now c.args.limit c.args.depth _ _ c.named_state_differs-answer.ensures.next _ _ _ c.induction-in-NoModel.ensures _ c.in-Continue.is _ _ four)
+    (continue_3 c.args.problem.now c.args.limit c.args.depth _ _ c.named_state_differs-answer.ensures.next _ _ _ c.induction-in-NoModel.ensures _ c.in-Continue.is _ _ four)
 
 pub returns-in-Break : goal.returns-in-Break
 returns-in-Break c =
-    let three = closed_3 c.args.problem.now c.args.limit c.args.depth _ _ _ _ c.induction-in-NoModel.ensures _ c.in-Break.is in
+    let three = break_3 c.args.problem.now c.args.limit c.args.depth _ _ _ _ c.induction-in-NoModel.ensures _ c.in-Break.is in
     alike_2 c.args.problem.now c.args.limit c.args.depth _ _ c.requires _ _ _ c.named_state_differs-answer.ensures _ _ c.counted-now.ensures _ c.in-NoModel.is _ _ three
 
 pub returns-in-GaveUp : goal.returns-in-GaveUp
